@@ -1,0 +1,5 @@
+mod MachineCycle
+mod MachineLift
+mod MachineNodes
+mod MachineRefused
+mod MachineSound

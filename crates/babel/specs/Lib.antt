@@ -1,0 +1,4 @@
+pub mod Cycle
+pub mod Machine
+pub mod Refused
+pub mod Sound

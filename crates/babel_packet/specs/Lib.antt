@@ -1,0 +1,17 @@
+pub mod Numbers
+pub mod Contents
+pub mod Tails
+pub mod Acks
+pub mod Hellos
+pub mod Addresses
+pub mod Ihus
+pub mod RouterIds
+pub mod NextHops
+pub mod Prefixes
+pub mod UpdateFields
+pub mod LookBack
+pub mod Updates
+pub mod Requests
+pub mod Meaning
+pub mod Latest
+pub mod Running

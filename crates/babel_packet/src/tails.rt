@@ -1,0 +1,39 @@
+//! What a TLV has behind its fields: sub-TLVs (RFC 8966, section 4.4).
+
+ghost use Rattle.std.specs.Prelude.{◌≡◌};
+ghost use Rattle.babel_packet.specs.Tails as tails;
+
+use crate::Reason;
+use babel_tlv::split;
+
+/// The least sub-TLV type that must be understood (RFC 8966, section 4.4).
+const MANDATORY: u8 = 128;
+
+/// Why a TLV with these octets behind its fields is ignored, if it is.
+#[inline]
+#[tactic(auto, unfolding(crate::specs::Tails::tail_reason))]
+pub(crate) fn tail_reason(tail: &[u8]) -> Option<Reason>
+    ensures { result ≡ tails.tail_reason tail.now }
+{
+    if tail.is_empty() {
+        return None;
+    }
+    sub_tlvs_reason(tail)
+}
+
+/// The rare case: there are sub-TLVs.
+#[inline(never)]
+#[tactic(auto, unfolding(crate::specs::Tails::tail_reason))]
+fn sub_tlvs_reason(tail: &[u8]) -> Option<Reason>
+    ensures { result ≡ tails.tail_reason tail.now }
+{
+    let Ok(subs) = split(tail) else {
+        return Some(Reason::TailOverrun);
+    };
+    for sub in subs {
+        if sub.kind >= MANDATORY {
+            return Some(Reason::MandatorySubTlv(sub.kind));
+        }
+    }
+    None
+}

@@ -1,0 +1,4 @@
+pub mod Steps
+pub mod Found
+pub mod Spelled
+pub mod Splits

@@ -1,0 +1,4 @@
+pub mod Place
+pub mod Spelling
+pub mod Split
+pub mod Walk

@@ -1,0 +1,20 @@
+//! TLVs as octets: the one spelling that the TLVs of a Babel packet and the sub-TLVs of a TLV share
+//! (RFC 8966 sections 4.3 and 4.4).
+//!
+//! [`split`] reads all of them or none, [`walk`] reads them in one pass up to the fault, and [`put`] writes one.
+#![tactic(auto)]
+
+mod laws;
+mod splitting;
+mod tlv;
+mod walking;
+mod writing;
+
+pub use laws::{put_is_one_more, spelled_is_split};
+pub use splitting::{Tlvs, split};
+pub use tlv::{HEADER_LEN, MAX_PAYLOAD_LEN, PAD1, Tlv, TlvFault};
+pub use walking::{Walker, walk};
+pub use writing::{DATAGRAM_LEN, put};
+
+#[cfg(test)]
+mod tests;

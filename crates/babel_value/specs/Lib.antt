@@ -1,0 +1,9 @@
+pub mod Seqnos
+pub mod Metrics
+pub mod Distances
+pub mod Lifts
+pub mod RouterIds
+pub mod Addresses
+pub mod Prefixes
+pub mod PrefixLaws
+pub mod Orders

@@ -1,0 +1,125 @@
+//! Prefixes (RFC 8966, section 4.1.5).
+
+ghost use Rattle.std.specs.Prelude.{◌≡◌, ◌≤◌, ◌-◌, ◌%◌, ◌^◌};
+ghost use Rattle.babel_value.specs.Addresses.{width_of, family_of};
+ghost use Rattle.babel_value.specs.Prefixes.{cleared_addr, cleared, prefix_of};
+
+use crate::{Addr, Family};
+use std::fmt;
+use std::marker::Model;
+
+/// A prefix: an address and how many of its first bits count. The bits past the length are zero.
+#[derive(Clone, Copy, Debug, PartialEq, Eq, PartialOrd, Ord, Hash)]
+pub struct Prefix {
+    addr: Addr,
+    length: u8,
+}
+
+impl Model for Prefix {
+    ghost use Rattle.std.specs.Prelude.{◌≡◌, ◌≤◌, ◌-◌, ◌%◌, ◌^◌};
+    ghost use Rattle.babel_value.specs.Addresses.{width_of};
+    ghost use Rattle.babel_value.specs.Prefixes.{PrefixValue, cleared_addr};
+
+    ghost Value = { PrefixValue };
+
+    ghost view = { λ p. record { addr = p.addr; length = p.length } };
+
+    ghost invariant = { λ p. (p.length ≤ width_of p.addr) × (cleared_addr p.length p.addr ≡ p.addr) };
+
+    ghost inverse = { λ v. record { addr = v.addr; length = v.length } };
+}
+
+impl Prefix {
+    /// The prefix of this address and length, with the bits past the length cleared. `None` exactly
+    /// where the length is greater than 32 or 128.
+    pub fn new(addr: Addr, length: u8) -> Option<Prefix>
+        ensures { result ≡ prefix_of addr length }
+    {
+        if length > addr.width() {
+            return None;
+        }
+        let addr = clear_address(addr, length);
+        Some(Prefix { addr, length })
+    }
+
+    /// The prefix of an address whose bits past the length are zero already.
+    pub fn of(addr: Addr, length: u8) -> Prefix
+        requires short { length ≤ width_of addr }
+        requires clear { cleared_addr length addr ≡ addr }
+        ensures { result ≡ record { addr = addr; length = length } }
+    {
+        Prefix { addr, length }
+    }
+
+    /// The address, with the bits past the length zero.
+    pub fn addr(&self) -> Addr
+        ensures { result ≡ self.now.addr }
+    {
+        self.addr
+    }
+
+    /// How many bits count.
+    pub fn length(&self) -> u8
+        ensures value { result ≡ self.now.length }
+        ensures short { result ≤ width_of self.now.addr }
+    {
+        self.length
+    }
+
+    /// The family of the address.
+    pub fn family(&self) -> Family
+        ensures { result ≡ family_of self.now.addr }
+    {
+        self.addr.family()
+    }
+}
+
+/// The address with the bits past the first `length` cleared.
+fn clear_address(addr: Addr, length: u8) -> Addr
+    ensures { result ≡ cleared_addr length addr }
+{
+    match addr {
+        Addr::V4(mut octets) => {
+            clear_past(&mut octets, length);
+            Addr::V4(octets)
+        }
+        Addr::V6(mut octets) => {
+            clear_past(&mut octets, length);
+            Addr::V6(octets)
+        }
+    }
+}
+
+/// Clears the bits past the first `length`.
+fn clear_past(octets: &mut [u8], length: u8)
+    ensures { octets.new ≡ cleared length octets.old }
+{
+    let mut left = length;
+    for octet in octets.iter_mut() {
+        *octet = keep_bits(*octet, left);
+        left = left.saturating_sub(8);
+    }
+}
+
+/// The octet with the bits past the first `bits` cleared.
+fn keep_bits(octet: u8, bits: u8) -> u8
+    ensures { result ≡ octet - octet % 2 ^ (8 - bits) }
+{
+    if bits >= 8 {
+        return octet;
+    }
+    if bits == 0 {
+        return 0;
+    }
+    let dropped = 8 - bits;
+    (octet >> dropped) << dropped
+}
+
+/// `address/length`.
+impl fmt::Display for Prefix {
+    fn fmt<W: fmt::Write>(&self, f: &mut fmt::Formatter<W>) -> fmt::Result {
+        let addr = self.addr;
+        let length = self.length;
+        write!(f, "{addr}/{length}")
+    }
+}

@@ -1,0 +1,54 @@
+//! Router-ids (RFC 8966, section 4.1.3).
+
+ghost use Rattle.std.specs.Prelude.{◌≡◌};
+ghost use Rattle.babel_value.specs.RouterIds.{router_id_of};
+
+use std::fmt;
+use std::marker::Model;
+
+/// A router-id: 8 octets that name a router in the whole network. All zeros and all ones are
+/// reserved (RFC 8966, section 4.1.3), and no `RouterId` is one of the two.
+#[derive(Clone, Copy, Debug, PartialEq, Eq, PartialOrd, Ord, Hash)]
+pub struct RouterId {
+    octets: [u8; 8],
+}
+
+impl Model for RouterId {
+    ghost use Rattle.std.specs.Prelude.{◌≡◌, List, ℕ, false};
+    ghost use Rattle.babel_value.specs.RouterIds.{is_reserved};
+
+    ghost Value = { List ℕ };
+
+    ghost view = { λ r. r.octets };
+
+    ghost invariant = { λ r. is_reserved r.octets ≡ false };
+
+    ghost inverse = { λ octets. record { octets = octets } };
+}
+
+impl RouterId {
+    /// The router-id of these octets, `None` exactly where they are one of the two reserved ones.
+    pub fn new(octets: [u8; 8]) -> Option<RouterId>
+        ensures { result ≡ router_id_of octets }
+    {
+        if octets == [0x00; 8] || octets == [0xff; 8] {
+            return None;
+        }
+        Some(RouterId { octets })
+    }
+
+    /// The octets, in the order of the wire.
+    pub fn octets(self) -> [u8; 8]
+        ensures { result ≡ self }
+    {
+        self.octets
+    }
+}
+
+/// 16 hexadecimal digits in lower case.
+impl fmt::Display for RouterId {
+    fn fmt<W: fmt::Write>(&self, f: &mut fmt::Formatter<W>) -> fmt::Result {
+        let number = u64::from_be_bytes(self.octets);
+        write!(f, "{number:016x}")
+    }
+}

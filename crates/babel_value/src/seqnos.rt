@@ -1,0 +1,42 @@
+//! Sequence numbers (RFC 8966, section 3.2.1).
+
+ghost use Rattle.std.specs.Prelude.{◌≡◌, ◌+◌, ◌%◌};
+ghost use Rattle.babel_value.specs.Seqnos.{is_before};
+
+use std::marker::Model;
+
+/// A sequence number: 16 bits around a circle (RFC 8966, section 3.2.1).
+///
+/// It has no `Ord`: on a circle there is no order that is one everywhere. `less` is the RFC's.
+#[derive(Clone, Copy, Debug, PartialEq, Eq, Hash)]
+pub struct Seqno(pub u16);
+
+impl Model for Seqno {
+    ghost use Rattle.std.specs.Prelude.{ℕ};
+
+    ghost Value = { ℕ };
+
+    ghost view = { λ s. s.0 };
+
+    ghost inverse = { λ n. record { 0 = n } };
+}
+
+/// Half of the circle: numbers this far apart are ordered neither way.
+const HALF_CIRCLE: u16 = 0x8000;
+
+impl Seqno {
+    /// Whether this number comes before `other`: by less than half of the circle.
+    pub fn less(self, other: Seqno) -> bool
+        ensures { result ≡ is_before self other }
+    {
+        let ahead = other.0.wrapping_sub(self.0);
+        0 < ahead && ahead < HALF_CIRCLE
+    }
+
+    /// The number after this one, 0 after 65535.
+    pub fn next(self) -> Seqno
+        ensures { result ≡ (self + 1) % 65536 }
+    {
+        Seqno(self.0.wrapping_add(1))
+    }
+}
