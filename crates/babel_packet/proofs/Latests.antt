@@ -1,5 +1,5 @@
 -- What is found by recursion over the places is what the latest of them sets.
-use Rattle.std.proofs.Common.{◌≡◌, List, [], ◌∷◌, ◌++◌, Option, Some, None, ◌⊎◌, inl, inr, refl, ap, sym, ◌∙◌, append-nil}
+use Rattle.std.proofs.Common.{◌≡◌, List, [], ◌∷◌, Option, Some, None, ◌⊎◌, inl, inr, refl, ap, ◌∙◌, append-nil}
 use Rattle.std.specs.Option.{option_or}
 use Rattle.babel_tlv.specs.Place.{Place}
 use Rattle.babel_packet.specs.Latest.{NoneSets, IsLatest, FindsLatest}

@@ -1,5 +1,5 @@
 -- Addresses by their encoding (AE; RFC 8966, section 4.1.4): 1 IPv4, 2 IPv6, 3 link-local IPv6.
-use Rattle.std.specs.Prelude.{ℕ, List, [], ◌∷◌, ◌++◌, ◌+◌, slice_range, replicate}
+use Rattle.std.specs.Prelude.{ℕ, List, [], ◌∷◌, ◌++◌, ◌+◌, slice_range}
 
 -- the octets of an address from this place on
 abbrev pub ipv4_at : List ℕ → ℕ → List ℕ

@@ -12,6 +12,7 @@ pub mod UpdateFields
 pub mod LookBack
 pub mod Updates
 pub mod Requests
+pub mod Texts
 pub mod Meaning
 pub mod Latest
 pub mod Running

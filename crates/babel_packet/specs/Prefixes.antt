@@ -1,5 +1,5 @@
 -- Prefixes in a payload, the first octets of which an Update may omit (RFC 8966, sections 4.1.5, 4.5 and 4.6.9).
-use Rattle.std.specs.Prelude.{ℕ, ◌+◌, ◌-◌, ◌*◌, ◌/◌, List, Bool, Option, Some, None, ◌&&◌, length, map, option_map, replicate, nat_le, nat_lt, nat_eq, if◌then◌else◌}
+use Rattle.std.specs.Prelude.{ℕ, ◌+◌, ◌-◌, ◌*◌, ◌/◌, List, Bool, ◌&&◌, length, map, nat_le, nat_lt, if◌then◌else◌}
 use Rattle.std.specs.List.{range_with_len}
 use Rattle.babel_value.specs.Prefixes.{cleared}
 use Rattle.babel_packet.specs.Numbers.{octet}

@@ -1,5 +1,5 @@
 -- What the code keeps in place of looking back. No public clause speaks of it.
-use Rattle.std.specs.Prelude.{ℕ, ◌+◌, List, [], ◌∷◌, Option}
+use Rattle.std.specs.Prelude.{ℕ, ◌+◌, List, [], ◌∷◌}
 use Rattle.std.specs.Option.{option_or}
 use Rattle.babel_tlv.specs.Place.{Place}
 use Rattle.babel_packet.specs.declared.defaults.Defaults.{Defaults}

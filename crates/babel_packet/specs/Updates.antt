@@ -1,5 +1,5 @@
 -- Update, and the retractions that it spells (RFC 8966, section 4.6.9).
-use Rattle.std.specs.Prelude.{ℕ, ◌+◌, List, Bool, Option, Some, None, ◌&&◌, ◌||◌, length, drop, nat_lt, nat_eq, option_map, if◌then◌else◌}
+use Rattle.std.specs.Prelude.{ℕ, ◌+◌, List, Option, Some, None, ◌&&◌, length, drop, nat_lt, nat_eq, option_map, if◌then◌else◌}
 use Rattle.std.specs.Option.{option_and_then, option_or}
 use Rattle.babel_value.specs.declared.addresses.Addr.{Addr}
 use Rattle.babel_value.specs.declared.addresses.Addr.TheVariants.{V4, V6}

@@ -1,10 +1,16 @@
-//! Messages and reasons as the program prints them.
+//! Messages, reasons and places as the program prints them.
 
 use crate::{Content, Message, Placed, Reason};
+use babel_value::{Addr, Prefix, RouterId};
 use std::fmt;
 
 /// The message's name and fields, as in `hello multicast seqno 1 interval 400`.
 impl fmt::Display for Message {
+    ghost use Rattle.std.specs.Prelude.{Some};
+    ghost use Rattle.babel_packet.specs.Texts.{message_text};
+
+    ghost output = { λ message. Some (message_text message) };
+
     fn fmt<W: fmt::Write>(&self, f: &mut fmt::Formatter<W>) -> fmt::Result {
         match *self {
             Message::AckRequest { opaque, interval } => write!(
@@ -13,24 +19,22 @@ impl fmt::Display for Message {
             ),
             Message::Ack { opaque } => write!(f, "ack opaque {opaque}"),
             Message::Hello {
-                unicast,
+                unicast: true,
                 seqno,
                 interval,
-            } => {
-                let kind = if unicast { "unicast" } else { "multicast" };
-                let seqno = seqno.0;
-                write!(f, "hello {kind} seqno {seqno} interval {interval}")
-            }
+            } => write!(f, "hello unicast seqno {seqno} interval {interval}"),
+            Message::Hello {
+                unicast: false,
+                seqno,
+                interval,
+            } => write!(f, "hello multicast seqno {seqno} interval {interval}"),
             Message::Ihu {
                 to,
                 rxcost,
                 interval,
             } => {
-                let rxcost = rxcost.0;
-                match to {
-                    Some(to) => write!(f, "ihu to {to} rxcost {rxcost} interval {interval}"),
-                    None => write!(f, "ihu to any rxcost {rxcost} interval {interval}"),
-                }
+                let receiver = Receiver { to };
+                write!(f, "ihu to {receiver} rxcost {rxcost} interval {interval}")
             }
             Message::Update {
                 prefix,
@@ -40,10 +44,15 @@ impl fmt::Display for Message {
                 metric,
                 interval,
             } => {
-                let seqno = seqno.0;
-                let metric = metric.0;
-                write!(f, "update {prefix} router {router} next-hop {next_hop} ")?;
-                write!(f, "seqno {seqno} metric {metric} interval {interval}")
+                let route = Route {
+                    prefix,
+                    router,
+                    next_hop,
+                };
+                write!(
+                    f,
+                    "update {route} seqno {seqno} metric {metric} interval {interval}"
+                )
             }
             Message::Retraction { prefix, interval } => write!(
                 f,
@@ -58,7 +67,6 @@ impl fmt::Display for Message {
                 seqno,
                 hops,
             } => {
-                let seqno = seqno.0;
                 write!(
                     f,
                     "seqno-request {prefix} router {router} seqno {seqno} hops {hops}"
@@ -68,36 +76,100 @@ impl fmt::Display for Message {
     }
 }
 
-/// The code, `I1` to `I13`, with the sub-TLV's type behind `I5`.
-impl fmt::Display for Reason {
+/// Whose route an Update has, and where it leads.
+#[derive(Clone, Copy)]
+struct Route {
+    prefix: Prefix,
+    router: RouterId,
+    next_hop: Addr,
+}
+
+impl fmt::Display for Route {
+    ghost use Rattle.std.specs.Prelude.{Some};
+    ghost use Rattle.babel_packet.specs.Texts.{route_text};
+
+    ghost output = { λ route. Some (route_text route.prefix route.router route.next_hop) };
+
     fn fmt<W: fmt::Write>(&self, f: &mut fmt::Formatter<W>) -> fmt::Result {
-        let code = match *self {
-            Reason::Padding => "I1",
-            Reason::UnknownType => "I2",
-            Reason::Unreadable => "I3",
-            Reason::TailOverrun => "I4",
-            Reason::MandatorySubTlv(kind) => return write!(f, "I5 {kind}"),
-            Reason::UnknownEncoding => "I6",
-            Reason::NoDefaultPrefix => "I7",
-            Reason::NoRouterId => "I8",
-            Reason::NoNextHop => "I9",
-            Reason::ZeroInterval => "I10",
-            Reason::ZeroRxcost => "I11",
-            Reason::Wildcard => "I12",
-            Reason::NoHops => "I13",
-        };
-        f.write_str(code)
+        let prefix = self.prefix;
+        let router = self.router;
+        let next_hop = self.next_hop;
+        write!(f, "{prefix} router {router} next-hop {next_hop}")
     }
 }
 
-/// The offset, then the message, `state`, or `ignored` and the reason.
+/// Whom an IHU is for.
+#[derive(Clone, Copy)]
+struct Receiver {
+    to: Option<Addr>,
+}
+
+impl fmt::Display for Receiver {
+    ghost use Rattle.std.specs.Prelude.{Some};
+    ghost use Rattle.babel_packet.specs.Texts.{receiver_text};
+
+    ghost output = { λ receiver. Some (receiver_text receiver.to) };
+
+    fn fmt<W: fmt::Write>(&self, f: &mut fmt::Formatter<W>) -> fmt::Result {
+        match self.to {
+            Some(addr) => write!(f, "{addr}"),
+            None => f.write_str("any"),
+        }
+    }
+}
+
+/// The code, `I1` to `I13`, with the sub-TLV's type behind `I5`.
+impl fmt::Display for Reason {
+    ghost use Rattle.std.specs.Prelude.{Some};
+    ghost use Rattle.babel_packet.specs.Texts.{reason_text};
+
+    ghost output = { λ reason. Some (reason_text reason) };
+
+    fn fmt<W: fmt::Write>(&self, f: &mut fmt::Formatter<W>) -> fmt::Result {
+        match *self {
+            Reason::Padding => f.write_str("I1"),
+            Reason::UnknownType => f.write_str("I2"),
+            Reason::Unreadable => f.write_str("I3"),
+            Reason::TailOverrun => f.write_str("I4"),
+            Reason::MandatorySubTlv(kind) => write!(f, "I5 {kind}"),
+            Reason::UnknownEncoding => f.write_str("I6"),
+            Reason::NoDefaultPrefix => f.write_str("I7"),
+            Reason::NoRouterId => f.write_str("I8"),
+            Reason::NoNextHop => f.write_str("I9"),
+            Reason::ZeroInterval => f.write_str("I10"),
+            Reason::ZeroRxcost => f.write_str("I11"),
+            Reason::Wildcard => f.write_str("I12"),
+            Reason::NoHops => f.write_str("I13"),
+        }
+    }
+}
+
+/// The message, `state`, or `ignored` and the reason.
+impl fmt::Display for Content {
+    ghost use Rattle.std.specs.Prelude.{Some};
+    ghost use Rattle.babel_packet.specs.Texts.{content_text};
+
+    ghost output = { λ content. Some (content_text content) };
+
+    fn fmt<W: fmt::Write>(&self, f: &mut fmt::Formatter<W>) -> fmt::Result {
+        match *self {
+            Content::Message(message) => write!(f, "{message}"),
+            Content::State => f.write_str("state"),
+            Content::Ignored(reason) => write!(f, "ignored {reason}"),
+        }
+    }
+}
+
+/// The offset, then the content.
 impl fmt::Display for Placed {
+    ghost use Rattle.std.specs.Prelude.{Some};
+    ghost use Rattle.babel_packet.specs.Texts.{placed_text};
+
+    ghost output = { λ placed. Some (placed_text placed) };
+
     fn fmt<W: fmt::Write>(&self, f: &mut fmt::Formatter<W>) -> fmt::Result {
         let offset = self.offset;
-        match self.content {
-            Content::Message(message) => write!(f, "{offset} {message}"),
-            Content::State => write!(f, "{offset} state"),
-            Content::Ignored(reason) => write!(f, "{offset} ignored {reason}"),
-        }
+        let content = self.content;
+        write!(f, "{offset} {content}")
     }
 }

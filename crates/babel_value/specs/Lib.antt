@@ -7,3 +7,4 @@ pub mod Addresses
 pub mod Prefixes
 pub mod PrefixLaws
 pub mod Orders
+pub mod Texts

@@ -1,5 +1,5 @@
 -- Laws of clearing (RFC 8966, section 4.1.5): clearing twice clears nothing more, and keeps the family.
-use Rattle.std.proofs.Common.{◌≡◌, ℕ, ◌+◌, ◌-◌, ◌*◌, ◌/◌, ◌%◌, ◌^◌, ◌<◌, List, [], ◌∷◌, refl, ap, arith, mul_comm}
+use Rattle.std.proofs.Common.{◌≡◌, ℕ, ◌-◌, ◌*◌, ◌/◌, ◌%◌, ◌^◌, List, [], ◌∷◌, refl, ap, arith, mul_comm}
 use Rattle.std.proofs.Math.Nat.{mod-add-div, mul-mod_left}
 use Rattle.babel_value.specs.declared.addresses.Addr.{Addr}
 use Rattle.babel_value.specs.declared.addresses.Addr.TheVariants.{V4, V6}

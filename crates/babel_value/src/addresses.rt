@@ -1,7 +1,8 @@
 //! Addresses and their families (RFC 8966, section 4.1.4).
 
-ghost use Rattle.std.specs.Prelude.{◌≡◌};
+ghost use Rattle.std.specs.Prelude.{◌≡◌, ◌<◌, ◌+◌, ◌*◌, Some, slice_index, if◌then◌else◌};
 ghost use Rattle.babel_value.specs.Addresses.{family_of, width_of};
+ghost use Rattle.babel_value.specs.Texts.{addr_text, groups_text};
 
 use std::fmt;
 
@@ -48,26 +49,50 @@ impl Addr {
 /// IPv4 as four decimal numbers with points; IPv6 as eight groups of lower case hexadecimal digits
 /// without leading zeros and without `::`.
 impl fmt::Display for Addr {
+    ghost output = { λ addr. Some (addr_text addr) };
+
     fn fmt<W: fmt::Write>(&self, f: &mut fmt::Formatter<W>) -> fmt::Result {
         match self {
-            Addr::V4(octets) => write_ipv4(f, octets),
-            Addr::V6(octets) => write_ipv6(f, octets),
+            Addr::V4([a, b, c, d]) => write!(f, "{a}.{b}.{c}.{d}"),
+            Addr::V6(octets) => {
+                let first = Groups {
+                    octets,
+                    second_half: false,
+                };
+                let second = Groups {
+                    octets,
+                    second_half: true,
+                };
+                write!(f, "{first}:{second}")
+            }
         }
     }
 }
 
-fn write_ipv4<W: fmt::Write>(f: &mut fmt::Formatter<W>, octets: &[u8; 4]) -> fmt::Result {
-    let [a, b, c, d] = *octets;
-    write!(f, "{a}.{b}.{c}.{d}")
+/// Four groups of an IPv6 address, from the first or the ninth octet on.
+#[derive(Clone, Copy)]
+struct Groups<'a> {
+    octets: &'a [u8; 16],
+    second_half: bool,
 }
 
-fn write_ipv6<W: fmt::Write>(f: &mut fmt::Formatter<W>, octets: &[u8; 16]) -> fmt::Result {
-    for place in 0..8 {
-        if place > 0 {
-            write!(f, ":")?;
-        }
-        let group = u16::from_be_bytes([octets[2 * place], octets[2 * place + 1]]);
-        write!(f, "{group:x}")?;
+impl fmt::Display for Groups<'_> {
+    ghost output = { λ g. Some (groups_text g.octets.now (if g.second_half then 8 else 0)) };
+
+    fn fmt<W: fmt::Write>(&self, f: &mut fmt::Formatter<W>) -> fmt::Result {
+        let from = if self.second_half { 8 } else { 0 };
+        let a = group(self.octets, from);
+        let b = group(self.octets, from + 2);
+        let c = group(self.octets, from + 4);
+        let d = group(self.octets, from + 6);
+        write!(f, "{a:x}:{b:x}:{c:x}:{d:x}")
     }
-    Ok(())
+}
+
+/// The number in the two octets from this place on.
+fn group(octets: &[u8; 16], place: usize) -> u16
+    requires { place < 15 }
+    ensures { result ≡ 256 * slice_index octets.now place + slice_index octets.now (place + 1) }
+{
+    256 * u16::from(octets[place]) + u16::from(octets[place + 1])
 }

@@ -21,8 +21,4 @@ pub fn distances_agree_on_lifts(start: Seqno, one: Distance, other: Distance)
     requires one { lift start one.seqno ≤ 32767 }
     requires other { lift start other.seqno ≤ 32767 }
     ensures { IsTrue (is_better one other) ↔ IsBetter (lift start one.seqno) one.metric (lift start other.seqno) other.metric }
-{
-    let _start = start.0;
-    let _one = one.seqno.0;
-    let _other = other.seqno.0;
-}
+{}

@@ -21,7 +21,7 @@ pub use metrics::Metric;
 pub use prefixes::Prefix;
 pub use router_ids::RouterId;
 pub use seqnos::Seqno;
-pub use texts::{AddrTextFault, PrefixTextFault};
+pub use texts::AddrTextFault;
 
 #[cfg(test)]
 mod tests;

@@ -1,8 +1,10 @@
 //! Metrics and link costs (RFC 8966, section 3.5.2).
 
-ghost use Rattle.std.specs.Prelude.{◌≡◌, nat_lt};
+ghost use Rattle.std.specs.Prelude.{Some, ◌≡◌, nat_lt};
+ghost use Rattle.std.specs.Fmt.{decimal};
 ghost use Rattle.babel_value.specs.Metrics.{metric_sum};
 
+use std::fmt;
 use std::marker::Model;
 
 /// A metric, or the cost of a link: 65535 is infinity (RFC 8966, section 3.5.2).
@@ -35,5 +37,15 @@ impl Metric {
         ensures { result ≡ nat_lt self 65535 }
     {
         self.0 < Metric::INFINITE.0
+    }
+}
+
+/// In decimal, 65535 for infinity.
+impl fmt::Display for Metric {
+    ghost output = { λ metric. Some (decimal metric) };
+
+    fn fmt<W: fmt::Write>(&self, f: &mut fmt::Formatter<W>) -> fmt::Result {
+        let number = self.0;
+        write!(f, "{number}")
     }
 }

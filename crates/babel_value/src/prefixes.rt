@@ -1,8 +1,9 @@
 //! Prefixes (RFC 8966, section 4.1.5).
 
-ghost use Rattle.std.specs.Prelude.{◌≡◌, ◌≤◌, ◌-◌, ◌%◌, ◌^◌};
+ghost use Rattle.std.specs.Prelude.{◌≡◌, ◌≤◌, ◌-◌, ◌%◌, ◌^◌, Some};
 ghost use Rattle.babel_value.specs.Addresses.{width_of, family_of};
 ghost use Rattle.babel_value.specs.Prefixes.{cleared_addr, cleared, prefix_of};
+ghost use Rattle.babel_value.specs.Texts.{prefix_text};
 
 use crate::{Addr, Family};
 use std::fmt;
@@ -117,6 +118,8 @@ fn keep_bits(octet: u8, bits: u8) -> u8
 
 /// `address/length`.
 impl fmt::Display for Prefix {
+    ghost output = { λ p. Some (prefix_text p) };
+
     fn fmt<W: fmt::Write>(&self, f: &mut fmt::Formatter<W>) -> fmt::Result {
         let addr = self.addr;
         let length = self.length;

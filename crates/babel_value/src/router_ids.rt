@@ -1,7 +1,8 @@
 //! Router-ids (RFC 8966, section 4.1.3).
 
-ghost use Rattle.std.specs.Prelude.{◌≡◌};
+ghost use Rattle.std.specs.Prelude.{◌≡◌, Some};
 ghost use Rattle.babel_value.specs.RouterIds.{router_id_of};
+ghost use Rattle.babel_value.specs.Texts.{router_text};
 
 use std::fmt;
 use std::marker::Model;
@@ -47,8 +48,16 @@ impl RouterId {
 
 /// 16 hexadecimal digits in lower case.
 impl fmt::Display for RouterId {
+    ghost output = { λ router. Some (router_text router) };
+
     fn fmt<W: fmt::Write>(&self, f: &mut fmt::Formatter<W>) -> fmt::Result {
-        let number = u64::from_be_bytes(self.octets);
-        write!(f, "{number:016x}")
+        let mut digits = [0; 16];
+        if hex::encode_to_slice(self.octets.as_slice(), &mut digits).is_err() {
+            return Err(fmt::Error);
+        }
+        match str::from_utf8(&digits) {
+            Ok(text) => f.write_str(text),
+            Err(_) => Err(fmt::Error),
+        }
     }
 }

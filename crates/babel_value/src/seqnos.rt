@@ -1,8 +1,10 @@
 //! Sequence numbers (RFC 8966, section 3.2.1).
 
-ghost use Rattle.std.specs.Prelude.{◌≡◌, ◌+◌, ◌%◌};
+ghost use Rattle.std.specs.Prelude.{Some, ◌≡◌, ◌+◌, ◌%◌};
+ghost use Rattle.std.specs.Fmt.{decimal};
 ghost use Rattle.babel_value.specs.Seqnos.{is_before};
 
+use std::fmt;
 use std::marker::Model;
 
 /// A sequence number: 16 bits around a circle (RFC 8966, section 3.2.1).
@@ -38,5 +40,15 @@ impl Seqno {
         ensures { result ≡ (self + 1) % 65536 }
     {
         Seqno(self.0.wrapping_add(1))
+    }
+}
+
+/// In decimal.
+impl fmt::Display for Seqno {
+    ghost output = { λ seqno. Some (decimal seqno) };
+
+    fn fmt<W: fmt::Write>(&self, f: &mut fmt::Formatter<W>) -> fmt::Result {
+        let number = self.0;
+        write!(f, "{number}")
     }
 }

@@ -94,20 +94,26 @@ fn router_ids(rt: HostRuntime) -> Result<(), Fail> {
     Ok(())
 }
 
+/// The prefix of an address in text.
+fn prefix(addr: &str, length: u8) -> Result<Prefix, Fail> {
+    let addr = addr.parse::<Addr>()?;
+    Ok(Prefix::new(addr, length).ok_or("too long")?)
+}
+
 #[test]
 fn prefixes_clear_what_does_not_count(rt: HostRuntime) -> Result<(), Fail> {
     let cases = [
-        ("10.1.2.3/8", "10.0.0.0/8"),
-        ("10.255.255.255/12", "10.240.0.0/12"),
-        ("255.255.255.255/0", "0.0.0.0/0"),
-        ("1.2.3.255/31", "1.2.3.254/31"),
-        ("1.2.3.4/32", "1.2.3.4/32"),
-        ("2001:db8:ffff::1/33", "2001:db8:8000:0:0:0:0:0/33"),
-        ("FE80::aB/128", "fe80:0:0:0:0:0:0:ab/128"),
+        ("10.1.2.3", 8, "10.0.0.0/8"),
+        ("10.255.255.255", 12, "10.240.0.0/12"),
+        ("255.255.255.255", 0, "0.0.0.0/0"),
+        ("1.2.3.255", 31, "1.2.3.254/31"),
+        ("1.2.3.4", 32, "1.2.3.4/32"),
+        ("2001:db8:ffff::1", 33, "2001:db8:8000:0:0:0:0:0/33"),
+        ("FE80::aB", 128, "fe80:0:0:0:0:0:0:ab/128"),
     ];
-    for (text, kept) in cases {
-        let prefix = text.parse::<Prefix>()?;
-        assert_eq!(rt; prefix.to_string(rt.alloc())?.as_str(), kept);
+    for (addr, length, kept) in cases {
+        let text = prefix(addr, length)?.to_string(rt.alloc())?;
+        assert_eq!(rt; text.as_str(), kept);
     }
     assert!(rt; Prefix::new(Addr::V4([10, 0, 0, 0]), 33).is_none());
     assert!(rt; Prefix::new(Addr::V6([0; 16]), 129).is_none());
@@ -165,24 +171,6 @@ fn other_texts_are_refused(rt: HostRuntime) {
     for text in addresses {
         assert!(rt; text.parse::<Addr>().is_err(), "{text}");
     }
-    let prefixes = [
-        "",
-        "10.0.0.0",
-        "10.0.0.0/",
-        "10.0.0.0/33",
-        "10.0.0.0/08",
-        "10.0.0.0/+8",
-        "10.0.0.0/-0",
-        "10.0.0.0/256",
-        "10.0.0.0/8/8",
-        "/8",
-        "10.0.0/8",
-        "::/129",
-        "::/1 ",
-    ];
-    for text in prefixes {
-        assert!(rt; text.parse::<Prefix>().is_err(), "{text}");
-    }
 }
 
 fn order_of_addresses(one: &Addr, other: &Addr) -> Ordering
@@ -221,8 +209,8 @@ fn keys_are_ordered(rt: HostRuntime) -> Result<(), Fail> {
     let low = Addr::V4([255; 4]);
     let high = Addr::V6([0; 16]);
     assert_eq!(rt; order_of_addresses(&low, &high), Ordering::Less);
-    let short = "10.0.0.0/8".parse::<Prefix>()?;
-    let long = "10.0.0.0/9".parse::<Prefix>()?;
+    let short = prefix("10.0.0.0", 8)?;
+    let long = prefix("10.0.0.0", 9)?;
     assert_eq!(rt; order_of_prefixes(&short, &long), Ordering::Less);
     let router = RouterId::new([1; 8]).ok_or("not reserved")?;
     let later = RouterId::new([2; 8]).ok_or("not reserved")?;

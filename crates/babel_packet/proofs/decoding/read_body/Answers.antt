@@ -1,5 +1,5 @@
 -- Nothing is left and there is no fault: what is told is what the places mean, looking back.
-use Rattle.std.proofs.Common.{◌≡◌, ◌++◌, List, [], None, Ok, ap, sym, ◌∙◌, append-nil}
+use Rattle.std.proofs.Common.{◌≡◌, [], None, Ok, ap, sym, ◌∙◌, append-nil}
 use Rattle.babel_tlv.specs.Split.{places_of, fault_of}
 use Rattle.babel_packet.proofs.LookingBack.{looking_back}
 use Rattle.babel_packet.proofs.decoding.read_body.Goals as goal

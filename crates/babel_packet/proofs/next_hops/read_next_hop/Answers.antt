@@ -1,5 +1,5 @@
 -- The link-local encoding stands last in the definition's chain: what it says is read off first.
-use Rattle.std.proofs.Common.{◌≡◌, ℕ, ◌≤◌, ◌<◌, List, length, drop, nat_lt, false, refl, arith}
+use Rattle.std.proofs.Common.{◌≡◌, ℕ, ◌≤◌, List, length, drop, nat_lt, false, refl, arith}
 use Rattle.std.proofs.lemmas.Bool.{le-ltb}
 use Rattle.std.proofs.lemmas.Slice.{between_to_end}
 use Rattle.babel_packet.specs.declared.placements.Content.TheVariants.{State}

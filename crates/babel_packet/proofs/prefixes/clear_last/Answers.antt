@@ -1,6 +1,5 @@
 -- The length is eight for each whole octet, and what is left over.
-use Rattle.std.proofs.Common.{◌≡◌, ℕ, suc, ◌+◌, ◌*◌, ◌/◌, ◌%◌, ◌<◌, ◌≤◌, sym, ap, ◌∙◌, arith}
-use Rattle.babel_value.specs.Prefixes.{cleared}
+use Rattle.std.proofs.Common.{◌≡◌, suc, ◌+◌, ◌*◌, ◌/◌, ◌%◌, arith}
 use Rattle.babel_packet.proofs.Clearing.{AreZeros, cleared-whole, cleared-part}
 use Rattle.babel_packet.proofs.prefixes.clear_last.Goals as goal
 

@@ -1,5 +1,5 @@
 -- A list is told by its length and what stands at each place.
-use Rattle.std.proofs.Common.{◌≡◌, ℕ, ◌<◌, arith}
+use Rattle.std.proofs.Common.{arith}
 use Rattle.std.proofs.lemmas.List.FromFn.{fill_by_all}
 use Rattle.babel_packet.specs.Prefixes.{prefix_octet}
 use Rattle.babel_packet.proofs.prefixes.spread.Goals as goal
