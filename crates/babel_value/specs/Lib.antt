@@ -7,4 +7,6 @@ pub mod Addresses
 pub mod Prefixes
 pub mod PrefixLaws
 pub mod Orders
+pub mod OrderLaws
+pub mod Moments
 pub mod Texts

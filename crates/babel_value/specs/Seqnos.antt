@@ -5,6 +5,10 @@ use Rattle.std.specs.Prelude.{ℕ, ◌+◌, ◌-◌, ◌%◌, Bool, ◌&&◌, na
 abbrev pub ahead : ℕ → ℕ → ℕ
 ahead s t = (t + 65536 - s) % 65536
 
+-- The number after s.
+abbrev pub next_seqno : ℕ → ℕ
+next_seqno s = (s + 1) % 65536
+
 -- s comes before t: t is ahead by less than half of the circle.
 abbrev pub is_before : ℕ → ℕ → Bool
 is_before s t = nat_lt 0 (ahead s t) && nat_lt (ahead s t) 32768

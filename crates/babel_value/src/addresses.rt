@@ -1,6 +1,6 @@
 //! Addresses and their families (RFC 8966, section 4.1.4).
 
-ghost use Rattle.std.specs.Prelude.{◌≡◌, ◌<◌, ◌+◌, ◌*◌, Some, slice_index, if◌then◌else◌};
+ghost use Rattle.std.specs.Prelude.{◌≡◌, ◌<◌, ◌+◌, ◌*◌, Some, replicate, slice_index, if◌then◌else◌};
 ghost use Rattle.babel_value.specs.Addresses.{family_of, width_of};
 ghost use Rattle.babel_value.specs.Texts.{addr_text, groups_text};
 
@@ -22,6 +22,15 @@ pub enum Addr {
     V4([u8; 4]),
     /// An IPv6 address.
     V6([u8; 16]),
+}
+
+/// 0.0.0.0, which fills the unused places of a list with a fixed room.
+impl Default for Addr {
+    fn default() -> Addr
+        ensures { result ≡ Addr.V4 (replicate 4 0) }
+    {
+        Addr::V4([0; 4])
+    }
 }
 
 impl Addr {

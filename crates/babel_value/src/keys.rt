@@ -14,7 +14,7 @@ pub struct Source {
 
 /// A neighbour, or one that may become a neighbour: an address at an interface (RFC 8966, section
 /// 3.2.4). Peers are ordered by interface, then address.
-#[derive(Clone, Copy, Debug, PartialEq, Eq, PartialOrd, Ord, Hash)]
+#[derive(Clone, Copy, Debug, Default, PartialEq, Eq, PartialOrd, Ord, Hash)]
 pub struct Peer {
     /// The interface's number, counted from 0.
     pub iface: u8,

@@ -1,8 +1,8 @@
 //! Sequence numbers (RFC 8966, section 3.2.1).
 
-ghost use Rattle.std.specs.Prelude.{Some, ◌≡◌, ◌+◌, ◌%◌};
+ghost use Rattle.std.specs.Prelude.{Some, ◌≡◌};
 ghost use Rattle.std.specs.Fmt.{decimal};
-ghost use Rattle.babel_value.specs.Seqnos.{is_before};
+ghost use Rattle.babel_value.specs.Seqnos.{is_before, next_seqno};
 
 use std::fmt;
 use std::marker::Model;
@@ -37,7 +37,7 @@ impl Seqno {
 
     /// The number after this one, 0 after 65535.
     pub fn next(self) -> Seqno
-        ensures { result ≡ (self + 1) % 65536 }
+        ensures { result ≡ next_seqno self }
     {
         Seqno(self.0.wrapping_add(1))
     }

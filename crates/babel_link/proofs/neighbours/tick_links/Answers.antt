@@ -1,0 +1,47 @@
+-- One more neighbour is written behind those that stay, or added to those that are gone.
+use Rattle.std.proofs.Common.{◌≡◌, ◌<◌, Some, None, length, sym, ◌∙◌, arith}
+use Rattle.babel_link.specs.Links.{ticked_link}
+use Rattle.babel_link.proofs.TickLemmas.{stays_more, goes_same, stays_same, goes_more, stays_all, goes_all}
+use Rattle.babel_link.proofs.neighbours.tick_links.Goals as goal
+use Rattle.babel_link.proofs.neighbours.tick_links.Goals.{in-Some, in-None}
+
+pub loop-place-preserved : goal.loop-place-preserved
+loop-place-preserved c =
+    let now = c.args.now in
+    let items = c.loop-place.links.items in
+    let e = c.index.result.now in
+    let ok = c.loop-place.links.ok.0 in
+    let within : c.loop-place.place < length items = omega arith in
+    elim c.match-ticked.branch [
+      | in-Some w ↦
+          let link = w.in-Some.link in
+          let stays : ticked_link now e.1 ≡ Some link = sym c.ticked.ensures ∙ w.in-Some.is in
+          record {
+            stays = rw (w.links-is, w.kept-is) (stays_more now items c.loop-place.place e within c.index.ensures c.loop-place.kept link _ c.loop-place.invariant.behind stays c.loop-place.invariant.stays);
+            goes = rw (w.links-is, w.gone-is) (goes_same now items c.loop-place.place e within c.index.ensures c.loop-place.kept link _ _ c.loop-place.invariant.behind stays c.loop-place.invariant.goes);
+            behind = omega arith;
+            same_len = rw w.links-is c.loop-place.invariant.same_len;
+            few = rw w.gone-is (omega arith);
+            capacity = rw w.links-is c.loop-place.invariant.capacity;
+          }
+      | in-None w ↦
+          let goes : ticked_link now e.1 ≡ None = sym c.ticked.ensures ∙ w.in-None.is in
+          record {
+            stays = rw (w.links-is, w.kept-is) (stays_same now items c.loop-place.place e within c.index.ensures _ _ goes c.loop-place.invariant.stays);
+            goes = rw (w.links-is, w.gone-is, w.push.ensures.items) (goes_more now items c.loop-place.place e within c.index.ensures _ _ goes c.loop-place.invariant.goes);
+            behind = omega arith;
+            same_len = rw w.links-is c.loop-place.invariant.same_len;
+            few = rw w.gone-is (omega arith);
+            capacity = rw w.links-is c.loop-place.invariant.capacity;
+          }
+    ]
+
+pub returns-clause-links : goal.returns-clause-links
+returns-clause-links c =
+    let ok = c.loop-place.links.ok.0 in
+    c.truncate.ensures.items ∙ stays_all c.args.now c.loop-place.links.items c.loop-place.place (omega arith) _ _ c.loop-place.invariant.stays
+
+pub returns-clause-gone : goal.returns-clause-gone
+returns-clause-gone c =
+    let ok = c.loop-place.links.ok.0 in
+    goes_all c.args.now c.loop-place.links.items c.loop-place.place (omega arith) _ _ c.loop-place.invariant.goes

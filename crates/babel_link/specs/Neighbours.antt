@@ -1,0 +1,69 @@
+-- The neighbours: a map from peers to links, as the list of its entries in the order of the peers (RFC 8966, section 3.2.4).
+use Rattle.std.specs.Prelude.{ℕ, Bool, true, ◌&&◌, List, [], ◌∷◌, map, filter, Option, is_none, IsTrue}
+use Rattle.std.specs.List.{filter_map, list_all}
+use Rattle.std.specs.Option.{option_map, option_map_or, unwrap_or}
+use Rattle.std.specs.Ordering.{is_lt}
+use Rattle.std.specs.FinMap.{find, put, is_sorted}
+use Rattle.babel_value.specs.declared.keys.Peer.{Peer}
+use Rattle.babel_value.specs.Orders.{peer_cmp}
+use Rattle.babel_link.specs.declared.links.Link.{Link}
+use Rattle.babel_link.specs.declared.marks.Heard.{Heard}
+use Rattle.babel_link.specs.Links.{new_link, hello_link, link_verdict, ihu_link, ticked_link, link_rxcost, link_cost}
+
+abbrev pub Links : Type 0
+Links = List (Peer × Link)
+
+-- What is known of the peer: nothing, where it's no neighbour (RFC 8966, section 3.2.4).
+abbrev pub link_of : Peer → Links → Link
+link_of peer links = unwrap_or (find peer_cmp peer links) new_link
+
+-- The neighbours after a Hello with seqno n. Only a Hello makes a neighbour (RFC 8966, section 3.4.1).
+unfoldable pub hello_of : ℕ → Peer → Bool → ℕ → ℕ → Links → Links
+hello_of now peer unicast n interval links =
+    put peer_cmp peer (hello_link now unicast n interval (link_of peer links)) links
+
+-- What a Hello with seqno n says of the peer: the neighbour is flushed, and so its route entries go (profile), or it's kept.
+unfoldable pub hello_verdict : Peer → Bool → ℕ → Links → Heard
+hello_verdict peer unicast n links = link_verdict unicast n (link_of peer links)
+
+-- The neighbours after an IHU: nothing changes where its sender is none (RFC 8966, section 3.4.2).
+unfoldable pub ihu_of : ℕ → Peer → ℕ → ℕ → Links → Links
+ihu_of now peer rxcost interval links =
+    option_map_or (λ link. put peer_cmp peer (ihu_link now rxcost interval link) links) (find peer_cmp peer links) links
+
+abbrev pub ticked_entry : ℕ → Peer × Link → Option (Peer × Link)
+ticked_entry now e = option_map (λ link. (e.0, link)) (ticked_link now e.1)
+
+-- The neighbours after a tick (RFC 8966, sections 3.4.1 and 3.4.2).
+unfoldable pub tick_of : ℕ → Links → Links
+tick_of now links = filter_map (ticked_entry now) links
+
+abbrev pub is_gone : ℕ → Peer × Link → Bool
+is_gone now e = is_none (ticked_link now e.1)
+
+abbrev pub peers_of : Links → List Peer
+peers_of links = map (λ e. e.0) links
+
+-- The neighbours that a tick flushes, ascending (RFC 8966, appendix A.1).
+unfoldable pub gone_of : ℕ → Links → List Peer
+gone_of now links = peers_of (filter (is_gone now) links)
+
+-- The costs of a peer's link, infinite where it's no neighbour (RFC 8966, appendix A.2.1).
+unfoldable pub rxcost_of : Peer → ℕ → Links → ℕ
+rxcost_of peer nominal links = option_map_or (link_rxcost nominal) (find peer_cmp peer links) 65535
+
+unfoldable pub cost_of : Peer → ℕ → Links → ℕ
+cost_of peer nominal links = option_map_or (link_cost nominal) (find peer_cmp peer links) 65535
+
+-- Each peer comes before all later ones (profile).
+abbrev pub are_ascending : List Peer → Bool
+are_ascending [] = true
+are_ascending (p ∷ ps) = list_all (λ q. is_lt (peer_cmp p q)) ps && are_ascending ps
+
+-- The entry's peer comes before this one (profile).
+abbrev pub comes_before : Peer → Peer × Link → Bool
+comes_before peer e = is_lt (peer_cmp e.0 peer)
+
+-- A change of the neighbours that leaves them in the order of the peers (profile).
+abbrev pub KeepsOrder : (Links → Links) → Type 0
+KeepsOrder change = (links : Links) → IsTrue (is_sorted peer_cmp links) → IsTrue (is_sorted peer_cmp (change links))

@@ -1,0 +1,266 @@
+//! What is known of one neighbour (RFC 8966, section 3.2.4).
+
+ghost use Rattle.std.specs.Prelude.{◌≡◌, Some, None};
+ghost use Rattle.babel_link.specs.Links.{new_link, history_of, with_history, hello_timer, first_history, later_history, fired_history, link_verdict, hello_link, ihu_link, unless_silent, fired_link, expired_link, ticked_link, link_rxcost, link_cost, is_heard, is_up_history};
+ghost use Rattle.babel_value.specs.Moments.{later};
+ghost use Rattle.babel_link.specs.Moments.{hello_patience, ihu_patience};
+ghost use Rattle.babel_link.specs.Histories.{heard_verdict};
+
+use crate::{Heard, Marks};
+use babel_value::{Metric, Seqno};
+
+/// When the next Hello is missed.
+#[derive(Clone, Copy, Debug)]
+pub struct Timer {
+    /// The interval that the sender told, in centiseconds. It is not 0.
+    pub interval: u16,
+    /// The moment from which the Hello is missed.
+    pub due: u64,
+}
+
+/// The Hellos of one kind, multicast or unicast, of one neighbour.
+#[derive(Clone, Copy, Debug)]
+pub struct History {
+    /// Which of them came.
+    pub marks: Marks,
+    /// When the next one is missed: not known before a Hello with an interval.
+    pub timer: Option<Timer>,
+}
+
+/// What is known of one neighbour.
+#[derive(Clone, Copy, Debug)]
+pub struct Link {
+    /// The multicast Hellos, once there was one.
+    pub multicast: Option<History>,
+    /// The unicast Hellos, once there was one.
+    pub unicast: Option<History>,
+    /// The cost of sending: the rxcost that the neighbour's last IHU told.
+    pub txcost: Metric,
+    /// The moment from which that is too old.
+    pub txcost_due: Option<u64>,
+}
+
+/// A moment later by this many centiseconds. It stops at the greatest.
+fn later_by(now: u64, duration: u64) -> u64
+    ensures { result ≡ later now duration }
+{
+    now.saturating_add(duration)
+}
+
+/// The timer after a Hello. One without an interval leaves it.
+fn timer_after(now: u64, interval: u16, timer: Option<Timer>) -> Option<Timer>
+    ensures { result ≡ hello_timer now interval timer }
+{
+    if interval == 0 {
+        return timer;
+    }
+    let due = later_by(now, u64::from(interval) * 3 / 2);
+    Some(Timer { interval, due })
+}
+
+impl History {
+    /// The history that the first Hello of a kind makes.
+    fn first(now: u64, seqno: Seqno, interval: u16) -> History
+        ensures { result ≡ first_history now seqno interval }
+    {
+        History {
+            marks: Marks::first(seqno),
+            timer: timer_after(now, interval, None),
+        }
+    }
+
+    /// Takes a later Hello.
+    #[tactic(auto, unfolding(crate::specs::Links::later_history, crate::specs::Histories::heard_verdict))]
+    fn hello(&mut self, now: u64, seqno: Seqno, interval: u16) -> Heard
+        ensures verdict { result ≡ heard_verdict seqno self.old.marks }
+        ensures history { self.new ≡ later_history now seqno interval self.old }
+    {
+        let heard = self.marks.heard(seqno);
+        let timer = match heard {
+            Heard::Kept => self.timer,
+            Heard::Flush => None,
+        };
+        self.timer = timer_after(now, interval, timer);
+        heard
+    }
+
+    /// The history after its deadline fired, if that is due.
+    #[tactic(auto, unfolding(crate::specs::Links::fired_history))]
+    fn fired(self, now: u64) -> Option<History>
+        ensures { result ≡ fired_history now self }
+    {
+        let timer = self.timer?;
+        if now < timer.due {
+            return None;
+        }
+        let mut marks = self.marks;
+        marks.missed();
+        let due = later_by(now, u64::from(timer.interval));
+        let timer = Some(Timer { due, ..timer });
+        Some(History { marks, timer })
+    }
+}
+
+/// Whether a Hello of the history is remembered.
+fn has_received(history: Option<History>) -> bool
+    ensures { result ≡ is_heard history }
+{
+    match history {
+        Some(history) => history.marks.has_received(),
+        None => false,
+    }
+}
+
+/// Whether a history is up.
+fn is_up(history: Option<History>) -> bool
+    ensures { result ≡ is_up_history history }
+{
+    match history {
+        Some(history) => history.marks.up(),
+        None => false,
+    }
+}
+
+impl Link {
+    /// A neighbour of which nothing is known.
+    pub(crate) fn new() -> Link
+        ensures { result ≡ new_link }
+    {
+        Link {
+            multicast: None,
+            unicast: None,
+            txcost: Metric::INFINITE,
+            txcost_due: None,
+        }
+    }
+
+    fn history(&self, unicast: bool) -> Option<History>
+        ensures { result ≡ history_of unicast self.now }
+    {
+        if unicast {
+            self.unicast
+        } else {
+            self.multicast
+        }
+    }
+
+    fn with(self, unicast: bool, history: History) -> Link
+        ensures { result ≡ with_history unicast (Some history) self }
+    {
+        let history = Some(history);
+        if unicast {
+            Link {
+                unicast: history,
+                ..self
+            }
+        } else {
+            Link {
+                multicast: history,
+                ..self
+            }
+        }
+    }
+
+    /// Takes a Hello. One that flushes the neighbour makes it anew.
+    #[tactic(auto, unfolding(crate::specs::Links::hello_link, crate::specs::Links::link_verdict, crate::specs::Histories::heard_verdict))]
+    pub(crate) fn hello(&mut self, now: u64, unicast: bool, seqno: Seqno, interval: u16) -> Heard
+        ensures verdict { result ≡ link_verdict unicast seqno self.old }
+        ensures link { self.new ≡ hello_link now unicast seqno interval self.old }
+    {
+        let Some(mut history) = self.history(unicast) else {
+            *self = self.with(unicast, History::first(now, seqno, interval));
+            return Heard::Kept;
+        };
+        let heard = history.hello(now, seqno, interval);
+        let link = match heard {
+            Heard::Kept => *self,
+            Heard::Flush => Link::new(),
+        };
+        *self = link.with(unicast, history);
+        heard
+    }
+
+    /// Takes an IHU.
+    #[tactic(auto, unfolding(crate::specs::Links::ihu_link))]
+    pub(crate) fn ihu(&mut self, now: u64, rxcost: Metric, interval: u16)
+        ensures { self.new ≡ ihu_link now rxcost interval self.old }
+    {
+        self.txcost = rxcost;
+        self.txcost_due = Some(later_by(now, u64::from(interval) * 7 / 2));
+    }
+
+    /// The link, if a Hello of either kind is remembered.
+    #[tactic(auto, unfolding(crate::specs::Links::unless_silent))]
+    fn unless_silent(self) -> Option<Link>
+        ensures { result ≡ unless_silent self }
+    {
+        if has_received(self.multicast) || has_received(self.unicast) {
+            Some(self)
+        } else {
+            None
+        }
+    }
+
+    /// The link after one kind's deadline was taken; `None` where that flushes the neighbour.
+    #[tactic(auto, unfolding(crate::specs::Links::fired_link))]
+    fn fired(self, now: u64, unicast: bool) -> Option<Link>
+        ensures { result ≡ fired_link now unicast self }
+    {
+        let Some(history) = self.history(unicast) else {
+            return Some(self);
+        };
+        match history.fired(now) {
+            Some(history) => self.with(unicast, history).unless_silent(),
+            None => Some(self),
+        }
+    }
+
+    /// The link after the deadline of the txcost was taken.
+    #[tactic(auto, unfolding(crate::specs::Links::expired_link))]
+    fn expired(self, now: u64) -> Link
+        ensures { result ≡ expired_link now self }
+    {
+        match self.txcost_due {
+            Some(due) if due <= now => Link {
+                txcost: Metric::INFINITE,
+                txcost_due: None,
+                ..self
+            },
+            _ => self,
+        }
+    }
+
+    /// The link after a tick; `None` where that flushes the neighbour.
+    #[tactic(auto, unfolding(crate::specs::Links::ticked_link))]
+    pub(crate) fn ticked(self, now: u64) -> Option<Link>
+        ensures { result ≡ ticked_link now self }
+    {
+        let link = self.fired(now, false)?;
+        let link = link.fired(now, true)?;
+        Some(link.expired(now))
+    }
+
+    /// The cost of receiving from the neighbour.
+    #[tactic(auto, unfolding(crate::specs::Links::link_rxcost))]
+    pub(crate) fn rxcost(&self, nominal: Metric) -> Metric
+        ensures { result ≡ link_rxcost nominal self.now }
+    {
+        if is_up(self.multicast) || is_up(self.unicast) {
+            nominal
+        } else {
+            Metric::INFINITE
+        }
+    }
+
+    /// The cost of the link.
+    #[tactic(auto, unfolding(crate::specs::Links::link_cost))]
+    pub(crate) fn cost(&self, nominal: Metric) -> Metric
+        ensures { result ≡ link_cost nominal self.now }
+    {
+        if self.rxcost(nominal).is_finite() {
+            self.txcost
+        } else {
+            Metric::INFINITE
+        }
+    }
+}

@@ -1,0 +1,145 @@
+//! Hello histories (RFC 8966, appendix A.1).
+
+ghost use Rattle.std.specs.Prelude.{◌≡◌};
+ghost use Rattle.babel_link.specs.Histories.{first_marks, heard_marks, heard_verdict, missed_marks, is_up, has_received};
+
+use crate::words::{NEAR, Word};
+use babel_value::Seqno;
+use std::marker::Model;
+
+/// What a Hello says of its sender.
+#[derive(Clone, Copy, Debug, PartialEq, Eq)]
+pub enum Heard {
+    /// It stays a neighbour.
+    Kept,
+    /// Its sequence number is more than 16 away from the expected one: the sender seems to have
+    /// restarted, and what was known of it goes.
+    Flush,
+}
+
+/// Which of the last 16 Hellos of one kind came, and the sequence number of the next one (RFC 8966,
+/// appendix A.1). A clause sees the marks as a list of truth values, newest first.
+#[derive(Clone, Copy, Debug)]
+pub struct Marks {
+    word: Word,
+    expected: Seqno,
+}
+
+impl Model for Marks {
+    ghost use Rattle.babel_link.specs.Histories.{MarksValue};
+
+    ghost Value = { MarksValue };
+
+    ghost view = { λ m. record { marks = m.word; expected = m.expected } };
+
+    ghost inverse = { λ v. record { word = v.marks; expected = v.expected } };
+}
+
+impl Marks {
+    /// The history that the first Hello of a kind makes.
+    pub fn first(seqno: Seqno) -> Marks
+        ensures { result ≡ first_marks seqno }
+    {
+        Marks {
+            word: Word::received(),
+            expected: seqno.next(),
+        }
+    }
+
+    /// Takes a later Hello. Where it is ahead of the expected one, those between were missed; where
+    /// it is behind, as many of the newest marks go. One that is more than 16 away makes the history
+    /// anew, and is answered by `Flush`.
+    #[tactic(auto, unfolding(crate::specs::Histories::heard_marks, crate::specs::Histories::heard_verdict))]
+    pub fn heard(&mut self, seqno: Seqno) -> Heard
+        ensures verdict { result ≡ heard_verdict seqno self.old }
+        ensures marks { self.new ≡ heard_marks seqno self.old }
+    {
+        let ahead = seqno.0.wrapping_sub(self.expected.0);
+        let behind = self.expected.0.wrapping_sub(seqno.0);
+        if ahead > NEAR && behind > NEAR {
+            *self = Marks::first(seqno);
+            return Heard::Flush;
+        }
+        self.word.hear(ahead, behind);
+        self.expected = seqno.next();
+        Heard::Kept
+    }
+
+    /// Marks the expected Hello as missed.
+    #[tactic(auto, unfolding(crate::specs::Histories::missed_marks))]
+    pub fn missed(&mut self)
+        ensures { self.new ≡ missed_marks self.old }
+    {
+        self.word.push(false);
+        self.expected = self.expected.next();
+    }
+
+    /// Whether at least two of the newest three Hellos came (RFC 8966, appendix A.2.1).
+    pub fn up(&self) -> bool
+        ensures { result ≡ is_up self.now.marks }
+    {
+        self.word.is_up()
+    }
+
+    /// Whether one of the Hellos came.
+    pub(crate) fn has_received(&self) -> bool
+        ensures { result ≡ has_received self.now.marks }
+    {
+        self.word.has_received()
+    }
+}
+
+#[cfg(test)]
+mod tests {
+    use super::*;
+
+    // The marks as a word, the newest lowest, how many there are, and the expected number.
+    fn state(marks: Marks) -> (u16, u8, u16) {
+        (marks.word.bits, marks.word.count, marks.expected.0)
+    }
+
+    #[test]
+    fn a_hello_ahead_or_behind(rt: HostRuntime) {
+        let mut marks = Marks::first(Seqno(65534));
+        assert_eq!(rt; marks.heard(Seqno(0)), Heard::Kept);
+        assert_eq!(rt; marks.heard(Seqno(2)), Heard::Kept);
+        assert_eq!(rt; state(marks), (0b10101, 5, 3));
+        assert!(rt; marks.up());
+        let cases = [
+            (19, Heard::Kept, (0b1, 16, 20)),
+            (20, Heard::Flush, (0b1, 1, 21)),
+            (3, Heard::Kept, (0b101011, 6, 4)),
+            (1, Heard::Kept, (0b1011, 4, 2)),
+            (65535, Heard::Kept, (0b11, 2, 0)),
+            (65523, Heard::Kept, (0b1, 1, 65524)),
+            (65522, Heard::Flush, (0b1, 1, 65523)),
+        ];
+        for (seqno, heard, after) in cases {
+            let mut later = marks;
+            assert_eq!(rt; later.heard(Seqno(seqno)), heard, "Hello {seqno}");
+            assert_eq!(rt; state(later), after, "Hello {seqno}");
+        }
+    }
+
+    #[test]
+    fn two_of_the_newest_three(rt: HostRuntime) {
+        let mut marks = Marks::first(Seqno(65535));
+        assert!(rt; !marks.up(), "one mark");
+        for (came, up, text) in [
+            (true, true, "1 1"),
+            (false, true, "0 1 1"),
+            (false, false, "0 0 1 1"),
+            (true, false, "1 0 0 1 1"),
+            (true, true, "1 1 0 0 1 1"),
+        ] {
+            if came {
+                let seqno = marks.expected;
+                marks.heard(seqno);
+            } else {
+                marks.missed();
+            }
+            assert_eq!(rt; marks.up(), up, "{text}");
+        }
+        assert_eq!(rt; state(marks), (0b110011, 6, 5));
+    }
+}

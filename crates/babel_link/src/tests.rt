@@ -1,0 +1,156 @@
+//! What no clause says: rows worked by hand, through the public calls.
+
+use super::*;
+use arrayvec::ArrayVec;
+use babel_value::{Addr, Metric, Peer, Seqno};
+use std::test::Fail;
+
+const NOMINAL: Metric = Metric(256);
+
+fn peer(last: u8) -> Peer {
+    Peer {
+        iface: 0,
+        addr: Addr::V4([192, 168, 0, last]),
+    }
+}
+
+#[test]
+fn deadlines_of_hellos(rt: HostRuntime) -> Result<(), Fail> {
+    let mut neighbours = Neighbours::new(rt.alloc())?;
+    let mut gone = ArrayVec::<Peer, 64>::new();
+    neighbours.hello(0, peer(1), false, Seqno(7), 401)?;
+    assert_eq!(rt; neighbours.rxcost(peer(1), NOMINAL), Metric::INFINITE);
+    neighbours.hello(0, peer(1), false, Seqno(8), 401)?;
+    // Missed at 601, and again at 1002: then 0 0 1 1.
+    for (now, rxcost) in [
+        (600, NOMINAL),
+        (601, NOMINAL),
+        (1001, NOMINAL),
+        (0, NOMINAL),
+        (1002, Metric::INFINITE),
+    ] {
+        neighbours.tick(now, &mut gone);
+        assert_eq!(rt; neighbours.rxcost(peer(1), NOMINAL), rxcost, "at {now}");
+    }
+    Ok(())
+}
+
+#[test]
+fn deadlines_of_ihus(rt: HostRuntime) -> Result<(), Fail> {
+    let mut neighbours = Neighbours::new(rt.alloc())?;
+    let mut gone = ArrayVec::<Peer, 64>::new();
+    assert!(rt; !neighbours.ihu(0, peer(1), Metric(96), 1200));
+    assert!(rt; !neighbours.known(peer(1)));
+    for seqno in [7, 8] {
+        neighbours.hello(0, peer(1), true, Seqno(seqno), 0)?;
+    }
+    assert_eq!(rt; neighbours.cost(peer(1), NOMINAL), Metric::INFINITE);
+    assert!(rt; neighbours.ihu(0, peer(1), Metric(96), 1200));
+    for (now, cost) in [(4199, Metric(96)), (4200, Metric::INFINITE)] {
+        neighbours.tick(now, &mut gone);
+        assert_eq!(rt; neighbours.cost(peer(1), NOMINAL), cost, "at {now}");
+        assert_eq!(rt; neighbours.rxcost(peer(1), NOMINAL), NOMINAL);
+    }
+    Ok(())
+}
+
+#[test]
+fn sums_stop_at_the_greatest_moment(rt: HostRuntime) -> Result<(), Fail> {
+    let mut neighbours = Neighbours::new(rt.alloc())?;
+    let mut gone = ArrayVec::<Peer, 64>::new();
+    for seqno in [7, 8] {
+        neighbours.hello(u64::MAX - 1, peer(1), false, Seqno(seqno), 400)?;
+    }
+    neighbours.ihu(u64::MAX - 1, peer(1), Metric(96), 1200);
+    neighbours.tick(u64::MAX - 1, &mut gone);
+    assert_eq!(rt; neighbours.cost(peer(1), NOMINAL), Metric(96));
+    // Due at each tick from then on: 0 1 1, then 0 0 1 1.
+    neighbours.tick(u64::MAX, &mut gone);
+    assert_eq!(rt; neighbours.cost(peer(1), NOMINAL), Metric::INFINITE);
+    assert_eq!(rt; neighbours.rxcost(peer(1), NOMINAL), NOMINAL);
+    neighbours.tick(u64::MAX, &mut gone);
+    assert_eq!(rt; neighbours.rxcost(peer(1), NOMINAL), Metric::INFINITE);
+    Ok(())
+}
+
+#[test]
+fn a_flush_clears_both_histories(rt: HostRuntime) -> Result<(), Fail> {
+    let mut neighbours = Neighbours::new(rt.alloc())?;
+    for seqno in [7, 8] {
+        neighbours.hello(0, peer(1), false, Seqno(seqno), 400)?;
+    }
+    // The first unicast Hello begins a history of its own.
+    assert_eq!(rt;
+        neighbours.hello(0, peer(1), true, Seqno(100), 0)?,
+        Heard::Kept
+    );
+    neighbours.ihu(0, peer(1), Metric(96), 1200);
+    assert_eq!(rt; neighbours.cost(peer(1), NOMINAL), Metric(96));
+    assert_eq!(rt;
+        neighbours.hello(0, peer(1), true, Seqno(118), 0)?,
+        Heard::Flush
+    );
+    assert_eq!(rt; neighbours.rxcost(peer(1), NOMINAL), Metric::INFINITE);
+    // Its multicast history begins anew too, wherever the number is.
+    assert_eq!(rt;
+        neighbours.hello(0, peer(1), false, Seqno(1000), 0)?,
+        Heard::Kept
+    );
+    assert_eq!(rt;
+        neighbours.hello(0, peer(1), true, Seqno(119), 0)?,
+        Heard::Kept
+    );
+    assert_eq!(rt; neighbours.rxcost(peer(1), NOMINAL), NOMINAL);
+    assert_eq!(rt; neighbours.cost(peer(1), NOMINAL), Metric::INFINITE);
+    Ok(())
+}
+
+#[test]
+fn silent_neighbours_go(rt: HostRuntime) -> Result<(), Fail> {
+    let mut neighbours = Neighbours::new(rt.alloc())?;
+    let mut gone = ArrayVec::<Peer, 64>::new();
+    gone.push(peer(9));
+    for (last, interval) in [(3, 100), (1, 100), (2, 0)] {
+        neighbours.hello(0, peer(last), false, Seqno(0), interval)?;
+    }
+    // The sixteenth missed mark, at 1650, pushes out the last one of a Hello that came.
+    for tick in 0..16 {
+        assert!(rt; neighbours.known(peer(1)), "before tick {tick}");
+        neighbours.tick(150 + 100 * tick, &mut gone);
+        assert_eq!(rt; gone.is_empty(), tick < 15, "tick {tick}");
+    }
+    assert_eq!(rt; gone.as_slice(), [peer(1), peer(3)].as_slice());
+    assert_eq!(rt; neighbours.at(0), Some(peer(2)));
+    assert_eq!(rt; neighbours.at(1), None);
+    neighbours.tick(u64::MAX, &mut gone);
+    assert!(rt; gone.is_empty());
+    Ok(())
+}
+
+#[test]
+fn no_room_for_a_65th(rt: HostRuntime) -> Result<(), Fail> {
+    let mut neighbours = Neighbours::new(rt.alloc())?;
+    for last in (0..64).rev() {
+        neighbours.hello(0, peer(last), false, Seqno(0), 400)?;
+    }
+    assert_eq!(rt;
+        neighbours.hello(0, peer(64), false, Seqno(0), 400),
+        Err(Full)
+    );
+    assert!(rt; !neighbours.known(peer(64)));
+    assert_eq!(rt;
+        neighbours.hello(0, peer(63), false, Seqno(1), 400),
+        Ok(Heard::Kept)
+    );
+    assert_eq!(rt; neighbours.rxcost(peer(63), NOMINAL), NOMINAL);
+    assert_eq!(rt; neighbours.cost(peer(64), NOMINAL), Metric::INFINITE);
+    assert_eq!(rt; neighbours.rxcost(peer(64), NOMINAL), Metric::INFINITE);
+    let mut peers = neighbours.peers();
+    for last in 0..64 {
+        assert_eq!(rt; peers.next(), Some(peer(last)));
+        assert_eq!(rt; neighbours.at(usize::from(last)), Some(peer(last)));
+    }
+    assert_eq!(rt; peers.next(), None);
+    assert_eq!(rt; neighbours.at(64), None);
+    Ok(())
+}

@@ -1,0 +1,8 @@
+pub mod Entries
+pub mod Insertions
+pub mod Places
+pub mod Digits
+pub mod Distances
+pub mod Sources
+pub mod SourceLaws
+pub mod Example

@@ -1,0 +1,32 @@
+//! The tables of a Babel speaker (RFC 8966, section 3.2): a table over any key, and on it the source
+//! table.
+//!
+//! A table takes its whole room when it is made. Afterwards no call takes memory.
+#![tactic(auto)]
+
+mod errors;
+mod held;
+mod keys;
+mod laws;
+mod plain;
+mod sorted;
+mod sources;
+mod steps;
+mod table;
+mod walk;
+
+pub use errors::{Full, Memory};
+pub use held::Held;
+pub use keys::Key;
+pub use laws::{pairs_of_sources, places_count_lesser_keys};
+pub use plain::PlainTable;
+pub use sorted::SortedTable;
+pub use sources::{COLLECTION_TIME, SOURCE_PLACES, SourceTable, Sources, SourcesOver};
+pub use steps::Steps;
+pub use table::{Table, find_in};
+pub use walk::{Revision, revise_all};
+
+#[cfg(test)]
+mod rows;
+#[cfg(test)]
+mod tests;

@@ -1,0 +1,173 @@
+//! The source table (RFC 8966, section 3.2.5).
+
+ghost use Rattle.std.specs.Prelude.{◌≡◌, ◌+◌, ◌≤◌, ◌↔◌, [], length, slice_get, option_map, IfOk, OnOk, OnErr, IsErr, IsNone, IsTrue};
+ghost use Rattle.std.specs.FinMap.{find, is_sorted};
+ghost use Rattle.babel_value.specs.Orders.{source_cmp};
+ghost use Rattle.babel_route.specs.Digits.{binary_digits};
+ghost use Rattle.babel_route.specs.Distances.{is_feasible, improves_on, better_pair};
+ghost use Rattle.babel_route.specs.Sources.{pair_of, lowered, collected, collected_entry};
+
+use crate::table::find_in;
+use crate::walk::{Revision, revise_all};
+use crate::{Full, Held, Memory, SortedTable, Steps, Table};
+use babel_value::{Distance, Source};
+use std::alloc::Global;
+use std::marker::Model;
+use std::sync::ledger::Ledger;
+
+/// How many sources a source table has room for.
+pub const SOURCE_PLACES: usize = 512;
+
+/// How long after the last update that named a source was sent its entry is collected, in
+/// centiseconds (RFC 8966, appendix B: 3 minutes).
+pub const COLLECTION_TIME: u64 = 18_000;
+
+/// The source table: for each source its feasibility distance, in a table of the type `T`.
+#[derive(Drop)]
+pub struct SourcesOver<T: Table<Source, Held>> {
+    table: T,
+}
+
+/// The table that the source table is kept in.
+pub type SourceTable = SortedTable<Source, Held>;
+
+/// The source table of a speaker.
+pub type Sources = SourcesOver<SourceTable>;
+
+impl<T: Table<Source, Held>> Model for SourcesOver<T> {
+    ghost use Rattle.std.specs.Prelude.{◌≡◌};
+    ghost use Rattle.babel_route.specs.Sources.{Sources};
+
+    ghost Value = { Sources };
+
+    ghost view = { λ s. T.entries s.table };
+
+    ghost invariant = { λ s. T.room s.table ≡ 512 };
+}
+
+impl<T: Table<Source, Held>> SourcesOver<T> {
+    /// An empty source table, with its whole room.
+    pub fn new(alloc: Global) -> Result<SourcesOver<T>, Memory>
+        ensures { IfOk result (λ sources. sources ≡ []) }
+    {
+        let table = T::with_room(alloc, SOURCE_PLACES)?;
+        Ok(SourcesOver { table })
+    }
+
+    /// The pair of a source, with the steps of the look-up counted.
+    pub fn look_up<L: Ledger>(&self, source: &Source, steps: &mut Steps<L>) -> Option<Distance>
+        ensures value { result ≡ pair_of source.now self.now }
+        ensures cost { steps.new ≤ steps.old + T.most_steps (length self.now) }
+    {
+        self.table.get(source, steps).map(|held| held.distance)
+    }
+
+    /// The pair of a source.
+    pub fn pair(&self, source: &Source) -> Option<Distance>
+        ensures { result ≡ pair_of source.now self.now }
+    {
+        find_in(&self.table, source).map(|held| held.distance)
+    }
+
+    /// How many sources have an entry.
+    pub fn len(&self) -> usize
+        ensures len { result ≡ length self.now }
+        ensures within { result ≤ SOURCE_PLACES }
+        ensures in_order { IsTrue (is_sorted source_cmp self.now) }
+    {
+        self.table.len()
+    }
+
+    /// The source that has exactly `place` lesser ones, and its pair.
+    pub fn at(&self, place: usize) -> Option<(Source, Distance)>
+        ensures { result ≡ option_map (λ entry. (entry.0, entry.1.distance)) (slice_get self.now place) }
+    {
+        self.table
+            .at(place)
+            .map(|entry| (entry.0, entry.1.distance))
+    }
+
+    /// Whether an update for the source is feasible (RFC 8966, section 3.5.1), by its advertised
+    /// metric.
+    pub fn feasible(&self, source: Source, update: Distance) -> bool
+        ensures { result ≡ is_feasible (pair_of source self.now) update }
+    {
+        let metric = update.metric;
+        let improves = improves(self.pair(&source), update);
+        !metric.is_finite() || improves
+    }
+
+    /// Records that an update for the source is sent now with this distance (RFC 8966, section
+    /// 3.7.3): the source's pair becomes the better of the two, and its time of collection is set
+    /// anew. `Full` exactly where the source has no entry and the table is full.
+    pub fn lower(&mut self, now: u64, source: Source, sent: Distance) -> Result<(), Full>
+        ensures full { IsErr result ↔ (IsNone (find source_cmp source self.old) × (length self.old ≡ SOURCE_PLACES)) }
+        ensures ok { OnOk result (self.new ≡ lowered now source sent self.old) }
+        ensures err { OnErr result (self.new ≡ self.old) }
+    {
+        let held = Held {
+            distance: better_of(self.pair(&source), sent),
+            due: now.saturating_add(COLLECTION_TIME),
+        };
+        self.table.put(source, held)
+    }
+
+    /// Removes each entry whose time of collection has come (RFC 8966, section 3.2.5).
+    pub fn collect(&mut self, now: u64)
+        ensures { self.new ≡ collected now self.old }
+    {
+        revise_all(&mut self.table, &Collection { now });
+    }
+}
+
+impl SourcesOver<SourceTable> {
+    /// The pair of a source. The look-up takes at most as many steps as the number of entries has
+    /// binary digits.
+    pub fn get<L: Ledger>(&self, source: &Source, steps: &mut Steps<L>) -> Option<Distance>
+        ensures value { result ≡ pair_of source.now self.now }
+        ensures cost { steps.new ≤ steps.old + binary_digits (length self.now) }
+    {
+        self.look_up(source, steps)
+    }
+}
+
+/// Whether an update is better than the pair of its source, if it has one.
+fn improves(pair: Option<Distance>, update: Distance) -> bool
+    ensures { result ≡ improves_on pair update }
+{
+    match pair {
+        Some(pair) => update.better(pair),
+        None => true,
+    }
+}
+
+/// The better of a source's pair, if it has one, and a distance that is sent.
+fn better_of(pair: Option<Distance>, sent: Distance) -> Distance
+    ensures { result ≡ better_pair pair sent }
+{
+    match pair {
+        Some(pair) => {
+            let (old, new) = (pair, sent);
+            if sent.better(pair) { new } else { old }
+        }
+        None => sent,
+    }
+}
+
+/// The collection at a moment.
+#[derive(Drop)]
+struct Collection {
+    now: u64,
+}
+
+impl Revision<Source, Held> for Collection {
+    ghost revised = { λ collection. collected_entry collection.now };
+
+    fn revise(&self, _source: &Source, held: &Held) -> Option<Held> {
+        if self.now >= held.due {
+            None
+        } else {
+            Some(*held)
+        }
+    }
+}

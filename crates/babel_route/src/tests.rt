@@ -1,0 +1,235 @@
+//! Rows worked by hand, and each call once where it succeeds.
+
+ghost use Rattle.std.specs.Prelude.{◌≡◌, ◌<◌};
+ghost use Rattle.babel_route.specs.Sources.{pair_of};
+
+use super::*;
+use babel_value::{Addr, Distance, Metric, Prefix, RouterId, Seqno, Source};
+use std::alloc::Global;
+use std::marker::Brand;
+use std::sync::ledger::{Blank, Ledger};
+use std::test::Fail;
+
+/// The pair of a sequence number and a metric.
+fn pair(seqno: u16, metric: u16) -> Distance {
+    Distance {
+        seqno: Seqno(seqno),
+        metric: Metric(metric),
+    }
+}
+
+/// The source of 10.high.low.0/24 that router 1 announces.
+fn source(high: u8, low: u8) -> Result<Source, Fail> {
+    let prefix = Prefix::new(Addr::V4([10, high, low, 0]), 24).ok_or("at most 32")?;
+    let router = RouterId::new([0, 0, 0, 0, 0, 0, 0, 1]).ok_or("not reserved")?;
+    Ok(Source { prefix, router })
+}
+
+/// A look-up whose steps are counted.
+fn counted<L: Ledger>(sources: &Sources, source: &Source, blank: Blank) -> Option<Distance>
+    requires name { blank.name ≡ L.name }
+    requires parts { blank.parts ≡ L.parts }
+    requires several { 0 < blank.parts }
+    ensures { result ≡ pair_of source.now sources.now }
+{
+    let mut steps = Steps::<L>::open(blank);
+    sources.get(source, &mut steps)
+}
+
+#[test]
+fn feasible_updates(rt: HostRuntime) -> Result<(), Fail> {
+    let cases = [
+        ((5, 96), (5, 95), true),
+        ((5, 96), (5, 96), false),
+        ((5, 96), (6, 60000), true),
+        ((5, 96), (4, 0), false),
+        ((5, 96), (4, 65535), true),
+        ((65535, 10), (0, 500), true),
+        ((32767, 96), (0, 0), false),
+    ];
+    let there = source(1, 0)?;
+    for ((seqno, metric), (new_seqno, new_metric), feasible) in cases {
+        let mut sources = Sources::new(rt.alloc())?;
+        assert!(rt; sources.feasible(there, pair(new_seqno, new_metric)));
+        sources.lower(0, there, pair(seqno, metric))?;
+        assert_eq!(rt;
+            sources.feasible(there, pair(new_seqno, new_metric)),
+            feasible,
+            "({new_seqno}, {new_metric}) after ({seqno}, {metric})"
+        );
+        assert!(rt; sources.feasible(source(2, 0)?, pair(new_seqno, new_metric)));
+    }
+    Ok(())
+}
+
+#[test]
+fn better_pairs_are_kept(rt: HostRuntime) -> Result<(), Fail> {
+    let cases = [
+        ((5, 96), (5, 95), (5, 95)),
+        ((5, 96), (5, 97), (5, 96)),
+        ((5, 96), (6, 60000), (6, 60000)),
+        ((65535, 10), (0, 500), (0, 500)),
+        ((0, 500), (65535, 10), (0, 500)),
+        ((32767, 96), (0, 0), (32767, 96)),
+    ];
+    let there = source(1, 0)?;
+    for ((seqno, metric), (sent_seqno, sent_metric), (kept_seqno, kept_metric)) in cases {
+        let mut sources = Sources::new(rt.alloc())?;
+        sources.lower(0, there, pair(seqno, metric))?;
+        sources.lower(1, there, pair(sent_seqno, sent_metric))?;
+        let kept = Some(pair(kept_seqno, kept_metric));
+        assert_eq!(rt; sources.pair(&there), kept);
+        assert_eq!(rt; counted::<Brand>(&sources, &there, Blank::new(1)), kept);
+        assert_eq!(rt; sources.len(), 1);
+    }
+    Ok(())
+}
+
+#[test]
+fn sources_are_collected_when_due(rt: HostRuntime) -> Result<(), Fail> {
+    let mut sources = Sources::new(rt.alloc())?;
+    sources.lower(0, source(1, 0)?, pair(5, 96))?;
+    sources.lower(0, source(2, 0)?, pair(5, 96))?;
+    // It leaves the pair, and sets the time of collection anew.
+    sources.lower(1, source(2, 0)?, pair(5, 97))?;
+    sources.collect(17_999);
+    assert_eq!(rt; sources.len(), 2);
+    sources.collect(18_000);
+    assert_eq!(rt; sources.at(0), Some((source(2, 0)?, pair(5, 96))));
+    assert_eq!(rt; sources.len(), 1);
+    sources.collect(18_001);
+    assert_eq!(rt; sources.len(), 0);
+    // The sum of the moment and the time stops at the greatest moment.
+    sources.lower(u64::MAX - 1, source(1, 0)?, pair(5, 96))?;
+    sources.collect(u64::MAX - 1);
+    assert_eq!(rt; sources.len(), 1);
+    sources.collect(u64::MAX);
+    assert_eq!(rt; sources.len(), 0);
+    Ok(())
+}
+
+#[test]
+fn a_full_table_takes_known_sources(rt: HostRuntime) -> Result<(), Fail> {
+    let mut sources = Sources::new(rt.alloc())?;
+    // Two for each of 256 numbers, the greatest first.
+    for high in (0..=255).rev() {
+        sources.lower(0, source(high, 1)?, pair(1, 96))?;
+        sources.lower(0, source(high, 0)?, pair(1, 96))?;
+    }
+    assert_eq!(rt; sources.len(), 512);
+    assert_eq!(rt; sources.lower(0, source(0, 2)?, pair(1, 96)), Err(Full));
+    assert_eq!(rt; sources.len(), 512);
+    assert_eq!(rt; sources.pair(&source(0, 2)?), None);
+    sources.lower(0, source(0, 1)?, pair(2, 96))?;
+    assert_eq!(rt; sources.at(0), Some((source(0, 0)?, pair(1, 96))));
+    assert_eq!(rt; sources.at(1), Some((source(0, 1)?, pair(2, 96))));
+    assert_eq!(rt; sources.at(2), Some((source(1, 0)?, pair(1, 96))));
+    assert_eq!(rt; sources.at(511), Some((source(255, 1)?, pair(1, 96))));
+    assert_eq!(rt; sources.at(512), None);
+    Ok(())
+}
+
+/// A call of a table.
+#[derive(Clone, Copy)]
+enum Call {
+    Put(u8, u16),
+    Remove(u8),
+}
+
+/// What a table with room for three entries answers: after each call whether it was refused, how many
+/// entries there are, the look-up of one key, and the entries by place.
+fn answers<T: Table<Source, Held>>(
+    alloc: Global,
+    calls: &[Call],
+) -> Result<Vec<(bool, usize, Option<Held>, [Option<(Source, Held)>; 4])>, Fail> {
+    let mut table = T::with_room(alloc, 3)?;
+    let mut answers = Vec::new(alloc);
+    for call in calls {
+        let refused = match *call {
+            Call::Put(key, seqno) => table.put(source(key, 0)?, held(seqno)).is_err(),
+            Call::Remove(key) => {
+                table.remove(&source(key, 0)?);
+                false
+            }
+        };
+        let places = [table.at(0), table.at(1), table.at(2), table.at(3)];
+        let found = find_in(&table, &source(2, 0)?);
+        answers.push((refused, table.len(), found, places))?;
+    }
+    Ok(answers)
+}
+
+fn held(seqno: u16) -> Held {
+    Held {
+        distance: pair(seqno, 96),
+        due: 18_000,
+    }
+}
+
+#[test]
+fn both_tables_answer_alike(rt: HostRuntime) -> Result<(), Fail> {
+    let calls = [
+        Call::Remove(2),
+        Call::Put(3, 1),
+        Call::Put(1, 2),
+        Call::Put(2, 3),
+        Call::Put(4, 4),
+        Call::Put(2, 5),
+        Call::Remove(3),
+        Call::Put(0, 6),
+        Call::Put(3, 7),
+        Call::Remove(2),
+        Call::Remove(2),
+    ];
+    let sorted = answers::<SortedTable<Source, Held>>(rt.alloc(), &calls)?;
+    let plain = answers::<PlainTable<Source, Held>>(rt.alloc(), &calls)?;
+    assert_eq!(rt; sorted.as_slice(), plain.as_slice());
+    let entry = |key: u8, seqno: u16| -> Result<Option<(Source, Held)>, Fail> {
+        Ok(Some((source(key, 0)?, held(seqno))))
+    };
+    let expected = [
+        (false, 0, None, [None, None, None, None]),
+        (false, 1, None, [entry(3, 1)?, None, None, None]),
+        (false, 2, None, [entry(1, 2)?, entry(3, 1)?, None, None]),
+        (
+            false,
+            3,
+            Some(held(3)),
+            [entry(1, 2)?, entry(2, 3)?, entry(3, 1)?, None],
+        ),
+        (
+            true,
+            3,
+            Some(held(3)),
+            [entry(1, 2)?, entry(2, 3)?, entry(3, 1)?, None],
+        ),
+        (
+            false,
+            3,
+            Some(held(5)),
+            [entry(1, 2)?, entry(2, 5)?, entry(3, 1)?, None],
+        ),
+        (
+            false,
+            2,
+            Some(held(5)),
+            [entry(1, 2)?, entry(2, 5)?, None, None],
+        ),
+        (
+            false,
+            3,
+            Some(held(5)),
+            [entry(0, 6)?, entry(1, 2)?, entry(2, 5)?, None],
+        ),
+        (
+            true,
+            3,
+            Some(held(5)),
+            [entry(0, 6)?, entry(1, 2)?, entry(2, 5)?, None],
+        ),
+        (false, 2, None, [entry(0, 6)?, entry(1, 2)?, None, None]),
+        (false, 2, None, [entry(0, 6)?, entry(1, 2)?, None, None]),
+    ];
+    assert_eq!(rt; sorted.as_slice(), expected.as_slice());
+    Ok(())
+}

@@ -1,0 +1,56 @@
+-- The orders of the keys are total, and tell any two keys apart (profile).
+use Rattle.std.specs.Prelude.{◌≡◌, ℕ, List, ◌∷◌}
+use Rattle.std.proofs.Common.{refl, ap, subst}
+use Rattle.std.specs.Ordering.{nat_cmp}
+use Rattle.std.specs.Cmp.{IsTotalOrder, on_total, then_total, nat_cmp_total}
+use Rattle.std.specs.Cmp.Lexicographic.{nat_list_cmp_total}
+use Rattle.std.specs.FinMap.{IsAntisymmetric}
+use Rattle.std.proofs.lemmas.Map.Lookups.{exact_bytes, exact_unsigned, exact_pairs}
+use Rattle.babel_value.specs.declared.addresses.Addr.{Addr}
+use Rattle.babel_value.specs.declared.addresses.Addr.TheVariants.{V4, V6}
+use Rattle.babel_value.specs.Prefixes.{PrefixValue}
+use Rattle.babel_value.specs.Orders.{octets_cmp, addr_cmp, prefix_cmp, source_cmp, peer_cmp}
+
+-- The octets of an address after the number of its family, which orders addresses as lists.
+abbrev pub tagged : Addr → List ℕ
+tagged (V4 octets) = 4 ∷ octets
+tagged (V6 octets) = 6 ∷ octets
+
+pub addr_cmp-tagged : (a b : Addr) → octets_cmp (tagged a) (tagged b) ≡ addr_cmp a b
+addr_cmp-tagged (V4 a) (V4 b) = refl
+addr_cmp-tagged (V4 a) (V6 b) = refl
+addr_cmp-tagged (V6 a) (V4 b) = refl
+addr_cmp-tagged (V6 a) (V6 b) = refl
+
+pub addr_total : IsTotalOrder addr_cmp
+addr_total = subst IsTotalOrder (λ i a b. addr_cmp-tagged a b i) (on_total tagged nat_list_cmp_total)
+
+pub prefix_total : IsTotalOrder prefix_cmp
+prefix_total = then_total (on_total (λ p. p.addr) addr_total) (on_total (λ p. p.length) nat_cmp_total)
+
+pub source_total : IsTotalOrder source_cmp
+source_total = then_total (on_total (λ s. s.prefix) prefix_total) (on_total (λ s. s.router) nat_list_cmp_total)
+
+pub peer_total : IsTotalOrder peer_cmp
+peer_total = then_total (on_total (λ p. p.iface) nat_cmp_total) (on_total (λ p. p.addr) addr_total)
+
+pub addr_exact : IsAntisymmetric addr_cmp
+addr_exact (V4 a) (V4 b) tied = ap V4 (exact_bytes a b tied)
+addr_exact (V4 a) (V6 b) tied = cc
+addr_exact (V6 a) (V4 b) tied = cc
+addr_exact (V6 a) (V6 b) tied = ap V6 (exact_bytes a b tied)
+
+pub prefix_exact : IsAntisymmetric prefix_cmp
+prefix_exact a b tied =
+    let pairs = exact_pairs addr_cmp nat_cmp addr_exact exact_unsigned (a.addr, a.length) (b.addr, b.length) tied in
+    ap (λ (p : Addr × ℕ). record { addr = p.0; length = p.1 }) pairs
+
+pub source_exact : IsAntisymmetric source_cmp
+source_exact a b tied =
+    let pairs = exact_pairs prefix_cmp octets_cmp prefix_exact exact_bytes (a.prefix, a.router) (b.prefix, b.router) tied in
+    ap (λ (p : PrefixValue × List ℕ). record { prefix = p.0; router = p.1 }) pairs
+
+pub peer_exact : IsAntisymmetric peer_cmp
+peer_exact a b tied =
+    let pairs = exact_pairs nat_cmp addr_cmp exact_unsigned addr_exact (a.iface, a.addr) (b.iface, b.addr) tied in
+    ap (λ (p : ℕ × Addr). record { iface = p.0; addr = p.1 }) pairs
