@@ -5,4 +5,9 @@ pub mod Digits
 pub mod Distances
 pub mod Sources
 pub mod SourceLaws
+pub mod RouteKeys
+pub mod Routes
+pub mod Firsts
+pub mod Selections
+pub mod PrefixBounds
 pub mod Example

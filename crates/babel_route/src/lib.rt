@@ -1,25 +1,32 @@
 //! The tables of a Babel speaker (RFC 8966, section 3.2): a table over any key, and on it the source
-//! table.
+//! table and the route table with route selection.
 //!
 //! A table takes its whole room when it is made. Afterwards no call takes memory.
 #![tactic(auto)]
 
+mod costs;
+mod entries;
 mod errors;
 mod held;
 mod keys;
 mod laws;
 mod plain;
+mod ranks;
+mod route_keys;
 mod sorted;
 mod sources;
 mod steps;
 mod table;
 mod walk;
 
+pub use costs::Costs;
+pub use entries::{Entry, Selection};
 pub use errors::{Full, Memory};
 pub use held::Held;
 pub use keys::Key;
 pub use laws::{pairs_of_sources, places_count_lesser_keys};
 pub use plain::PlainTable;
+pub use route_keys::RouteKey;
 pub use sorted::SortedTable;
 pub use sources::{COLLECTION_TIME, SOURCE_PLACES, SourceTable, Sources, SourcesOver};
 pub use steps::Steps;
