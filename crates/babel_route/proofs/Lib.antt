@@ -1,3 +1,9 @@
+pub mod BeyondLemmas
+pub mod BoundLemmas
+pub mod ChoiceLemmas
 pub mod DigitLemmas
+pub mod FirstLemmas
 pub mod InsertionLemmas
 pub mod PlaceLemmas
+pub mod RoomLemmas
+pub mod RunLemmas

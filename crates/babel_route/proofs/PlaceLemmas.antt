@@ -14,7 +14,7 @@ use Rattle.std.specs.FinMap.Entries.{below_all, is_sorted-put, is_sorted-where_k
 use Rattle.babel_route.specs.Entries.{without, with_value, revised_entries, lesser_keys}
 use Rattle.babel_route.specs.Places.{are_lesser, are_greater}
 
-less : (r : Ordering) → is_lt r ≡ true → r ≡ Less
+pub less : (r : Ordering) → is_lt r ≡ true → r ≡ Less
 less Less e = refl
 less Equal e = cc
 less Greater e = cc
@@ -32,10 +32,10 @@ pub holds : (b : Bool) → b ≡ true → T b
 holds b e = subst T (sym e) tt
 
 module _ {K : Type 0} {R : K → K → Ordering} (o : IsTotalOrder R) where
-  turned : (x y : K) → R x y ≡ Less → R y x ≡ Greater
+  pub turned : (x y : K) → R x y ≡ Less → R y x ≡ Greater
   turned x y e = o.antisymm y x ∙ ap ordering_reverse e
 
-  turned_back : (x y : K) → R x y ≡ Greater → R y x ≡ Less
+  pub turned_back : (x y : K) → R x y ≡ Greater → R y x ≡ Less
   turned_back x y e = o.antisymm y x ∙ ap ordering_reverse e
 
 module _ {K V : Type 0} (R : K → K → Ordering) where
@@ -45,25 +45,25 @@ module _ {K V : Type 0} (R : K → K → Ordering) where
   tail_lesser : (k : K) (e : K × V) (es : List (K × V)) → are_lesser R k (e ∷ es) ≡ true → are_lesser R k es ≡ true
   tail_lesser k e es h = (and_parts (is_gt (R k e.0)) (are_lesser R k es) h).1
 
-  head_greater : (k : K) (e : K × V) (es : List (K × V)) → are_greater R k (e ∷ es) ≡ true → R k e.0 ≡ Less
+  pub head_greater : (k : K) (e : K × V) (es : List (K × V)) → are_greater R k (e ∷ es) ≡ true → R k e.0 ≡ Less
   head_greater k e es h = less (R k e.0) (and_parts (is_lt (R k e.0)) (are_greater R k es) h).0
 
-  tail_greater : (k : K) (e : K × V) (es : List (K × V)) → are_greater R k (e ∷ es) ≡ true → are_greater R k es ≡ true
+  pub tail_greater : (k : K) (e : K × V) (es : List (K × V)) → are_greater R k (e ∷ es) ≡ true → are_greater R k es ≡ true
   tail_greater k e es h = (and_parts (is_lt (R k e.0)) (are_greater R k es) h).1
 
   -- the first key of a list in order is below the others
-  others_greater : (e : K × V) (es : List (K × V)) → is_sorted R (e ∷ es) ≡ true → are_greater R e.0 es ≡ true
+  pub others_greater : (e : K × V) (es : List (K × V)) → is_sorted R (e ∷ es) ≡ true → are_greater R e.0 es ≡ true
   others_greater e es h = all e.0 es (and_parts (below_all R e.0 es) (is_sorted R es) h).0
     where
       all : (x : K) (es : List (K × V)) → below_all R x es ≡ true → are_greater R x es ≡ true
       all x [] h = refl
       all x (e ∷ es) h = let parts = and_parts (is_lt (R x e.0)) (below_all R x es) h in and_from (is_lt (R x e.0)) (are_greater R x es) parts.0 (all x es parts.1)
 
-  tail_sorted : (e : K × V) (es : List (K × V)) → is_sorted R (e ∷ es) ≡ true → is_sorted R es ≡ true
+  pub tail_sorted : (e : K × V) (es : List (K × V)) → is_sorted R (e ∷ es) ≡ true → is_sorted R es ≡ true
   tail_sorted e es h = (and_parts (below_all R e.0 es) (is_sorted R es) h).1
 
   -- where all are greater, so is the one at any place
-  greater_at : (x : K) (es : List (K × V)) (i : ℕ) (e : K × V) → are_greater R x es ≡ true → slice_get es i ≡ Some e → R x e.0 ≡ Less
+  pub greater_at : (x : K) (es : List (K × V)) (i : ℕ) (e : K × V) → are_greater R x es ≡ true → slice_get es i ≡ Some e → R x e.0 ≡ Less
   greater_at x [] i e all at = absurd (none-some e at)
   greater_at x (f ∷ es) zero e all at = subst (λ (g : K × V). R x g.0 ≡ Less) (same_Some f e at) (head_greater x f es all)
   greater_at x (f ∷ es) (suc i) e all at = greater_at x es i e (tail_greater x f es all) at
@@ -225,7 +225,7 @@ module _ {K V : Type 0} (R : K → K → Ordering) (o : IsTotalOrder R) where
       subst (λ (y : K × V). with_value R y.0 (f y.0 y.1) now ≡ take i old ++ revised_entries f (drop i old)) same
       (ap (with_value R x.0 (f x.0 x.1)) whole ∙ with_value_between before x behind (f x.0 x.1) (subst (λ es. is_sorted R es ≡ true) whole sorted) ∙ ap (λ es. before ++ revised_entries f es) (sym (drop_more old i e lt)))
 
-past_end : {A : Type 0} (es : List A) (i : ℕ) → slice_get es i ≡ None → length es ≤ i
+pub past_end : {A : Type 0} (es : List A) (i : ℕ) → slice_get es i ≡ None → length es ≤ i
 past_end [] i at = omega arith
 past_end (e ∷ es) zero at = absurd (none-some e (sym at))
 past_end (e ∷ es) (suc i) at = omega (arith, past_end es i at)

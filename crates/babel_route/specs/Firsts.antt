@@ -12,6 +12,12 @@ first_from order (Some found) (x ∷ xs) = first_from order (Some (if is_lt (ord
 abbrev pub first_of : {X : Type 0} → (X → X → Ordering) → List X → Option X
 first_of order xs = first_from order None xs
 
+-- The lesser of two items that may be there, the first one where neither is.
+abbrev pub lesser_of : {X : Type 0} → (X → X → Ordering) → Option X → Option X → Option X
+lesser_of order None b = b
+lesser_of order (Some a) None = Some a
+lesser_of order (Some a) (Some b) = Some (if is_lt (order b a) then b else a)
+
 -- What `first_of` means: none exactly where there is no item, else an item that none comes before.
 pub record IsFirst {X : Type 0} (order : X → X → Ordering) (xs : List X) (first : X) : Type 0 where
   pub place : ℕ

@@ -37,6 +37,7 @@ before_falls bound x y upwards below = by (prefix_cmp x y) refl upwards
     less Less e = refl
     less Equal e = cc
     less Greater e = cc
+
     by : (r : Ordering) → prefix_cmp x y ≡ r → is_gt r ≡ false → is_lt (prefix_cmp x bound) ≡ true
     by Less e h = ap is_lt (prefix_total.trans x y bound e (less (prefix_cmp y bound) below))
     by Equal e h = ap is_lt (prefix_total.congr x y bound e) ∙ below
@@ -54,6 +55,7 @@ through_falls (Some q) x y upwards below =
   where
     flip : (p : PrefixValue) → is_lt (prefix_cmp q p) ≡ is_gt (prefix_cmp p q)
     flip p = ap is_lt (prefix_total.antisymm q p) ∙ turned (prefix_cmp p q)
+
     is_not : (b : Bool) → not b ≡ true → b ≡ false
     is_not true h = sym h
     is_not false h = refl

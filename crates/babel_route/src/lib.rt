@@ -4,6 +4,9 @@
 //! A table takes its whole room when it is made. Afterwards no call takes memory.
 #![tactic(auto)]
 
+mod all_routes;
+mod bounds;
+mod choices;
 mod costs;
 mod entries;
 mod errors;
@@ -11,14 +14,19 @@ mod held;
 mod keys;
 mod laws;
 mod plain;
+mod prefix_routes;
 mod ranks;
+mod revisions;
+mod room;
 mod route_keys;
+mod routes;
 mod sorted;
 mod sources;
 mod steps;
 mod table;
 mod walk;
 
+pub use all_routes::AllRoutes;
 pub use costs::Costs;
 pub use entries::{Entry, Selection};
 pub use errors::{Full, Memory};
@@ -26,7 +34,9 @@ pub use held::Held;
 pub use keys::Key;
 pub use laws::{pairs_of_sources, places_count_lesser_keys};
 pub use plain::PlainTable;
+pub use prefix_routes::PrefixRoutes;
 pub use route_keys::RouteKey;
+pub use routes::{ROUTE_PLACES, RouteTable, Routes, RoutesOver, SelectionTable};
 pub use sorted::SortedTable;
 pub use sources::{COLLECTION_TIME, SOURCE_PLACES, SourceTable, Sources, SourcesOver};
 pub use steps::Steps;

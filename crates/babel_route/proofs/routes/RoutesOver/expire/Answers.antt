@@ -1,0 +1,11 @@
+-- An expiry takes no place.
+use Rattle.std.proofs.Common.{◌∙◌}
+use Rattle.babel_route.specs.Routes.{expired_entry}
+use Rattle.babel_route.proofs.RoomLemmas.{revised_within}
+use Rattle.babel_route.proofs.routes.RoutesOver.expire.Goals as goal
+
+pub invariant_of-self : goal.invariant_of-self
+invariant_of-self g c =
+    let old = c.self.inside in
+    let kept = c.self.invariant in
+    (c.revise_all.ensures.room ∙ kept.0, kept.1, revised_within (expired_entry c.args.now) (g.E.Table.entries old.entries) (g.E.Table.entries c.revise_all.new.table) (g.S.Table.entries old.selections) (g.met.S.Table.ordered old.selections) c.revise_all.ensures.entries kept.2)
