@@ -5,5 +5,6 @@ pub mod DigitLemmas
 pub mod FirstLemmas
 pub mod InsertionLemmas
 pub mod PlaceLemmas
+pub mod RetractionLemmas
 pub mod RoomLemmas
 pub mod RunLemmas
