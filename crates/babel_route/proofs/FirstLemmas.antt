@@ -1,14 +1,14 @@
 -- The first of a list by an order: what it is of a list whose items rise, and of two lists in a row.
-use Rattle.std.proofs.Common.{◌≡◌, Bool, true, false, not, if◌then◌else◌, List, [], ◌∷◌, ◌++◌, Option, Some, None, refl, sym, ap, ◌∙◌}
+use Rattle.std.proofs.Common.{◌≡◌, ℕ, zero, suc, Bool, true, false, not, if◌then◌else◌, List, [], ◌∷◌, ◌++◌, Option, Some, None, slice_get, refl, sym, ap, subst, ◌∙◌}
 use Rattle.std.specs.List.{list_all}
 use Rattle.std.proofs.lemmas.Bool.{and_parts, false≢true}
-use Rattle.std.proofs.lemmas.Option.{same_Some}
+use Rattle.std.proofs.lemmas.Option.{same_Some, none-some}
 use Rattle.std.proofs.lemmas.Cmp.{upto}
 use Rattle.std.specs.declared.cmp.Ordering.{Ordering}
 use Rattle.std.specs.declared.cmp.Ordering.TheVariants.{Less, Equal, Greater}
 use Rattle.std.specs.Ordering.{is_lt, is_gt, ordering_reverse}
-use Rattle.std.specs.Cmp.{IsTotalOrder}
-use Rattle.babel_route.specs.Firsts.{first_from, first_of, lesser_of}
+use Rattle.std.specs.Cmp.{IsTotalOrder, tied_itself}
+use Rattle.babel_route.specs.Firsts.{first_from, first_of, lesser_of, IsFirst, IsFirstOf}
 use Rattle.babel_route.proofs.PlaceLemmas.{less}
 
 -- the lesser of two, the earlier one where neither is
@@ -19,6 +19,11 @@ reversed : (r : Ordering) → is_lt (ordering_reverse r) ≡ is_gt r
 reversed Less = refl
 reversed Equal = refl
 reversed Greater = refl
+
+not_greater : (r : Ordering) → is_lt r ≡ true → is_gt r ≡ false
+not_greater Less h = refl
+not_greater Equal h = refl
+not_greater Greater h = sym h
 
 module _ {X : Type 0} (order : X → X → Ordering) (o : IsTotalOrder order) where
   flip : (a b : X) → is_lt (order a b) ≡ is_gt (order b a)
@@ -76,3 +81,63 @@ module _ {X : Type 0} (order : X → X → Ordering) (o : IsTotalOrder order) wh
       by : (b : Bool) → not b ≡ true → first_from order (Some x) xs ≡ Some x → first_from order (Some (if b then y else x)) xs ≡ Some x
       by true h rest = absurd (false≢true h)
       by false h rest = rest
+
+-- ---- what `first_of` means
+module _ {X : Type 0} (order : X → X → Ordering) (o : IsTotalOrder order) where
+  -- the first of what was found and the others is one of them, and none comes before it
+  is_first_of_found : (found first : X) (xs : List X) → first_from order (Some found) xs ≡ Some first → IsFirst order (found ∷ xs) first
+  is_first_of_found found first [] is = record { place = 0; at = is; before_all = none }
+    where
+      none : (i : ℕ) (x : X) → slice_get (found ∷ []) i ≡ Some x → is_lt (order x first) ≡ false
+      none zero x at = ap is_lt (subst (λ y. order x y ≡ Equal) (sym (same_Some found x at) ∙ same_Some found first is) (tied_itself o x))
+      none (suc i) x at = absurd (none-some x at)
+  is_first_of_found found first (y ∷ xs) is =
+      by (is_lt (order y found)) refl (λ (found : X) is. is_first_of_found found first xs is) is
+    where
+      after_lesser : is_lt (order y found) ≡ true → IsFirst order (y ∷ xs) first → IsFirst order (found ∷ y ∷ xs) first
+      after_lesser lt rest = record { place = suc rest.place; at = rest.at; before_all = none }
+        where
+          none : (i : ℕ) (x : X) → slice_get (found ∷ y ∷ xs) i ≡ Some x → is_lt (order x first) ≡ false
+          none zero x at =
+              let turned = flip order o found y ∙ not_greater (order y found) lt in
+              subst (λ z. is_lt (order z first) ≡ false) (same_Some found x at) (rises order o first y found (rest.before_all 0 y refl) turned)
+          none (suc i) x at = rest.before_all i x at
+
+      after_found : is_lt (order y found) ≡ false → IsFirst order (found ∷ xs) first → IsFirst order (found ∷ y ∷ xs) first
+      after_found ge rest = record { place = later rest.place; at = place_is rest.place rest.at; before_all = none }
+        where
+          later : ℕ → ℕ
+          later zero = zero
+          later (suc i) = suc (suc i)
+
+          place_is : (i : ℕ) → slice_get (found ∷ xs) i ≡ Some first → slice_get (found ∷ y ∷ xs) (later i) ≡ Some first
+          place_is zero at = at
+          place_is (suc i) at = at
+
+          none : (i : ℕ) (x : X) → slice_get (found ∷ y ∷ xs) i ≡ Some x → is_lt (order x first) ≡ false
+          none zero x at = rest.before_all 0 x at
+          none (suc zero) x at = subst (λ z. is_lt (order z first) ≡ false) (same_Some y x at) (rises order o first found y (rest.before_all 0 found refl) ge)
+          none (suc (suc i)) x at = rest.before_all (suc i) x at
+
+      by : (b : Bool) → is_lt (order y found) ≡ b → ((found : X) → first_from order (Some found) xs ≡ Some first → IsFirst order (found ∷ xs) first) → first_from order (Some (if b then y else found)) xs ≡ Some first → IsFirst order (found ∷ y ∷ xs) first
+      by true lt rest is = after_lesser lt (rest y is)
+      by false ge rest is = after_found ge (rest found is)
+
+  pub is_first : (xs : List X) (first : X) → first_of order xs ≡ Some first → IsFirst order xs first
+  is_first [] first is = absurd (none-some first is)
+  is_first (x ∷ xs) first is = is_first_of_found x first xs is
+
+  some_first : (x : X) (xs : List X) → (c : X) × (first_from order (Some x) xs ≡ Some c)
+  some_first x [] = (x, refl)
+  some_first x (y ∷ xs) = some_first (if is_lt (order y x) then y else x) xs
+
+  pub none_first : (xs : List X) → first_of order xs ≡ None → xs ≡ []
+  none_first [] is = refl
+  none_first (x ∷ xs) is = let c = some_first x xs in absurd (none-some c.0 (sym is ∙ c.1))
+
+  pub first_is_first : (xs : List X) → IsFirstOf order xs (first_of order xs)
+  first_is_first xs = by (first_of order xs) refl
+    where
+      by : (o : Option X) → first_of order xs ≡ o → IsFirstOf order xs o
+      by None is = none_first xs is
+      by (Some first) is = is_first xs first is

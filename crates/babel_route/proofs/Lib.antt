@@ -8,3 +8,5 @@ pub mod PlaceLemmas
 pub mod RetractionLemmas
 pub mod RoomLemmas
 pub mod RunLemmas
+pub mod SelectionLookups
+pub mod StandLemmas

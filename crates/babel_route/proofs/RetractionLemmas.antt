@@ -1,5 +1,5 @@
 -- A retraction of all that a neighbour told changes nothing where it told nothing.
-use Rattle.std.proofs.Common.{◌≡◌, ℕ, Bool, true, false, ◌||◌, cond, [], ◌∷◌, if◌then◌else◌, refl, sym, ap}
+use Rattle.std.proofs.Common.{◌≡◌, ℕ, Bool, true, false, ◌||◌, [], ◌∷◌, if◌then◌else◌, refl, sym, ap}
 use Rattle.std.proofs.lemmas.Bool.{false≢true}
 use Rattle.babel_value.specs.declared.keys.Peer.{Peer}
 use Rattle.babel_route.specs.Routes.{RouteEntries, is_from, has_routes_from, retracted_entry, retracted_all}

@@ -1,8 +1,8 @@
 -- The places that are taken: no revision, update or reselection takes more than it should, since each selection has a prefix of its own.
 use Rattle.std.proofs.Math.Bool.{or-true}
 use Rattle.std.proofs.lemmas.Bool.{false≢true}
-use Rattle.std.proofs.Common.{◌≡◌, ℕ, zero, suc, ◌+◌, ◌≤◌, ◌<◌, Bool, true, false, cond, not, ◌||◌, List, [], ◌∷◌, length, drop, filter, slice_get, Option, Some, None, IsNone, IsSome, is_some, refl, sym, ap, subst, ◌∙◌, arith, add-one}
-use Rattle.std.specs.List.{list_any, cons_option}
+use Rattle.std.proofs.Common.{◌≡◌, ℕ, zero, suc, ◌+◌, ◌≤◌, ◌<◌, Bool, true, false, cond, not, ◌||◌, [], ◌∷◌, length, drop, filter, slice_get, Option, Some, None, IsNone, IsSome, is_some, refl, sym, ap, subst, ◌∙◌, arith, add-one}
+use Rattle.std.specs.List.{cons_option}
 use Rattle.std.specs.Option.{option_map, option_map_or}
 use Rattle.std.specs.declared.cmp.Ordering.{Ordering}
 use Rattle.std.specs.declared.cmp.Ordering.TheVariants.{Less, Equal, Greater}

@@ -10,4 +10,5 @@ pub mod Routes
 pub mod Firsts
 pub mod Selections
 pub mod PrefixBounds
+pub mod RouteLaws
 pub mod Example

@@ -1,5 +1,4 @@
 -- The order of the route table's entries (profile): by prefix, then neighbour.
-use Rattle.std.specs.Prelude.{◌≡◌}
 use Rattle.std.proofs.Common.{ap}
 use Rattle.std.specs.declared.cmp.Ordering.{Ordering}
 use Rattle.std.specs.Ordering.{ordering_then}

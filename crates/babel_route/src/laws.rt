@@ -4,6 +4,7 @@ ghost use Rattle.std.specs.Prelude.{◌≡◌, ℕ, List, Some, IsTrue, slice_ge
 ghost use Rattle.std.specs.FinMap.{is_sorted};
 ghost use Rattle.babel_route.specs.Entries.{lesser_keys};
 ghost use Rattle.babel_route.specs.SourceLaws.{LowersOneSource, CollectsWhatIsDue};
+ghost use Rattle.babel_route.specs.RouteLaws.{UpdatesOneRoute, RetractsOneRoute, ChangesEachRoute, ChoosesTheFirst, ChoosesACandidate, ReselectsOnePrefix, AllStand};
 
 use crate::Key;
 
@@ -17,4 +18,24 @@ pub fn places_count_lesser_keys<K: Key, V: Copy>()
 pub fn pairs_of_sources()
     ensures lowers { LowersOneSource }
     ensures collects { CollectsWhatIsDue }
+{}
+
+/// What updates, retractions, flushes and expiry make of each route.
+pub fn routes_by_their_keys()
+    ensures updates { UpdatesOneRoute }
+    ensures retracts { RetractsOneRoute }
+    ensures changes { ChangesEachRoute }
+{}
+
+/// What is chosen: the candidate that no other comes before, which is an entry of the table.
+pub fn choices_are_first()
+    ensures first { ChoosesTheFirst }
+    ensures candidate { ChoosesACandidate }
+{}
+
+/// What reselections leave: after each prefix was reselected, the selection of each is that of the
+/// definition.
+pub fn selections_stand()
+    ensures one { ReselectsOnePrefix }
+    ensures all { AllStand }
 {}

@@ -32,7 +32,10 @@ pub use entries::{Entry, Selection};
 pub use errors::{Full, Memory};
 pub use held::Held;
 pub use keys::Key;
-pub use laws::{pairs_of_sources, places_count_lesser_keys};
+pub use laws::{
+    choices_are_first, pairs_of_sources, places_count_lesser_keys, routes_by_their_keys,
+    selections_stand,
+};
 pub use plain::PlainTable;
 pub use prefix_routes::PrefixRoutes;
 pub use route_keys::RouteKey;

@@ -1,8 +1,8 @@
 //! The route table and route selection (RFC 8966, sections 3.2.6, 3.5 and 3.6).
 
-ghost use Rattle.std.specs.Prelude.{◌≡◌, ◌↔◌, ◌≤◌, ◌<◌, [], length, slice_get, option_map, IfOk, OnOk, OnErr, IsErr, IsNone, is_some, map};
+ghost use Rattle.std.specs.Prelude.{◌≡◌, ◌↔◌, ◌≤◌, ◌<◌, [], length, slice_get, option_map, IfOk, OnOk, OnErr, IsErr, IsNone, IsTrue, is_some, map};
 ghost use Rattle.std.specs.List.{filter};
-ghost use Rattle.std.specs.FinMap.{find};
+ghost use Rattle.std.specs.FinMap.{find, is_sorted};
 ghost use Rattle.babel_value.specs.Orders.{prefix_cmp};
 ghost use Rattle.babel_route.specs.RouteKeys.{route_cmp};
 ghost use Rattle.babel_route.specs.Routes.{key_of, updated, retracted, retracted_all, has_routes_from, forgotten, expired};
@@ -73,7 +73,6 @@ impl<E: Table<RouteKey, Entry>, S: Table<Prefix, Selection>> RoutesOver<E, S> {
     /// neighbour told of the prefix. `Full` exactly where the neighbour told nothing of the prefix and
     /// all places are taken: one for each entry, and one for each prefix that has a selection but no
     /// entry.
-    #[allow(clippy::too_many_arguments)]
     pub fn update(
         &mut self,
         now: u64,
@@ -149,6 +148,16 @@ impl<E: Table<RouteKey, Entry>, S: Table<Prefix, Selection>> RoutesOver<E, S> {
         ensures { self.new ≡ record self.old { entries = expired now self.old.entries } }
     {
         revise_all(&mut self.entries, &Expiry { now });
+    }
+
+    /// How many entries there are.
+    pub fn len(&self) -> usize
+        ensures len { result ≡ length self.now.entries }
+        ensures within { places_taken self.now ≤ ROUTE_PLACES }
+        ensures in_order { IsTrue (is_sorted route_cmp self.now.entries) }
+        ensures selections_in_order { IsTrue (is_sorted prefix_cmp self.now.selections) }
+    {
+        self.entries.len()
     }
 
     /// The route that exactly `place` others come before.

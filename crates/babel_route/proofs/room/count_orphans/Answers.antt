@@ -1,5 +1,5 @@
 -- The selection at the place is counted where its prefix has no entry.
-use Rattle.std.proofs.Common.{true, false, sym, ◌∙◌, arith}
+use Rattle.std.proofs.Common.{true, false, sym, arith}
 use Rattle.babel_route.proofs.RoomLemmas.{orphans_from}
 use Rattle.babel_route.proofs.room.count_orphans.Goals.{then-is_orphan, else-is_orphan}
 use Rattle.babel_route.proofs.room.count_orphans.Goals as goal

@@ -1,5 +1,5 @@
 -- The selection at the place is the first beyond the bound.
-use Rattle.std.proofs.Common.{sym, ap, ◌∙◌}
+use Rattle.std.proofs.Common.{sym}
 use Rattle.babel_value.specs.Orders.{prefix_cmp}
 use Rattle.babel_route.proofs.BeyondLemmas.{prefix_rises, least_beyond, none_beyond}
 use Rattle.babel_route.proofs.routes.selected_prefix_after.Goals as goal
