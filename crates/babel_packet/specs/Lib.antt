@@ -15,4 +15,7 @@ pub mod Requests
 pub mod Texts
 pub mod Meaning
 pub mod Latest
+pub mod Payloads
+pub mod Sayable
+pub mod Says
 pub mod Running

@@ -3,14 +3,14 @@
 ghost use Rattle.std.specs.Prelude.{◌≡◌, ◌≤◌, ◌+◌, length};
 ghost use Rattle.babel_packet.specs.Addresses as addresses;
 
-/// The wildcard: no address.
-pub(crate) const AE_WILDCARD: u8 = 0;
-/// 4 octets.
-pub(crate) const AE_IPV4: u8 = 1;
-/// 16 octets.
-pub(crate) const AE_IPV6: u8 = 2;
-/// The last 8 octets of an address in fe80::/64.
-pub(crate) const AE_LINK_LOCAL: u8 = 3;
+/// The encoding of the wildcard: no address (RFC 8966, section 4.1.4).
+pub const AE_WILDCARD: u8 = 0;
+/// The encoding of an IPv4 address: 4 octets.
+pub const AE_IPV4: u8 = 1;
+/// The encoding of an IPv6 address: 16 octets.
+pub const AE_IPV6: u8 = 2;
+/// The encoding of an IPv6 address in fe80::/64: its last 8 octets.
+pub const AE_LINK_LOCAL: u8 = 3;
 
 /// The IPv4 address from this place on.
 #[inline]

@@ -22,34 +22,35 @@ use babel_value::Addr;
 use std::alloc::Global;
 
 /// The first octet of each datagram (RFC 8966, section 4.2).
-const MAGIC: u8 = 42;
+pub const MAGIC: u8 = 42;
 /// The second.
-const VERSION: u8 = 2;
+pub const VERSION: u8 = 2;
 /// Magic, version, and the length of the body.
-const HEADER_LEN: usize = 4;
+pub const HEADER_LEN: usize = 4;
 
-/// The types of TLVs (RFC 8966, section 4.6).
+/// The types of TLVs that are padding (RFC 8966, sections 4.6.1 and 4.6.2).
 const PAD1: u8 = 0;
 
 const PAD_N: u8 = 1;
 
-const ACK_REQUEST: u8 = 2;
-
-const ACK: u8 = 3;
-
-const HELLO: u8 = 4;
-
-const IHU: u8 = 5;
-
-const ROUTER_ID: u8 = 6;
-
-const NEXT_HOP: u8 = 7;
-
-const UPDATE: u8 = 8;
-
-const ROUTE_REQUEST: u8 = 9;
-
-const SEQNO_REQUEST: u8 = 10;
+/// The type of an Acknowledgment Request (RFC 8966, section 4.6.3).
+pub const ACK_REQUEST: u8 = 2;
+/// The type of an Acknowledgment (RFC 8966, section 4.6.4).
+pub const ACK: u8 = 3;
+/// The type of a Hello (RFC 8966, section 4.6.5).
+pub const HELLO: u8 = 4;
+/// The type of an I Heard You (RFC 8966, section 4.6.6).
+pub const IHU: u8 = 5;
+/// The type of a Router-Id (RFC 8966, section 4.6.7).
+pub const ROUTER_ID: u8 = 6;
+/// The type of a Next Hop (RFC 8966, section 4.6.8).
+pub const NEXT_HOP: u8 = 7;
+/// The type of an Update (RFC 8966, section 4.6.9).
+pub const UPDATE: u8 = 8;
+/// The type of a Route Request (RFC 8966, section 4.6.10).
+pub const ROUTE_REQUEST: u8 = 9;
+/// The type of a Seqno Request (RFC 8966, section 4.6.11).
+pub const SEQNO_REQUEST: u8 = 10;
 
 /// About as many octets as a TLV takes: how large a list is made at first.
 const USUAL_TLV_LEN: usize = 12;

@@ -23,8 +23,9 @@ mod tails;
 mod texts;
 mod updates;
 
-pub use decoding::decode;
-pub use laws::looks_back;
+pub use addresses::{AE_IPV4, AE_IPV6, AE_LINK_LOCAL, AE_WILDCARD};
+pub use decoding::{ACK, ACK_REQUEST, HEADER_LEN, HELLO, IHU, MAGIC, NEXT_HOP, ROUTER_ID, ROUTE_REQUEST, SEQNO_REQUEST, UPDATE, VERSION, decode};
+pub use laws::{looks_back, says_one_more};
 pub use messages::Message;
 pub use placements::{Content, Placed, Reason};
 pub use refusals::Refusal;

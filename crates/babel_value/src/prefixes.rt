@@ -54,7 +54,8 @@ impl Prefix {
 
     /// The address, with the bits past the length zero.
     pub fn addr(&self) -> Addr
-        ensures { result ≡ self.now.addr }
+        ensures value { result ≡ self.now.addr }
+        ensures clear { cleared_addr self.now.length result ≡ result }
     {
         self.addr
     }

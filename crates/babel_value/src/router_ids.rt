@@ -1,7 +1,7 @@
 //! Router-ids (RFC 8966, section 4.1.3).
 
-ghost use Rattle.std.specs.Prelude.{◌≡◌, Some};
-ghost use Rattle.babel_value.specs.RouterIds.{router_id_of};
+ghost use Rattle.std.specs.Prelude.{◌≡◌, Some, false};
+ghost use Rattle.babel_value.specs.RouterIds.{router_id_of, is_reserved};
 ghost use Rattle.babel_value.specs.Texts.{router_text};
 
 use std::fmt;
@@ -40,7 +40,8 @@ impl RouterId {
 
     /// The octets, in the order of the wire.
     pub fn octets(self) -> [u8; 8]
-        ensures { result ≡ self }
+        ensures value { result ≡ self }
+        ensures named { is_reserved result ≡ false }
     {
         self.octets
     }

@@ -1,0 +1,59 @@
+-- What a body says, and what a datagram means, to those who ask for the messages alone (RFC 8966, sections 4.2 and 4.5).
+use Rattle.std.specs.Prelude.{◌≡◌, ℕ, List, [], ◌∷◌, ◌++◌, reverse, length, Bool, true, false, not, Option, Some, None, Result, Ok}
+use Rattle.std.specs.List.{list_all}
+use Rattle.babel_value.specs.declared.addresses.Addr.{Addr}
+use Rattle.babel_value.specs.declared.addresses.Addr.TheVariants.{V4, V6}
+use Rattle.babel_tlv.specs.Split.{places_of, fault_of}
+use Rattle.babel_packet.specs.declared.messages.Message.{Message}
+use Rattle.babel_packet.specs.declared.messages.Message.TheVariants as messages
+use Rattle.babel_packet.specs.declared.placements.Content.{Content}
+use Rattle.babel_packet.specs.declared.placements.Content.TheVariants as contents
+use Rattle.babel_packet.specs.declared.placements.Placed.{Placed}
+use Rattle.babel_packet.specs.LookBack.{Standing, before}
+use Rattle.babel_packet.specs.Meaning.{placed_from, messages_of, meaning}
+use Rattle.babel_packet.specs.Payloads.{two, octets}
+
+-- a place that isn't ignored
+abbrev pub is_heeded : Content → Bool
+is_heeded (contents.Ignored reason) = false
+is_heeded content = true
+
+abbrev pub are_heeded : List Placed → Bool
+are_heeded placed = list_all (λ (p : Placed). is_heeded p.content) placed
+
+-- the content of each place of a body, and what its places say of those behind it
+abbrev pub told : Addr → List ℕ → List Placed
+told source body = placed_from source [] (places_of body)
+
+abbrev pub stands : Addr → List ℕ → Standing
+stands source body = before source (reverse (places_of body))
+
+-- A body says these messages to who gets it from this source address: its TLVs are whole, the messages are theirs, in order, and none of its
+-- places is ignored.
+pub record Says (source : Addr) (body : List ℕ) (messages : List Message) : Type 0 where
+  pub whole : fault_of body ≡ None
+  pub said : messages_of (told source body) ≡ messages
+  pub heeded : are_heeded (told source body) ≡ true
+
+-- A datagram means these messages to who gets it from this source address: it isn't refused, the messages are those of its places, in order,
+-- and none of its places is ignored.
+pub record Means (bytes : List ℕ) (source : Addr) (messages : List Message) : Type 0 where
+  pub placed : List Placed
+  pub read : meaning bytes source ≡ Ok placed
+  pub said : messages_of placed ≡ messages
+  pub heeded : are_heeded placed ≡ true
+
+-- magic 42, version 2 and the length of the body stand before it (section 4.2)
+abbrev pub datagram : List ℕ → List ℕ
+datagram body = 42 ∷ 2 ∷ (two (length body) ++ body)
+
+-- the next hop that stands for the family of this address
+abbrev pub hop_for : Addr → Standing → Option (List ℕ)
+hop_for (V4 o) d = d.hop4
+hop_for (V6 o) d = d.hop6
+
+-- What an Update takes from the TLVs before it stands: its router-id and its next hop. Other messages take nothing.
+abbrev pub Provides : Standing → Message → Type 0
+Provides d (messages.Update prefix router next_hop seqno metric interval) =
+    (d.router ≡ Some router) × (hop_for next_hop d ≡ Some (octets next_hop))
+Provides d message = Unit {0}
