@@ -3,10 +3,10 @@
 ghost use Rattle.std.specs.Prelude.{◌≡◌, ◌≤◌, take, drop, length};
 ghost use Rattle.babel_value.specs.Addresses.{width_of};
 ghost use Rattle.babel_packet.specs.Prefixes.{octets_of as octets_taken};
-ghost use Rattle.babel_packet.specs.Payloads.{two, octets, is_link_local as is_in_link_local, encoding, encoded, prefix_encoding};
+ghost use Rattle.babel_packet.specs.Payloads.{two, octets, is_link_local as is_in_link_local, encoding, encoded, prefix_encoding as family_encoding};
 
 use babel_packet::{AE_IPV4, AE_IPV6, AE_LINK_LOCAL};
-use babel_value::Addr;
+use babel_value::{Addr, Prefix};
 use byteorder::{BigEndian, ByteOrder};
 
 /// The first 8 octets of link-local addresses, fe80::/64.
@@ -44,18 +44,27 @@ fn is_link_local(octets: &[u8; 16]) -> bool
     octets[..8] == LINK_LOCAL[..]
 }
 
-/// The encoding of a prefix, and its octets: those that its length reaches into (RFC 8966, section
-/// 4.1.5).
+/// The encoding of a prefix (RFC 8966, section 4.1.5).
 #[inline]
-pub(crate) fn prefix_encoded(addr: &Addr, bits: u8) -> (u8, &[u8])
+pub(crate) fn prefix_encoding(prefix: &Prefix) -> u8
+    ensures { result ≡ family_encoding prefix.now.addr }
+{
+    match prefix.addr() {
+        Addr::V4(_) => AE_IPV4,
+        Addr::V6(_) => AE_IPV6,
+    }
+}
+
+/// The octets of an address that a prefix of this length reaches into (RFC 8966, section 4.1.5).
+#[inline]
+pub(crate) fn reached(addr: &Addr, bits: u8) -> &[u8]
     requires { bits ≤ width_of addr.now }
-    ensures encoding { result.0 ≡ prefix_encoding addr.now }
-    ensures octets { result.1.now ≡ take (octets_taken bits) (octets addr.now) }
-    ensures short { length result.1.now ≤ 16 }
+    ensures octets { result.now ≡ take (octets_taken bits) (octets addr.now) }
+    ensures short { length result.now ≤ 16 }
 {
     let taken = (bits as usize + 7) / 8;
     match addr {
-        Addr::V4(octets) => (AE_IPV4, &octets[..taken]),
-        Addr::V6(octets) => (AE_IPV6, &octets[..taken]),
+        Addr::V4(octets) => &octets[..taken],
+        Addr::V6(octets) => &octets[..taken],
     }
 }

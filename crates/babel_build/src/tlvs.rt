@@ -1,14 +1,14 @@
 //! Each TLV, appended to a datagram where it fits (RFC 8966, section 4.6).
 
-ghost use Rattle.std.specs.Prelude.{◌≡◌, ◌<◌, ◌≤◌, [], ◌++◌, length};
+ghost use Rattle.std.specs.Prelude.{◌≡◌, ◌<◌, ◌≤◌, [], ◌∷◌, ◌++◌, length};
 ghost use Rattle.std.specs.Bool.{OnTrue, OnFalse};
 ghost use Rattle.babel_tlv.specs.Spelling.{spelled};
 ghost use Rattle.babel_packet.specs.declared.messages.Message.TheVariants as messages;
-ghost use Rattle.babel_packet.specs.Payloads.{router_id_payload, next_hop_payload, update_payload, prefix_encoding, prefix_written};
+ghost use Rattle.babel_packet.specs.Payloads.{router_id_payload, next_hop_payload, two, update_payload, prefix_encoding, prefix_written};
 ghost use Rattle.babel_build.specs.Plain.{tlv_of};
 ghost use Rattle.babel_build.specs.Built.{is_room};
 
-use crate::fields::{encoded, octets_of, prefix_encoded};
+use crate::fields::{encoded, octets_of, prefix_encoding, reached};
 use arrayvec::ArrayVec;
 use babel_packet::{
     ACK, ACK_REQUEST, AE_WILDCARD, HELLO, IHU, NEXT_HOP, ROUTER_ID, ROUTE_REQUEST, SEQNO_REQUEST,
@@ -42,6 +42,18 @@ fn put_tlv(datagram: &mut Datagram, kind: u8, fields: &[u8], octets: &[u8]) -> b
     let _whole = payload.try_extend_from_slice(fields).is_ok()
         && payload.try_extend_from_slice(octets).is_ok();
     put(datagram, kind, &payload)
+}
+
+/// Appends a TLV whose payload is the fields and then the octets of the prefix.
+fn put_prefixed(datagram: &mut Datagram, kind: u8, fields: &[u8], prefix: &Prefix) -> bool
+    requires kind { 0 < kind }
+    requires fields { length fields.now ≤ MAX_FIELDS_LEN }
+    ensures fits { result ≡ is_room datagram.old.items (spelled kind (fields.now ++ prefix_written prefix.now)) }
+    ensures appended { OnTrue result (datagram.new.items ≡ datagram.old.items ++ spelled kind (fields.now ++ prefix_written prefix.now)) }
+    ensures unchanged { OnFalse result (datagram.new ≡ datagram.old) }
+{
+    let addr = prefix.addr();
+    put_tlv(datagram, kind, fields, reached(&addr, prefix.length()))
 }
 
 /// Acknowledgment Request (RFC 8966, section 4.6.3).
@@ -135,10 +147,9 @@ pub(crate) fn put_update(
         ++ spelled 8 (update_payload (prefix_encoding prefix.addr) prefix.length interval seqno metric (prefix_written prefix))) }
     ensures unchanged { OnFalse result (datagram.new ≡ datagram.old) }
 {
-    let (addr, bits) = (prefix.addr(), prefix.length());
-    let (encoding, octets) = prefix_encoded(&addr, bits);
-    let fields = update_fields(encoding, bits, interval, seqno, metric);
-    put_tlv(datagram, UPDATE, &fields, octets)
+    let encoding = prefix_encoding(&prefix);
+    let fields = update_fields(encoding, prefix.length(), interval, seqno, metric);
+    put_prefixed(datagram, UPDATE, &fields, &prefix)
 }
 
 /// The Update that retracts a prefix (RFC 8966, section 4.6.9).
@@ -166,9 +177,8 @@ pub(crate) fn put_route_request(datagram: &mut Datagram, prefix: Prefix) -> bool
     ensures appended { OnTrue result (datagram.new.items ≡ datagram.old.items ++ tlv_of (messages.RouteRequest prefix)) }
     ensures unchanged { OnFalse result (datagram.new ≡ datagram.old) }
 {
-    let (addr, bits) = (prefix.addr(), prefix.length());
-    let (encoding, octets) = prefix_encoded(&addr, bits);
-    put_tlv(datagram, ROUTE_REQUEST, &[encoding, bits], octets)
+    let fields = [prefix_encoding(&prefix), prefix.length()];
+    put_prefixed(datagram, ROUTE_REQUEST, &fields, &prefix)
 }
 
 /// The Route Request for all routes (RFC 8966, section 4.6.10).
@@ -178,6 +188,17 @@ pub(crate) fn put_dump_request(datagram: &mut Datagram) -> bool
     ensures unchanged { OnFalse result (datagram.new ≡ datagram.old) }
 {
     put_tlv(datagram, ROUTE_REQUEST, &[AE_WILDCARD, 0], &[])
+}
+
+/// The fields of a Seqno Request before its prefix.
+fn seqno_request_fields(prefix: &Prefix, router: RouterId, seqno: Seqno, hops: u8) -> [u8; 14]
+    ensures { result ≡ prefix_encoding prefix.now.addr ∷ prefix.now.length ∷ (two seqno ++ (hops ∷ 0 ∷ router)) }
+{
+    let (encoding, bits) = (prefix_encoding(prefix), prefix.length());
+    let [s0, s1] = octets_of(seqno.0);
+    let mut fields = [encoding, bits, s0, s1, hops, 0, 0, 0, 0, 0, 0, 0, 0, 0];
+    fields[6..].copy_from_slice(&router.octets());
+    fields
 }
 
 /// Seqno Request (RFC 8966, section 4.6.11).
@@ -192,10 +213,6 @@ pub(crate) fn put_seqno_request(
     ensures appended { OnTrue result (datagram.new.items ≡ datagram.old.items ++ tlv_of (messages.SeqnoRequest prefix router seqno hops)) }
     ensures unchanged { OnFalse result (datagram.new ≡ datagram.old) }
 {
-    let (addr, bits) = (prefix.addr(), prefix.length());
-    let (encoding, octets) = prefix_encoded(&addr, bits);
-    let [s0, s1] = octets_of(seqno.0);
-    let [a, b, c, d, e, f, g, h] = router.octets();
-    let fields = [encoding, bits, s0, s1, hops, 0, a, b, c, d, e, f, g, h];
-    put_tlv(datagram, SEQNO_REQUEST, &fields, octets)
+    let fields = seqno_request_fields(&prefix, router, seqno, hops);
+    put_prefixed(datagram, SEQNO_REQUEST, &fields, &prefix)
 }
