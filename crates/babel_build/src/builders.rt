@@ -8,10 +8,11 @@ ghost use Rattle.babel_packet.specs.Says.{Says, Means, datagram};
 ghost use Rattle.babel_build.specs.Built.{fits, added};
 
 use crate::fields::octets_of;
+use crate::laws::plain_says;
 use crate::plain::put_message;
 use crate::tlvs::Datagram;
 use arrayvec::ArrayVec;
-use babel_packet::{HEADER_LEN, MAGIC, Message, VERSION};
+use babel_packet::{HEADER_LEN, MAGIC, Message, VERSION, says_one_more};
 use babel_tlv::DATAGRAM_LEN;
 use babel_value::Addr;
 use std::marker::Model;
@@ -40,8 +41,10 @@ impl Builder {
     /// A datagram without messages, to be sent from this address: the next hop of those of its own
     /// family that name none (RFC 8966, section 4.6.8).
     pub fn new(source: Addr) -> Builder
-        ensures { result ≡ record { source = source; body = [] } }
+        ensures empty { result ≡ record { source = source; body = [] } }
+        ensures says { Says source [] [] }
     {
+        says_one_more();
         let mut octets = ArrayVec::new();
         octets.push(MAGIC);
         octets.push(VERSION);
@@ -56,7 +59,11 @@ impl Builder {
         ensures fits { result ≡ fits self.old message.now }
         ensures added { OnTrue result (self.new ≡ added self.old message.now) }
         ensures unchanged { OnFalse result (self.new ≡ self.old) }
+        ensures says { (said : List Message) → Says self.old.source self.old.body said → IsTrue result → is_sayable message.now ≡ true
+            → Says self.new.source self.new.body (said ++ message.now ∷ []) }
+        ensures alone { self.old.body ≡ [] → IsTrue result }
     {
+        plain_says(message);
         let before = self.octets.len();
         let fits = put_message(&mut self.octets, message);
         if !fits {
@@ -68,7 +75,9 @@ impl Builder {
     /// The datagram: the header with the length of the body, and the body.
     pub fn finish(self) -> ArrayVec<u8, DATAGRAM_LEN>
         ensures octets { result.items ≡ datagram self.body }
+        ensures means { (said : List Message) → Says self.source self.body said → Means result.items self.source said }
     {
+        says_one_more();
         let mut octets = self.octets;
         let length = octets.len() - HEADER_LEN;
         let [high, low] = octets_of(length as u16);

@@ -6,6 +6,7 @@
 
 mod builders;
 mod fields;
+mod laws;
 mod plain;
 mod tlvs;
 

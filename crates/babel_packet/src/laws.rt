@@ -6,10 +6,12 @@ ghost use Rattle.babel_tlv.specs.Spelling.{spelled};
 ghost use Rattle.babel_packet.specs.declared.messages.Message.{Message};
 ghost use Rattle.babel_packet.specs.Latest.{DefaultIsLatest, RouterIsLatest, NextHopIsLatest};
 ghost use Rattle.babel_packet.specs.Payloads.{octets, router_id_payload, next_hop_payload, kind_of, payload_of};
-ghost use Rattle.babel_packet.specs.Sayable.{is_sayable, IsAddr, IsRouterId, IsMessage};
+ghost use Rattle.babel_packet.specs.Sayable.{is_sayable, AreOctets, IsAddr, IsPrefix, IsRouterId, IsMessage};
 ghost use Rattle.babel_packet.specs.Says.{Says, Means, Provides, stands, hop_for, datagram};
 
+use crate::Message;
 use babel_tlv::put_is_one_more;
+use babel_value::{Addr, Prefix, RouterId};
 
 /// What a TLV takes from those before it (RFC 8966, section 4.5): the default prefix of its encoding,
 /// the router-id, and the next hop of each family are those that the latest earlier TLV sets which
@@ -41,4 +43,62 @@ pub fn says_one_more()
         → Means (datagram body) source said }
 {
     put_is_one_more();
+}
+
+/// What the types of a message's fields say of its octets.
+#[inline]
+pub fn fields_are_whole(message: &Message)
+    ensures { IsMessage message.now }
+{
+    match message {
+        Message::Ihu { to: Some(addr), .. } => addr_is_whole(addr),
+        Message::Update {
+            prefix,
+            router,
+            next_hop,
+            ..
+        } => {
+            prefix_is_whole(prefix);
+            router_id_is_whole(*router);
+            addr_is_whole(next_hop);
+        }
+        Message::Retraction { prefix, .. } | Message::RouteRequest { prefix } => {
+            prefix_is_whole(prefix)
+        }
+        Message::SeqnoRequest { prefix, router, .. } => {
+            prefix_is_whole(prefix);
+            router_id_is_whole(*router);
+        }
+        _ => {}
+    }
+}
+
+#[inline]
+fn addr_is_whole(addr: &Addr)
+    ensures { IsAddr addr.now }
+{
+    match addr {
+        Addr::V4(octets) => octets_are_small(octets),
+        Addr::V6(octets) => octets_are_small(octets),
+    }
+}
+
+#[inline]
+fn octets_are_small(octets: &[u8])
+    ensures { AreOctets octets.now }
+{}
+
+#[inline]
+fn prefix_is_whole(prefix: &Prefix)
+    ensures { IsPrefix prefix.now }
+{
+    let _length = prefix.length();
+    addr_is_whole(&prefix.addr());
+}
+
+#[inline]
+fn router_id_is_whole(router: RouterId)
+    ensures { IsRouterId router }
+{
+    let _octets = router.octets();
 }
