@@ -1,11 +1,11 @@
 //! The builder.
 
-ghost use Rattle.std.specs.Prelude.{◌≡◌, List, [], ◌∷◌, ◌++◌, true, IsTrue};
+ghost use Rattle.std.specs.Prelude.{◌≡◌, List, [], ◌∷◌, ◌++◌, true, drop, IsTrue};
 ghost use Rattle.std.specs.Bool.{OnTrue, OnFalse};
 ghost use Rattle.babel_packet.specs.declared.messages.Message.{Message};
 ghost use Rattle.babel_packet.specs.Sayable.{is_sayable};
 ghost use Rattle.babel_packet.specs.Says.{Says, Means, datagram};
-ghost use Rattle.babel_build.specs.Built.{fits, added};
+ghost use Rattle.babel_build.specs.Built.{IsBegun, fits, added};
 
 use crate::fields::octets_of;
 use crate::laws::plain_says;
@@ -78,11 +78,19 @@ impl Builder {
         ensures means { (said : List Message) → Says self.source self.body said → Means result.items self.source said }
     {
         says_one_more();
-        let mut octets = self.octets;
-        let length = octets.len() - HEADER_LEN;
-        let [high, low] = octets_of(length as u16);
-        octets[2] = high;
-        octets[3] = low;
-        octets
+        with_length(self.octets)
     }
+}
+
+/// The octets, with the length of the body in the header.
+fn with_length(octets: Datagram) -> Datagram
+    requires { IsBegun octets.items }
+    ensures { result.items ≡ datagram (drop 4 octets.items) }
+{
+    let mut octets = octets;
+    let length = octets.len() - HEADER_LEN;
+    let [high, low] = octets_of(length as u16);
+    octets[2] = high;
+    octets[3] = low;
+    octets
 }

@@ -8,6 +8,7 @@ use Rattle.babel_packet.specs.Payloads.{router_id_payload, next_hop_payload}
 use Rattle.babel_packet.specs.Sayable.{is_sayable, IsMessage}
 use Rattle.babel_packet.specs.Says.{Says}
 use Rattle.babel_build.specs.Plain.{plain, tlv_of}
+use Rattle.babel_build.proofs.Sizes.{plain_size}
 use Rattle.babel_build.proofs.laws.plain_says.Goals as goal
 
 by_kind : (c : goal.After-says_one_more) (source : Addr) (body : List ℕ) (said : List Message) (message : Message) → Says source body said →
@@ -40,6 +41,9 @@ by_kind c source body said messages.DumpRequest says is sayable =
 by_kind c source body said (messages.SeqnoRequest prefix router seqno hops) says is sayable =
     c.says_one_more.ensures.message source body said (messages.SeqnoRequest prefix router seqno hops) says is sayable tt
 
-pub returns : goal.returns
-returns c = λ source body said says sayable.
+pub returns-clause-says : goal.returns-clause-says
+returns-clause-says c = λ source body said says sayable.
     by_kind c source body said c.args.message.now says c.fields_are_whole.ensures sayable
+
+pub returns-clause-short : goal.returns-clause-short
+returns-clause-short c = plain_size c.args.message.now c.fields_are_whole.ensures
