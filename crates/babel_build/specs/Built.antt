@@ -2,12 +2,17 @@
 use Rattle.std.specs.Prelude.{◌≡◌, ◌≤◌, ℕ, ◌+◌, List, [], ◌∷◌, Bool, ◌++◌, length, take, nat_le}
 use Rattle.babel_value.specs.declared.addresses.Addr.{Addr}
 use Rattle.babel_packet.specs.declared.messages.Message.{Message}
+use Rattle.babel_packet.specs.Says.{Says}
 use Rattle.babel_build.specs.Plain.{plain}
 
 -- the address that it will be sent from, and the body so far (RFC 8966, section 4.2)
 pub record Built : Type 0 where
   pub source : Addr
   pub body : List ℕ
+
+-- it says these messages so far, in this order and nothing else (RFC 8966, sections 4.2 and 4.6)
+abbrev pub HasSaid : Built → List Message → Type 0
+HasSaid built messages = Says built.source built.body messages
 
 -- Octets fit behind those that stand, in 1,024 octets (profile).
 abbrev pub is_room : List ℕ → List ℕ → Bool

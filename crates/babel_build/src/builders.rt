@@ -4,8 +4,8 @@ ghost use Rattle.std.specs.Prelude.{◌≡◌, List, [], ◌∷◌, ◌++◌, tr
 ghost use Rattle.std.specs.Bool.{OnTrue, OnFalse};
 ghost use Rattle.babel_packet.specs.declared.messages.Message.{Message};
 ghost use Rattle.babel_packet.specs.Sayable.{is_sayable};
-ghost use Rattle.babel_packet.specs.Says.{Says, Means, datagram};
-ghost use Rattle.babel_build.specs.Built.{IsBegun, fits, added};
+ghost use Rattle.babel_packet.specs.Says.{Means, datagram};
+ghost use Rattle.babel_build.specs.Built.{HasSaid, IsBegun, fits, added};
 
 use crate::fields::octets_of;
 use crate::laws::plain_says;
@@ -42,7 +42,7 @@ impl Builder {
     /// family that name none (RFC 8966, section 4.6.8).
     pub fn new(source: Addr) -> Builder
         ensures empty { result ≡ record { source = source; body = [] } }
-        ensures says { Says source [] [] }
+        ensures silent { HasSaid result [] }
     {
         says_one_more();
         let mut octets = ArrayVec::new();
@@ -59,8 +59,10 @@ impl Builder {
         ensures fits { result ≡ fits self.old message.now }
         ensures added { OnTrue result (self.new ≡ added self.old message.now) }
         ensures unchanged { OnFalse result (self.new ≡ self.old) }
-        ensures says { (said : List Message) → Says self.old.source self.old.body said → IsTrue result → is_sayable message.now ≡ true
-            → Says self.new.source self.new.body (said ++ message.now ∷ []) }
+        // What stood said some messages: with this one it says this one behind them.
+        ensures said { (said : List Message) → HasSaid self.old said → IsTrue result → is_sayable message.now ≡ true
+            → HasSaid self.new (said ++ message.now ∷ []) }
+        // Any message fits alone.
         ensures alone { self.old.body ≡ [] → IsTrue result }
     {
         plain_says(message);
@@ -75,7 +77,8 @@ impl Builder {
     /// The datagram: the header with the length of the body, and the body.
     pub fn finish(self) -> ArrayVec<u8, DATAGRAM_LEN>
         ensures octets { result.items ≡ datagram self.body }
-        ensures means { (said : List Message) → Says self.source self.body said → Means result.items self.source said }
+        // What is built means what was added.
+        ensures means { (said : List Message) → HasSaid self said → Means result.items self.source said }
     {
         says_one_more();
         with_length(self.octets)

@@ -2,7 +2,6 @@
 use Rattle.std.proofs.Common.{◌≡◌, ◌++◌, ◌≤◌, IsTrue, true, false, length, drop, ap, sym, ◌∙◌, subst, arith, length-drop}
 use Rattle.std.proofs.lemmas.List.{drop-append-le, length-take}
 use Rattle.std.proofs.lemmas.Bool.{le-leb}
-use Rattle.babel_packet.specs.Says.{Says}
 use Rattle.babel_build.specs.Plain.{plain}
 use Rattle.babel_build.specs.Built.{Built}
 use Rattle.babel_build.proofs.builders.Builder.add.Goals as goal
@@ -14,8 +13,8 @@ returns-then-not-fits-clause-alone c = λ none.
     let bare : length (drop 4 octets) ≡ 0 = ap length (body ∙ none) in
     c.put_message-fits.ensures.fits ∙ le-leb _ _ (omega (arith, length-drop 4 octets, c.plain_says.ensures.short))
 
-pub returns-else-not-fits-clause-says : goal.returns-else-not-fits-clause-says
-returns-else-not-fits-clause-says c = λ said says fits sayable.
+pub returns-else-not-fits-clause-said : goal.returns-else-not-fits-clause-said
+returns-else-not-fits-clause-said c = λ said says fits sayable.
     let octets = c.self.inside.octets.items in
     let body : drop 4 octets ≡ c.args.self.now.body = ap (λ (b : Built). b.body) c.self.view_is in
     let source : c.self.inside.source ≡ c.args.self.now.source = ap (λ (b : Built). b.source) c.self.view_is in
