@@ -117,7 +117,12 @@ fn acks_and_hellos(rt: HostRuntime) -> Result<(), Fail> {
         seqno: Seqno(0xfffe),
         interval: 400,
     };
-    said(&rt, alloc, &multicast, &[0x04, 6, 0, 0, 0xff, 0xfe, 0x01, 0x90])?;
+    said(
+        &rt,
+        alloc,
+        &multicast,
+        &[0x04, 6, 0, 0, 0xff, 0xfe, 0x01, 0x90],
+    )?;
     let unicast = Message::Hello {
         unicast: true,
         seqno: Seqno(7),
@@ -146,7 +151,12 @@ fn ihus(rt: HostRuntime) -> Result<(), Fail> {
     let alloc = rt.alloc();
     said(&rt, alloc, &ihu(None), &[0x05, 6, 0, 0, 0, 96, 0x04, 0xb0])?;
     let ipv4 = ihu(Some(Addr::V4([192, 168, 0, 2])));
-    said(&rt, alloc, &ipv4, &[0x05, 10, 1, 0, 0, 96, 0x04, 0xb0, 192, 168, 0, 2])?;
+    said(
+        &rt,
+        alloc,
+        &ipv4,
+        &[0x05, 10, 1, 0, 0, 96, 0x04, 0xb0, 192, 168, 0, 2],
+    )?;
     let link_local = ihu(Some(ipv6([0xfe, 0x80, 0, 0], 0, 1)));
     said(
         &rt,
@@ -182,7 +192,10 @@ fn updates(rt: HostRuntime) -> Result<(), Fail> {
             0x08, 14, 2, 0, 32, 0, 0x06, 0x40, 0, 5, 0, 96, 0x20, 0x01, 0x0d, 0xb8,
         ],
     )?;
-    let routed = update(prefix(documentation, 29)?, ipv6([0x20, 0x01, 0x0d, 0xb8], 0, 1))?;
+    let routed = update(
+        prefix(documentation, 29)?,
+        ipv6([0x20, 0x01, 0x0d, 0xb8], 0, 1),
+    )?;
     said(
         &rt,
         alloc,
@@ -220,7 +233,12 @@ fn retractions(rt: HostRuntime) -> Result<(), Fail> {
         &[0x08, 12, 1, 0, 16, 0, 0x06, 0x40, 0, 0, 0xff, 0xff, 10, 1],
     )?;
     let all = Message::RetractAll { interval: 1600 };
-    said(&rt, alloc, &all, &[0x08, 10, 0, 0, 0, 0, 0x06, 0x40, 0, 0, 0xff, 0xff])
+    said(
+        &rt,
+        alloc,
+        &all,
+        &[0x08, 10, 0, 0, 0, 0, 0x06, 0x40, 0, 0, 0xff, 0xff],
+    )
 }
 
 #[test]
@@ -229,7 +247,12 @@ fn requests(rt: HostRuntime) -> Result<(), Fail> {
     let route = Message::RouteRequest {
         prefix: prefix(ipv6([0x20, 0x01, 0x0d, 0xb8], 0, 0), 32)?,
     };
-    said(&rt, alloc, &route, &[0x09, 6, 2, 32, 0x20, 0x01, 0x0d, 0xb8])?;
+    said(
+        &rt,
+        alloc,
+        &route,
+        &[0x09, 6, 2, 32, 0x20, 0x01, 0x0d, 0xb8],
+    )?;
     said(&rt, alloc, &Message::DumpRequest, &[0x09, 2, 0, 0])?;
     let seqno = Message::SeqnoRequest {
         prefix: prefix(SIXTEEN, 15)?,

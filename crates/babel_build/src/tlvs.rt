@@ -11,7 +11,7 @@ ghost use Rattle.babel_build.specs.Built.{is_room};
 use crate::fields::{encoded, octets_of, prefix_encoding, reached};
 use arrayvec::ArrayVec;
 use babel_packet::{
-    ACK, ACK_REQUEST, AE_WILDCARD, HELLO, IHU, NEXT_HOP, ROUTER_ID, ROUTE_REQUEST, SEQNO_REQUEST,
+    ACK, ACK_REQUEST, AE_WILDCARD, HELLO, IHU, NEXT_HOP, ROUTE_REQUEST, ROUTER_ID, SEQNO_REQUEST,
     UPDATE,
 };
 use babel_tlv::{DATAGRAM_LEN, put};
@@ -89,7 +89,12 @@ pub(crate) fn put_hello(datagram: &mut Datagram, unicast: bool, seqno: Seqno, in
 }
 
 /// I Heard You (RFC 8966, section 4.6.6).
-pub(crate) fn put_ihu(datagram: &mut Datagram, to: Option<Addr>, rxcost: Metric, interval: u16) -> bool
+pub(crate) fn put_ihu(
+    datagram: &mut Datagram,
+    to: Option<Addr>,
+    rxcost: Metric,
+    interval: u16,
+) -> bool
     ensures fits { result ≡ is_room datagram.old.items (tlv_of (messages.Ihu to rxcost interval)) }
     ensures appended { OnTrue result (datagram.new.items ≡ datagram.old.items ++ tlv_of (messages.Ihu to rxcost interval)) }
     ensures unchanged { OnFalse result (datagram.new ≡ datagram.old) }

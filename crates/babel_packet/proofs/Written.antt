@@ -1,8 +1,8 @@
 -- What is written as a message is read as that message.
-use Rattle.std.proofs.Common.{◌≡◌, ◌≢◌, ℕ, zero, suc, ◌+◌, ◌-◌, ◌*◌, ◌<◌, ◌≤◌, Bool, true, false, ◌&&◌, List, [], ◌∷◌, ◌++◌, length, take, drop, replicate, Option, Some, None, nat_lt, nat_eq, refl, ap, sym, ◌∙◌, arith, inl, inr, length-append, length-drop, option_map, nat_le}
+use Rattle.std.proofs.Common.{◌≡◌, ◌≢◌, ℕ, ◌+◌, ◌-◌, ◌*◌, ◌≤◌, Bool, true, false, ◌&&◌, List, [], ◌∷◌, ◌++◌, length, take, drop, replicate, Option, Some, None, nat_lt, nat_eq, refl, ap, sym, ◌∙◌, arith, length-append, length-drop, option_map, nat_le}
 use Rattle.std.proofs.lemmas.List.{take_at, take_all, drop_all, take-append-drop}
 use Rattle.std.proofs.lemmas.Slice.Eq.{bytes_eq-Decides}
-use Rattle.std.proofs.lemmas.Bool.{le-ltb, le-leb, ne_eqb, ltb-true, cases_Bool}
+use Rattle.std.proofs.lemmas.Bool.{le-ltb, le-leb, ne_eqb, ltb-true}
 use Rattle.babel_value.specs.declared.addresses.Addr.{Addr}
 use Rattle.babel_value.specs.declared.addresses.Addr.TheVariants.{V4, V6}
 use Rattle.babel_value.specs.Prefixes.{PrefixValue, cleared}
@@ -17,7 +17,7 @@ use Rattle.babel_packet.specs.Hellos.{hello}
 use Rattle.babel_packet.specs.Contents.{means}
 use Rattle.babel_packet.specs.LookBack.{Standing, before, flagged, update_address}
 use Rattle.babel_packet.specs.RouterIds.{router_id, named_router}
-use Rattle.babel_packet.specs.Addresses.{ipv4_at, ipv6_at, link_local_at}
+use Rattle.babel_packet.specs.Addresses.{link_local_at}
 use Rattle.babel_packet.specs.Ihus.{ihu, ihu_of}
 use Rattle.babel_packet.specs.NextHops.{next_hop, next_hop_of, named_hop4, named_hop6}
 use Rattle.babel_tlv.specs.Place.{Place}

@@ -1,5 +1,5 @@
 -- What a body says, and what a datagram means, to those who ask for the messages alone (RFC 8966, sections 4.2 and 4.5).
-use Rattle.std.specs.Prelude.{◌≡◌, ℕ, List, [], ◌∷◌, ◌++◌, reverse, length, Bool, true, false, not, Option, Some, None, Result, Ok}
+use Rattle.std.specs.Prelude.{◌≡◌, ℕ, List, [], ◌∷◌, ◌++◌, reverse, length, Bool, true, false, Option, Some, None, Ok}
 use Rattle.std.specs.List.{list_all}
 use Rattle.babel_value.specs.declared.addresses.Addr.{Addr}
 use Rattle.babel_value.specs.declared.addresses.Addr.TheVariants.{V4, V6}

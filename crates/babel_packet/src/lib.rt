@@ -24,7 +24,10 @@ mod texts;
 mod updates;
 
 pub use addresses::{AE_IPV4, AE_IPV6, AE_LINK_LOCAL, AE_WILDCARD};
-pub use decoding::{ACK, ACK_REQUEST, HEADER_LEN, HELLO, IHU, MAGIC, NEXT_HOP, ROUTER_ID, ROUTE_REQUEST, SEQNO_REQUEST, UPDATE, VERSION, decode};
+pub use decoding::{
+    ACK, ACK_REQUEST, HEADER_LEN, HELLO, IHU, MAGIC, NEXT_HOP, ROUTE_REQUEST, ROUTER_ID,
+    SEQNO_REQUEST, UPDATE, VERSION, decode,
+};
 pub use laws::{fields_are_whole, looks_back, says_one_more};
 pub use messages::Message;
 pub use placements::{Content, Placed, Reason};

@@ -26,7 +26,7 @@ loop-message-preserved c =
     let index = c.loop-message.message-index in
     let message = c.message-item.result in
     let more : take (index + 1) all ≡ take index all ++ message ∷ [] =
-      take_more all index message c.loop-message-test.true ∙ ap (λ m. take index all ++ m ∷ []) (sym c.message-item.is) in
+    take_more all index message c.loop-message-test.true ∙ ap (λ m. take index all ++ m ∷ []) (sym c.message-item.is) in
     record {
       source = ap (λ (b : Built). b.source) c.if-not-add.ensures.added ∙ c.loop-message.invariant.source;
       said = λ sayable.

@@ -23,8 +23,7 @@ returns-clause-message c = λ source body said message says is sayable provides.
 
 pub returns-clause-router_id : goal.returns-clause-router_id
 returns-clause-router_id c = λ source body said router says is.
-    let more = splits c body 6 (router_id_payload router) says.whole (λ e. absurd (omega arith)) in
-    (
+    let more = splits c body 6 (router_id_payload router) says.whole (λ e. absurd (omega arith)) in (
       says_state source body said 6 (router_id_payload router) more says (router_id_again (stands source body) router is),
       ap (λ (d : Standing). d.router) (stands_more source body 6 (router_id_payload router) more) ∙ router_id_stands source (length body) router (reverse (places_of body)) is,
     )
@@ -32,8 +31,7 @@ returns-clause-router_id c = λ source body said router says is.
 pub returns-clause-next_hop : goal.returns-clause-next_hop
 returns-clause-next_hop c = λ source body said hop says is.
     let more = splits c body 7 (next_hop_payload hop) says.whole (λ e. absurd (omega arith)) in
-    let now = stands_more source body 7 (next_hop_payload hop) more in
-    (
+    let now = stands_more source body 7 (next_hop_payload hop) more in (
       says_state source body said 7 (next_hop_payload hop) more says (next_hop_again (stands source body) hop is),
       ap (λ (d : Standing). hop_for hop d) now ∙ next_hop_stands source (length body) hop (reverse (places_of body)) is,
       ap (λ (d : Standing). d.router) now ∙ next_hop_keeps source (length body) (next_hop_payload hop) (reverse (places_of body)),

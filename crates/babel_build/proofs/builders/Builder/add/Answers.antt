@@ -1,5 +1,5 @@
 -- The octets are the header and the body; what the message's TLVs say is known behind any body.
-use Rattle.std.proofs.Common.{◌≡◌, ◌++◌, ◌≤◌, IsTrue, true, false, length, drop, ap, sym, ◌∙◌, subst, arith, length-drop}
+use Rattle.std.proofs.Common.{◌≡◌, ◌++◌, ◌≤◌, length, drop, ap, ◌∙◌, arith, length-drop}
 use Rattle.std.proofs.lemmas.List.{drop-append-le, length-take}
 use Rattle.std.proofs.lemmas.Bool.{le-leb}
 use Rattle.babel_build.specs.Plain.{plain}
