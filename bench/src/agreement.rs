@@ -1,0 +1,51 @@
+//! Do both decoders say the same of each datagram?
+
+use crate::corpus::Datagram;
+use crate::{plain_calls, proved};
+
+/// How much of each kind the datagrams have.
+#[derive(Default)]
+pub struct Counts {
+    pub places: usize,
+    pub messages: usize,
+    pub reasons: usize,
+    pub refused: usize,
+}
+
+impl Counts {
+    /// Counts the lines of a datagram.
+    fn add(&mut self, text: &str) {
+        for line in text.lines() {
+            let (first, content) = line.split_once(' ').unwrap_or((line, ""));
+            if first == "refused" {
+                self.refused += 1;
+                continue;
+            }
+            self.places += 1;
+            if content.starts_with("ignored ") {
+                self.reasons += 1;
+            } else if content != "state" {
+                self.messages += 1;
+            }
+        }
+    }
+}
+
+/// Compares all that both decoders say, as text, which names each field of each place. The first
+/// datagram of which they don't say the same is the error.
+pub fn check(datagrams: &[Datagram]) -> Result<Counts, String> {
+    let mut counts = Counts::default();
+    for (place, datagram) in datagrams.iter().enumerate() {
+        let proved = proved::text(datagram);
+        let plain = plain_calls::text(datagram);
+        if proved != plain || proved.is_empty() != plain.is_empty() {
+            let number = place + 1;
+            return Err(format!("datagram {number}: proved\n{proved}plain\n{plain}"));
+        }
+        if proved::decode(datagram) != plain_calls::decode(datagram) {
+            return Err(format!("datagram {}: not the same last place", place + 1));
+        }
+        counts.add(&proved);
+    }
+    Ok(counts)
+}
