@@ -134,7 +134,7 @@ fn push_wildcard(tail: &[u8], offset: usize, placed: &mut Vec<Placed>)
     push_ignored(placed, offset, reason);
 }
 
-#[inline]
+#[inline(always)]
 #[tactic(auto, unfolding(crate::specs::Requests::seqno_request_for))]
 fn push_seqno_request(
     prefix: Prefix,

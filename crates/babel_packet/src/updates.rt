@@ -210,7 +210,7 @@ fn router6(octets: Option<[u8; 16]>) -> Option<[u8; 8]>
 }
 
 /// What the Update says of its prefix, once that is known.
-#[inline]
+#[inline(always)]
 #[tactic(auto, unfolding(crate::specs::Updates::update_of))]
 fn push_update(
     prefix: Prefix,
