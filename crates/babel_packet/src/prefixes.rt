@@ -31,7 +31,7 @@ pub(crate) fn is_whole(size: usize, omitted: u8, bits: u8, place: usize, payload
 }
 
 /// The octets of the prefix's address: the omitted ones from `default`, the others from the payload.
-#[inline]
+#[inline(always)]
 #[tactic(auto, unfolding(crate::specs::Prefixes::prefix_octets))]
 pub(crate) fn prefix_octets<const N: usize>(
     default: [u8; N],
