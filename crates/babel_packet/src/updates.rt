@@ -194,8 +194,10 @@ fn flagged<const N: usize>(octets: Option<[u8; N]>, flag: u8, payload: &[u8]) ->
 fn router4(octets: Option<[u8; 4]>) -> Option<[u8; 8]>
     ensures { result ≡ option_map (λ o. replicate 4 0 ++ o) octets }
 {
-    let [a, b, c, d] = octets?;
-    Some([0, 0, 0, 0, a, b, c, d])
+    let octets = octets?;
+    let mut router = [0; 8];
+    router[4..].copy_from_slice(octets.as_slice());
+    Some(router)
 }
 
 /// The router-id that an IPv6 address has: its last 8 octets.
