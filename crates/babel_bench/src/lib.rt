@@ -1,6 +1,10 @@
 //! The decoder for the benchmark of bench/, as functions over octets that a Rust program calls.
 #![tactic(auto)]
 
+ghost use Rattle.std.specs.Prelude.{◌≡◌};
+ghost use Rattle.babel_packet.specs.Meaning.{meaning};
+ghost use Rattle.babel_bench.specs.Calls.{Answers, address_of, offset_of_last};
+
 use babel_packet::{Placed, Refusal, decode};
 use babel_value::Addr;
 use std::alloc::Global;
@@ -12,7 +16,9 @@ const IPV4_LEN: usize = 4;
 
 /// Decodes the datagram, and answers the offset of the last place of the list.
 #[unsafe(no_mangle)]
-pub extern "C" fn babel_bench_decode(alloc: Global, bytes: &[u8], source: &[u8]) -> usize {
+pub extern "C" fn babel_bench_decode(alloc: Global, bytes: &[u8], source: &[u8]) -> usize
+    ensures { Answers result (meaning bytes.now (address_of source.now)) }
+{
     match decode(alloc, bytes, source_of(source)) {
         Ok(placed) => last_offset(&placed),
         Err(_) => 0,
@@ -53,7 +59,9 @@ fn write_meaning<W: Write>(
 }
 
 /// The address of 4 or 16 octets.
-fn source_of(octets: &[u8]) -> Addr {
+fn source_of(octets: &[u8]) -> Addr
+    ensures { result ≡ address_of octets.now }
+{
     if octets.len() == IPV4_LEN {
         let mut ipv4 = [0; 4];
         ipv4.copy_from_slice(octets);
@@ -68,7 +76,9 @@ fn source_of(octets: &[u8]) -> Addr {
 
 /// The list is read behind a call, so that the compiler can't leave out what writes it.
 #[inline(never)]
-fn last_offset(placed: &[Placed]) -> usize {
+fn last_offset(placed: &[Placed]) -> usize
+    ensures { result ≡ offset_of_last placed.now }
+{
     match placed.last() {
         Some(place) => place.offset,
         None => 0,
