@@ -39,8 +39,8 @@ fn put_tlv(datagram: &mut Datagram, kind: u8, fields: &[u8], octets: &[u8]) -> b
     ensures unchanged { OnFalse result (datagram.new ≡ datagram.old) }
 {
     let mut payload: ArrayVec<u8, MAX_PAYLOAD_LEN> = ArrayVec::new();
-    let _whole = payload.try_extend_from_slice(fields).is_ok()
-        && payload.try_extend_from_slice(octets).is_ok();
+    payload.try_extend_from_slice(fields).unwrap();
+    payload.try_extend_from_slice(octets).unwrap();
     put(datagram, kind, &payload)
 }
 
