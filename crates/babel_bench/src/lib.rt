@@ -84,3 +84,6 @@ fn last_offset(placed: &[Placed]) -> usize
         None => 0,
     }
 }
+
+#[cfg(test)]
+mod tests;
