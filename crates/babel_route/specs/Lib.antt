@@ -12,3 +12,4 @@ pub mod Selections
 pub mod PrefixBounds
 pub mod RouteLaws
 pub mod Example
+pub mod RouteExample

@@ -47,6 +47,10 @@ pub use table::{Table, find_in};
 pub use walk::{Revision, revise_all};
 
 #[cfg(test)]
+mod route_rows;
+#[cfg(test)]
+mod route_tests;
+#[cfg(test)]
 mod rows;
 #[cfg(test)]
 mod tests;
