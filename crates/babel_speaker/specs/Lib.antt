@@ -1,0 +1,17 @@
+pub mod Sameness
+pub mod Configs
+pub mod Owing
+pub mod PendingRequests
+pub mod State
+pub mod Addresses
+pub mod Reselection
+pub mod Hellos
+pub mod Updates
+pub mod SeqnoRequests
+pub mod Messages
+pub mod Ticks
+pub mod Saying
+pub mod HandingOut
+pub mod Calls
+pub mod Standing
+pub mod Seen

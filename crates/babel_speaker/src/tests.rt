@@ -1,0 +1,157 @@
+//! What no clause says: each call once where it succeeds, with values worked by hand.
+
+use super::*;
+use babel_value::{Addr, Family, Prefix};
+use std::alloc::Global;
+use std::test::Fail;
+
+/// An interface with IPv4 transport, as a configuration file gives it where it says nothing else.
+fn interface(alloc: Global) -> Interface {
+    Interface {
+        transport: Family::Ipv4,
+        ipv4: Some(([192, 168, 0, 2], 24)),
+        ipv6: None,
+        peers: Vec::new(alloc),
+        cost: 96,
+        hello: 400,
+    }
+}
+
+/// The configuration of the router 2 with one interface.
+fn config(alloc: Global) -> Result<Config, Fail> {
+    let mut interfaces = Vec::new(alloc);
+    interfaces.push(interface(alloc))?;
+    Ok(Config {
+        router_id: [0, 0, 0, 0, 0, 0, 0, 2],
+        seqno: 0,
+        collect: false,
+        prefixes: Vec::new(alloc),
+        interfaces,
+    })
+}
+
+/// 10.n.0.0/16.
+fn prefix(n: u8) -> Result<Prefix, Fail> {
+    Ok(Prefix::new(Addr::V4([10, n, 0, 0]), 16).ok_or("at most 32")?)
+}
+
+#[test]
+fn reserved_router_ids(rt: HostRuntime) -> Result<(), Fail> {
+    let mut config = config(rt.alloc())?;
+    assert_eq!(rt; config.check(), Ok(()));
+    config.router_id = [0xff; 8];
+    config.interfaces[0].cost = 0;
+    assert_eq!(rt; config.check(), Err(ConfigFault::ReservedRouterId));
+    Ok(())
+}
+
+#[test]
+fn interface_counts(rt: HostRuntime) -> Result<(), Fail> {
+    let mut config = config(rt.alloc())?;
+    for _ in 1..8 {
+        config.interfaces.push(interface(rt.alloc()))?;
+    }
+    assert_eq!(rt; config.check(), Ok(()));
+    config.interfaces.push(interface(rt.alloc()))?;
+    assert_eq!(rt; config.check(), Err(ConfigFault::InterfaceCount));
+    config.interfaces.clear();
+    assert_eq!(rt; config.check(), Err(ConfigFault::InterfaceCount));
+    Ok(())
+}
+
+#[test]
+fn costs_and_intervals(rt: HostRuntime) -> Result<(), Fail> {
+    let mut config = config(rt.alloc())?;
+    for (cost, hello, answer) in [
+        (1, 1, Ok(())),
+        (65534, 4000, Ok(())),
+        (0, 0, Err(ConfigFault::NominalCost)),
+        (65535, 400, Err(ConfigFault::NominalCost)),
+        (96, 0, Err(ConfigFault::HelloInterval)),
+        (96, 4001, Err(ConfigFault::HelloInterval)),
+    ] {
+        config.interfaces[0].cost = cost;
+        config.interfaces[0].hello = hello;
+        assert_eq!(rt; config.check(), answer, "cost {cost}, hello {hello}");
+    }
+    Ok(())
+}
+
+#[test]
+fn prefix_lists(rt: HostRuntime) -> Result<(), Fail> {
+    let mut config = config(rt.alloc())?;
+    for n in 0..64 {
+        config.prefixes.push(prefix(n)?)?;
+    }
+    assert_eq!(rt; config.check(), Ok(()));
+    config.prefixes.push(prefix(64)?)?;
+    assert_eq!(rt; config.check(), Err(ConfigFault::Prefixes));
+    config.prefixes.truncate(63);
+    config.prefixes.push(prefix(0)?)?;
+    assert_eq!(rt; config.check(), Err(ConfigFault::Prefixes));
+    Ok(())
+}
+
+#[test]
+fn addresses_of_interfaces(rt: HostRuntime) -> Result<(), Fail> {
+    let mut link_local = [0; 16];
+    link_local[0] = 0xfe;
+    link_local[1] = 0xbf;
+    let mut global = link_local;
+    global[1] = 0xc0;
+    let own = Some(([192, 168, 0, 2], 32));
+    for (transport, ipv4, ipv6, answer) in [
+        (Family::Ipv4, own, Some(link_local), Ok(())),
+        (Family::Ipv6, None, Some(link_local), Ok(())),
+        (
+            Family::Ipv4,
+            None,
+            Some(link_local),
+            Err(ConfigFault::InterfaceAddresses),
+        ),
+        (
+            Family::Ipv6,
+            own,
+            None,
+            Err(ConfigFault::InterfaceAddresses),
+        ),
+        (
+            Family::Ipv4,
+            own,
+            Some(global),
+            Err(ConfigFault::InterfaceAddresses),
+        ),
+        (
+            Family::Ipv4,
+            Some(([192, 168, 0, 2], 33)),
+            None,
+            Err(ConfigFault::InterfaceAddresses),
+        ),
+    ] {
+        let mut config = config(rt.alloc())?;
+        config.interfaces[0].transport = transport;
+        config.interfaces[0].ipv4 = ipv4;
+        config.interfaces[0].ipv6 = ipv6;
+        assert_eq!(rt; config.check(), answer);
+    }
+    Ok(())
+}
+
+#[test]
+fn peers(rt: HostRuntime) -> Result<(), Fail> {
+    let mut config = config(rt.alloc())?;
+    for last in 3..19 {
+        config.interfaces[0]
+            .peers
+            .push(Addr::V4([192, 168, 0, last]))?;
+    }
+    assert_eq!(rt; config.check(), Ok(()));
+    config.interfaces[0]
+        .peers
+        .push(Addr::V4([192, 168, 0, 19]))?;
+    assert_eq!(rt; config.check(), Err(ConfigFault::InterfaceAddresses));
+    config.interfaces[0].peers.truncate(2);
+    config.interfaces[0].peers.push(Addr::V6([0; 16]))?;
+    assert_eq!(rt; config.check(), Err(ConfigFault::InterfaceAddresses));
+    Ok(())
+}
