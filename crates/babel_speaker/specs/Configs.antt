@@ -1,5 +1,5 @@
 -- Which configurations no speaker can be made of (profile).
-use Rattle.std.specs.Prelude.{ℕ, Bool, true, false, ◌||◌, ◌&&◌, not, nat_le, nat_lt, ◌==◌, ◌/◌, List, [], ◌∷◌, length, slice_index, Option, Some, None, is_some, if◌then◌else◌}
+use Rattle.std.specs.Prelude.{ℕ, Bool, false, ◌||◌, ◌&&◌, not, nat_le, nat_lt, ◌==◌, ◌/◌, List, [], ◌∷◌, length, slice_index, Option, Some, None, is_some, if◌then◌else◌}
 use Rattle.std.specs.List.{list_any}
 use Rattle.std.specs.Option.{option_map_or}
 use Rattle.babel_value.specs.declared.addresses.Family.TheVariants.{Ipv4}

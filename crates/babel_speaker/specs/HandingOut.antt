@@ -1,5 +1,5 @@
 -- Handing out a datagram: items leave the front one by one, each read in the state that those before it left (profile).
-use Rattle.std.specs.Prelude.{ℕ, ◌+◌, Bool, true, false, ◌&&◌, List, [], ◌∷◌, ◌++◌, Option, Some, None, nat_eq, if◌then◌else◌}
+use Rattle.std.specs.Prelude.{ℕ, Bool, true, false, ◌&&◌, List, [], ◌∷◌, ◌++◌, Option, Some, None, nat_eq, if◌then◌else◌}
 use Rattle.std.specs.Option.{option_map_or}
 use Rattle.babel_value.specs.declared.addresses.Addr.{Addr}
 use Rattle.babel_value.specs.declared.distances.Distance.{Distance}

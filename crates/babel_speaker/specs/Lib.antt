@@ -15,3 +15,9 @@ pub mod HandingOut
 pub mod Calls
 pub mod Standing
 pub mod Seen
+pub mod ExampleStates
+pub mod LogB
+pub mod LostRoutes
+pub mod SeqnoExamples
+pub mod TickExamples
+pub mod CallExamples

@@ -11,7 +11,7 @@ use Rattle.babel_value.specs.Orders.{source_cmp}
 use Rattle.babel_value.specs.Prefixes.{PrefixValue}
 use Rattle.babel_packet.specs.declared.messages.Message.TheVariants as messages
 use Rattle.babel_route.specs.declared.entries.Selection.{Selection}
-use Rattle.babel_route.specs.Routes.{Route, key_of}
+use Rattle.babel_route.specs.Routes.{key_of}
 use Rattle.babel_route.specs.Selections.{route_metric}
 use Rattle.babel_route.specs.Sources.{Sources}
 use Rattle.babel_speaker.specs.declared.interfaces.InterfaceEntry.{InterfaceEntry}

@@ -1,7 +1,6 @@
 -- What is promised of the selections after each call: that they stand (profile).
-use Rattle.std.specs.Prelude.{◌≡◌, ℕ, Bool, true, false, ◌&&◌, not, Option, Some, None}
+use Rattle.std.specs.Prelude.{◌≡◌, Bool, true, false, ◌&&◌, not, Some}
 use Rattle.std.specs.List.{list_any}
-use Rattle.babel_value.specs.declared.keys.Peer.{Peer}
 use Rattle.babel_value.specs.Prefixes.{PrefixValue}
 use Rattle.babel_route.specs.declared.entries.Selection.{Selection}
 use Rattle.babel_route.specs.Routes.{Route, key_of}

@@ -1,5 +1,5 @@
 -- Updates and retractions of a neighbour (RFC 8966, section 3.5.3).
-use Rattle.std.specs.Prelude.{ℕ, Bool, true, false, ◌&&◌, not, ◌==◌, List, Option, Some, None, is_none, is_some, if◌then◌else◌}
+use Rattle.std.specs.Prelude.{ℕ, Bool, false, ◌&&◌, not, ◌==◌, List, Option, Some, None, is_none, is_some, if◌then◌else◌}
 use Rattle.std.specs.Option.{option_map_or}
 use Rattle.std.specs.FinMap.{find}
 use Rattle.babel_value.specs.declared.addresses.Addr.{Addr}
@@ -13,11 +13,10 @@ use Rattle.babel_route.specs.Distances.{is_feasible}
 use Rattle.babel_route.specs.Entries.{without}
 use Rattle.babel_route.specs.Routes.{updated, retracted, retracted_all, has_routes_from}
 use Rattle.babel_route.specs.Selections.{places_taken}
-use Rattle.babel_speaker.specs.declared.notes.Verdict.{Verdict}
 use Rattle.babel_speaker.specs.declared.notes.Verdict.TheVariants as verdicts
 use Rattle.babel_speaker.specs.Sameness.{is_same_router}
 use Rattle.babel_speaker.specs.State.{State, pair_at, entry_at, selected_at, with_entries}
-use Rattle.babel_speaker.specs.Reselection.{UnfeasibleUpdate, owes, updates_to_all, reselects, reselects_all}
+use Rattle.babel_speaker.specs.Reselection.{owes, updates_to_all, reselects, reselects_all}
 use Rattle.babel_speaker.specs.Hellos.{Step}
 
 -- ---- a finite update

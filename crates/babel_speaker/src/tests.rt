@@ -18,9 +18,9 @@ fn interface(alloc: Global) -> Interface {
 }
 
 /// The configuration of the router 2 with one interface.
-fn config(alloc: Global) -> Result<Config, Fail> {
+fn config(alloc: Global, interface: Interface) -> Result<Config, Fail> {
     let mut interfaces = Vec::new(alloc);
-    interfaces.push(interface(alloc))?;
+    interfaces.push(interface)?;
     Ok(Config {
         router_id: [0, 0, 0, 0, 0, 0, 0, 2],
         seqno: 0,
@@ -37,17 +37,18 @@ fn prefix(n: u8) -> Result<Prefix, Fail> {
 
 #[test]
 fn reserved_router_ids(rt: HostRuntime) -> Result<(), Fail> {
-    let mut config = config(rt.alloc())?;
-    assert_eq!(rt; config.check(), Ok(()));
+    let mut interface = interface(rt.alloc());
+    interface.cost = 0;
+    let mut config = config(rt.alloc(), interface)?;
+    assert_eq!(rt; config.check(), Err(ConfigFault::NominalCost));
     config.router_id = [0xff; 8];
-    config.interfaces[0].cost = 0;
     assert_eq!(rt; config.check(), Err(ConfigFault::ReservedRouterId));
     Ok(())
 }
 
 #[test]
 fn interface_counts(rt: HostRuntime) -> Result<(), Fail> {
-    let mut config = config(rt.alloc())?;
+    let mut config = config(rt.alloc(), interface(rt.alloc()))?;
     for _ in 1..8 {
         config.interfaces.push(interface(rt.alloc()))?;
     }
@@ -61,7 +62,6 @@ fn interface_counts(rt: HostRuntime) -> Result<(), Fail> {
 
 #[test]
 fn costs_and_intervals(rt: HostRuntime) -> Result<(), Fail> {
-    let mut config = config(rt.alloc())?;
     for (cost, hello, answer) in [
         (1, 1, Ok(())),
         (65534, 4000, Ok(())),
@@ -70,8 +70,10 @@ fn costs_and_intervals(rt: HostRuntime) -> Result<(), Fail> {
         (96, 0, Err(ConfigFault::HelloInterval)),
         (96, 4001, Err(ConfigFault::HelloInterval)),
     ] {
-        config.interfaces[0].cost = cost;
-        config.interfaces[0].hello = hello;
+        let mut interface = interface(rt.alloc());
+        interface.cost = cost;
+        interface.hello = hello;
+        let config = config(rt.alloc(), interface)?;
         assert_eq!(rt; config.check(), answer, "cost {cost}, hello {hello}");
     }
     Ok(())
@@ -79,7 +81,7 @@ fn costs_and_intervals(rt: HostRuntime) -> Result<(), Fail> {
 
 #[test]
 fn prefix_lists(rt: HostRuntime) -> Result<(), Fail> {
-    let mut config = config(rt.alloc())?;
+    let mut config = config(rt.alloc(), interface(rt.alloc()))?;
     for n in 0..64 {
         config.prefixes.push(prefix(n)?)?;
     }
@@ -128,10 +130,11 @@ fn addresses_of_interfaces(rt: HostRuntime) -> Result<(), Fail> {
             Err(ConfigFault::InterfaceAddresses),
         ),
     ] {
-        let mut config = config(rt.alloc())?;
-        config.interfaces[0].transport = transport;
-        config.interfaces[0].ipv4 = ipv4;
-        config.interfaces[0].ipv6 = ipv6;
+        let mut interface = interface(rt.alloc());
+        interface.transport = transport;
+        interface.ipv4 = ipv4;
+        interface.ipv6 = ipv6;
+        let config = config(rt.alloc(), interface)?;
         assert_eq!(rt; config.check(), answer);
     }
     Ok(())
@@ -139,19 +142,22 @@ fn addresses_of_interfaces(rt: HostRuntime) -> Result<(), Fail> {
 
 #[test]
 fn peers(rt: HostRuntime) -> Result<(), Fail> {
-    let mut config = config(rt.alloc())?;
-    for last in 3..19 {
-        config.interfaces[0]
-            .peers
-            .push(Addr::V4([192, 168, 0, last]))?;
+    let other = Addr::V6([0; 16]);
+    for (count, last, answer) in [
+        (0, None, Ok(())),
+        (16, None, Ok(())),
+        (17, None, Err(ConfigFault::InterfaceAddresses)),
+        (2, Some(other), Err(ConfigFault::InterfaceAddresses)),
+    ] {
+        let mut interface = interface(rt.alloc());
+        for n in 0..count {
+            interface.peers.push(Addr::V4([192, 168, 0, n]))?;
+        }
+        if let Some(peer) = last {
+            interface.peers.push(peer)?;
+        }
+        let config = config(rt.alloc(), interface)?;
+        assert_eq!(rt; config.check(), answer, "{count} peers");
     }
-    assert_eq!(rt; config.check(), Ok(()));
-    config.interfaces[0]
-        .peers
-        .push(Addr::V4([192, 168, 0, 19]))?;
-    assert_eq!(rt; config.check(), Err(ConfigFault::InterfaceAddresses));
-    config.interfaces[0].peers.truncate(2);
-    config.interfaces[0].peers.push(Addr::V6([0; 16]))?;
-    assert_eq!(rt; config.check(), Err(ConfigFault::InterfaceAddresses));
     Ok(())
 }

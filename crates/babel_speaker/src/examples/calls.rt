@@ -1,0 +1,81 @@
+//! Own prefixes, costs, source addresses, and full tables.
+
+ghost use Rattle.std.specs.Prelude.{◌≡◌, false, [], ◌∷◌, Some, None};
+ghost use Rattle.babel_value.specs.declared.addresses.Addr.TheVariants.{V4};
+ghost use Rattle.babel_packet.specs.declared.messages.Message.TheVariants as messages;
+ghost use Rattle.babel_speaker.specs.declared.faults.SetCostFault.TheVariants as set_cost_faults;
+ghost use Rattle.babel_speaker.specs.declared.items.Item.TheVariants as items;
+ghost use Rattle.babel_speaker.specs.declared.items.Said.TheVariants as sayings;
+ghost use Rattle.babel_speaker.specs.declared.notes.RecvFault.TheVariants as recv_faults;
+ghost use Rattle.babel_speaker.specs.declared.notes.Verdict.TheVariants as verdicts;
+ghost use Rattle.babel_speaker.specs.Addresses.{source_fault};
+ghost use Rattle.babel_speaker.specs.Calls.{set_cost_fault, cost_set};
+ghost use Rattle.babel_speaker.specs.Saying.{said};
+ghost use Rattle.babel_speaker.specs.ExampleStates.{router, addr, link_local, ipv6_prefix, peer, ten, net, to_all, start, interface, meshed, update, after, verdict, owed_items, datagram};
+ghost use Rattle.babel_speaker.specs.LostRoutes.{selected_peer, told_5};
+ghost use Rattle.babel_speaker.specs.CallExamples.{full_of_routes, full_of_sources, announced_ten, withdrawn_ten, flushed};
+
+/// An announced prefix has no selection, and is told with the own router-id; when it is withdrawn the
+/// route is selected again. Both are told to all once.
+pub fn announced_and_withdrawn()
+    ensures announced { announced_ten.announced ≡ ten ∷ [] }
+    ensures no_selection { selected_peer announced_ten ≡ None }
+    ensures owed { owed_items announced_ten ≡ items.Update (to_all 0) ten ∷ [] }
+    ensures said { said announced_ten (items.Update (to_all 0) ten) ≡ sayings.Message (to_all 0) (messages.Update ten (router 2) (addr 2) 0 0 1600) }
+    ensures no_request { announced_ten.requests ≡ [] }
+    ensures withdrawn { withdrawn_ten.announced ≡ [] }
+    ensures selected { selected_peer withdrawn_ten ≡ Some (peer 1) }
+    ensures told { owed_items withdrawn_ten ≡ items.Update (to_all 0) ten ∷ items.Update (to_all 0) ten ∷ [] }
+{}
+
+/// A neighbour that restarted is made anew, its routes go, and no request follows.
+pub fn flushed_neighbour()
+    ensures verdict { verdict 40 1 (messages.Hello false 100 400) told_5 ≡ verdicts.Taken }
+    ensures entries { flushed.routes.entries ≡ [] }
+    ensures selected { selected_peer flushed ≡ None }
+    ensures owed { owed_items flushed ≡ items.Update (to_all 0) ten ∷ [] }
+    ensures requests { flushed.requests ≡ [] }
+{}
+
+/// The 257th route isn't stored; a known one is.
+pub fn full_route_table()
+    ensures refused { verdict 0 1 (update 1 1 0 0) full_of_routes ≡ verdicts.TableFull }
+    ensures unchanged { after 0 1 (update 1 1 0 0) full_of_routes ≡ full_of_routes }
+    ensures known { verdict 0 1 (messages.Update (net 0) (router 1) (addr 1) 1 0 1600) full_of_routes ≡ verdicts.Taken }
+{}
+
+/// An update that needs a 513th source is left out, and counted.
+pub fn full_source_table()
+    ensures selected { selected_peer full_of_sources ≡ Some (peer 1) }
+    ensures owed { owed_items full_of_sources ≡ items.Update (to_all 0) ten ∷ [] }
+    ensures nothing { (datagram 0 full_of_sources).target ≡ None }
+    ensures counted { (datagram 0 full_of_sources).state.left_out ≡ 1 }
+    ensures gone { owed_items (datagram 0 full_of_sources).state ≡ [] }
+{}
+
+/// A retraction is sent where there is no address of the family; a finite update isn't, and isn't
+/// counted.
+pub fn other_family()
+    ensures retraction { said start (items.Update (to_all 0) ipv6_prefix) ≡ sayings.Message (to_all 0) (messages.Retraction ipv6_prefix 1600) }
+    ensures update { said (record start { announced = ipv6_prefix ∷ [] }) (items.Update (to_all 0) ipv6_prefix) ≡ sayings.Nothing }
+{}
+
+/// From where datagrams are taken.
+pub fn source_addresses()
+    ensures no_interface { source_fault 1 (addr 1) start ≡ Some recv_faults.NoInterface }
+    ensures neighbour { source_fault 0 (addr 1) start ≡ None }
+    ensures broadcast { source_fault 0 (addr 255) start ≡ None }
+    ensures foreign { source_fault 0 (V4 (192 ∷ 168 ∷ 1 ∷ 1 ∷ [])) start ≡ Some recv_faults.ForeignSource }
+    ensures own { source_fault 0 (addr 2) start ≡ Some recv_faults.OwnSource }
+    ensures link_local { source_fault 0 link_local start ≡ None }
+{}
+
+/// A nominal cost changes what is told to neighbours, and nothing else.
+pub fn nominal_costs()
+    ensures no_interface { set_cost_fault 1 0 start ≡ Some set_cost_faults.NoInterface }
+    ensures zero { set_cost_fault 0 0 start ≡ Some set_cost_faults.CostOutOfRange }
+    ensures infinite { set_cost_fault 0 65535 start ≡ Some set_cost_faults.CostOutOfRange }
+    ensures greatest { set_cost_fault 0 65534 start ≡ None }
+    ensures set { cost_set 0 65534 told_5 ≡ record told_5 { interfaces = record (interface 0) { cost = 65534 } ∷ [] } }
+    ensures told { said (cost_set 0 200 told_5) (items.Ihu (peer 1)) ≡ sayings.Message (to_all 0) (messages.Ihu (Some (addr 1)) 200 1200) }
+{}

@@ -1,0 +1,78 @@
+//! What datagrams do, and what their messages are answered.
+
+ghost use Rattle.std.specs.Prelude.{◌≡◌, ℕ, true, false, [], ◌∷◌, Some, None};
+ghost use Rattle.babel_packet.specs.declared.messages.Message.TheVariants as messages;
+ghost use Rattle.babel_speaker.specs.declared.items.Item.TheVariants as items;
+ghost use Rattle.babel_speaker.specs.declared.notes.Verdict.TheVariants as verdicts;
+ghost use Rattle.babel_speaker.specs.State.{selected_at};
+ghost use Rattle.babel_speaker.specs.Messages.{notes_of};
+ghost use Rattle.babel_speaker.specs.Calls.{selected_route};
+ghost use Rattle.babel_speaker.specs.ExampleStates.{router, addr, peer, ten, net, ten_of, pair, to_all, to_one, start, meshed, announcing, update, after, verdict, owed_items, datagram, sent};
+ghost use Rattle.babel_speaker.specs.LostRoutes.{selected_peer, told_5};
+ghost use Rattle.babel_speaker.specs.LogB.{first, second, third, state_1, state_2, state_3, built_2, note, link_1, entry_2};
+
+/// A Hello makes a neighbour, and owes nothing.
+pub fn first_datagram()
+    ensures notes { notes_of 0 (peer 1) first start ≡ note 4 verdicts.Taken ∷ [] }
+    ensures neighbours { state_1.neighbours ≡ (peer 1, link_1) ∷ [] }
+    ensures owed { owed_items state_1 ≡ [] }
+    ensures handed_out { (datagram 0 state_1).target ≡ None }
+{}
+
+/// With the second Hello and an IHU the link costs 96, and the update of 10.0.0.0/8 with metric 0 is
+/// selected. It is told to all.
+pub fn second_datagram()
+    ensures notes { notes_of 400 (peer 1) second state_1 ≡ note 4 verdicts.Taken ∷ note 12 verdicts.Taken ∷ note 24 verdicts.State ∷ note 36 verdicts.Taken ∷ [] }
+    ensures selection { selected_at ten state_2 ≡ Some (record { peer = peer 1; entry = entry_2 }) }
+    ensures selected { selected_route ten state_2 ≡ Some (record { peer = peer 1; next_hop = addr 1; router = router 1; distance = pair 0 0; metric = 96 }) }
+    ensures owed { owed_items state_2 ≡ items.Update (to_all 0) ten ∷ [] }
+    ensures target { built_2.target ≡ Some (to_all 0) }
+    ensures messages { built_2.messages ≡ messages.Update ten (router 1) (addr 2) 0 96 1600 ∷ [] }
+    ensures sources { built_2.state.sources ≡ (ten_of 1, record { distance = pair 0 96; due = 18400 }) ∷ [] }
+    ensures left { owed_items built_2.state ≡ [] }
+{}
+
+/// What was sent is no better than what neighbour 3 tells: it isn't feasible, and nothing changes but
+/// the table.
+pub fn third_datagram()
+    ensures notes { notes_of 500 (peer 3) third built_2.state ≡ note 4 verdicts.Taken ∷ note 12 verdicts.State ∷ note 24 (verdicts.Unfeasible (pair 0 96)) ∷ [] }
+    ensures selection { selected_at ten state_3 ≡ Some (record { peer = peer 1; entry = entry_2 }) }
+    ensures owed { owed_items state_3 ≡ [] }
+    ensures handed_out { (datagram 500 state_3).target ≡ None }
+{}
+
+/// Who isn't a neighbour may ask for an Acknowledgment, and gets it.
+pub fn acknowledgment_of_a_stranger()
+    ensures verdict { verdict 0 9 (messages.AckRequest 7 100) start ≡ verdicts.Taken }
+    ensures owed { owed_items (after 0 9 (messages.AckRequest 7 100) start) ≡ items.Ack (peer 9) 7 ∷ [] }
+    ensures target { (datagram 0 (after 0 9 (messages.AckRequest 7 100) start)).target ≡ Some (to_one 9) }
+    ensures messages { (datagram 0 (after 0 9 (messages.AckRequest 7 100) start)).messages ≡ messages.Ack 7 ∷ [] }
+    ensures no_more { (sent 0 (after 0 9 (messages.AckRequest 7 100) start)) ≡ start }
+    ensures neighbours { (after 0 9 (messages.AckRequest 7 100) start).neighbours ≡ [] }
+{}
+
+/// A request for a prefix that isn't known is answered by a retraction; a stranger's isn't answered.
+pub fn unknown_prefix()
+    ensures verdict { verdict 1 1 (messages.RouteRequest (net 9)) state_1 ≡ verdicts.Taken }
+    ensures target { (datagram 1 (after 1 1 (messages.RouteRequest (net 9)) state_1)).target ≡ Some (to_one 1) }
+    ensures messages { (datagram 1 (after 1 1 (messages.RouteRequest (net 9)) state_1)).messages ≡ messages.Retraction (net 9) 1600 ∷ [] }
+    ensures stranger { verdict 1 9 (messages.RouteRequest (net 9)) state_1 ≡ verdicts.UnknownNeighbour }
+    ensures stranger_unchanged { after 1 9 (messages.RouteRequest (net 9)) state_1 ≡ state_1 }
+{}
+
+/// All routes that are announced here or selected are told to who asks for all.
+pub fn all_routes()
+    ensures owed { owed_items (after 0 1 messages.DumpRequest (announcing told_5)) ≡ items.Update (to_one 1) ten ∷ items.Update (to_one 1) (net 1) ∷ [] }
+{}
+
+/// Messages that change nothing.
+pub fn refused_messages()
+    ensures own_router { verdict 0 1 (update 1 2 0 0) meshed ≡ verdicts.OwnRouterId }
+    ensures own_router_unchanged { after 0 1 (update 1 2 0 0) meshed ≡ meshed }
+    ensures other_address { verdict 0 1 (messages.Ihu (Some (addr 3)) 10 400) meshed ≡ verdicts.OtherAddress }
+    ensures other_address_unchanged { after 0 1 (messages.Ihu (Some (addr 3)) 10 400) meshed ≡ meshed }
+    ensures any_address { verdict 0 1 (messages.Ihu None 10 400) meshed ≡ verdicts.Taken }
+    ensures no_entry { verdict 0 1 (messages.Retraction ten 1600) meshed ≡ verdicts.NoEntry }
+    ensures no_entries { verdict 0 3 (messages.RetractAll 1600) told_5 ≡ verdicts.NoEntry }
+    ensures retracted { selected_peer (after 0 1 (messages.RetractAll 1600) told_5) ≡ None }
+{}
