@@ -19,7 +19,7 @@ use Rattle.babel_speaker.specs.declared.items.Target.{Target}
 use Rattle.babel_speaker.specs.declared.notes.Verdict.{Verdict}
 use Rattle.babel_speaker.specs.State.{State}
 use Rattle.babel_speaker.specs.Messages.{takes}
-use Rattle.babel_speaker.specs.HandingOut.{Fits, Built, handed_out}
+use Rattle.babel_speaker.specs.HandingOut.{Fits, Handing, handed_out}
 
 -- ---- values
 
@@ -141,7 +141,7 @@ owed_items s = s.pending.items
 abbrev pub all_fit : Fits
 all_fit target messages message = true
 
-abbrev pub datagram : ℕ → State → Built
+abbrev pub datagram : ℕ → State → Handing
 datagram now s = handed_out now all_fit s
 
 -- The state after all that is owed was handed out, in at most two datagrams.

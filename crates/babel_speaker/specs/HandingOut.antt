@@ -36,7 +36,7 @@ after_message now target message s = s
 
 -- ---- the datagram so far
 
-pub record Built : Type 0 where
+pub record Handing : Type 0 where
   pub state : State
   -- where it goes: not known before its first message
   pub target : Option Target
@@ -59,7 +59,7 @@ abbrev pub Fits : Type 0
 Fits = Target → List Message → Message → Bool
 
 -- With one more message. Now it's there, it lowers sources and uses up Hello seqnos.
-abbrev pub with_message : ℕ → Built → Target → Message → Built
+abbrev pub with_message : ℕ → Handing → Target → Message → Handing
 with_message now b target message = record {
   state = after_message now target message b.state;
   target = Some target;
@@ -70,23 +70,23 @@ abbrev pub left_out_more : State → State
 left_out_more s = record s { left_out = counted s.left_out 1 }
 
 -- After one item. None: it has another target, or its message doesn't fit, so that it stays.
-unfoldable pub built_with : ℕ → Fits → Built → Said → Option Built
-built_with now fits b sayings.Nothing = Some b
-built_with now fits b sayings.LeftOut = Some (record b { state = left_out_more b.state })
-built_with now fits b (sayings.Message target message) =
+unfoldable pub handing_with : ℕ → Fits → Handing → Said → Option Handing
+handing_with now fits b sayings.Nothing = Some b
+handing_with now fits b sayings.LeftOut = Some (record b { state = left_out_more b.state })
+handing_with now fits b (sayings.Message target message) =
     if goes_to b.target target && fits target b.messages message then Some (with_message now b target message) else None
 
 -- ---- item after item
 
-abbrev pub without_first : List Item → Built → Built
+abbrev pub without_first : List Item → Handing → Handing
 without_first rest b = record b { state = record b.state { pending = record b.state.pending { items = rest } } }
 
 -- As long as the items don't stay.
-abbrev pub handed : ℕ → Fits → List Item → Built → Built
+abbrev pub handed : ℕ → Fits → List Item → Handing → Handing
 handed now fits [] b = b
 handed now fits (x ∷ xs) b =
-    option_map_or (λ c. handed now fits xs (without_first xs c)) (built_with now fits b (said b.state x)) b
+    option_map_or (λ c. handed now fits xs (without_first xs c)) (handing_with now fits b (said b.state x)) b
 
 -- The next datagram: its target and messages, if there is one, and the state after it.
-unfoldable pub handed_out : ℕ → Fits → State → Built
+unfoldable pub handed_out : ℕ → Fits → State → Handing
 handed_out now fits s = handed now fits s.pending.items (record { state = s; target = None; messages = [] })

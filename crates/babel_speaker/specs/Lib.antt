@@ -21,3 +21,4 @@ pub mod LostRoutes
 pub mod SeqnoExamples
 pub mod TickExamples
 pub mod CallExamples
+pub mod StepLaws

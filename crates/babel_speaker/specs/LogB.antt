@@ -10,7 +10,7 @@ use Rattle.babel_speaker.specs.declared.notes.Note.{Note}
 use Rattle.babel_speaker.specs.declared.notes.Verdict.{Verdict}
 use Rattle.babel_speaker.specs.State.{State}
 use Rattle.babel_speaker.specs.Messages.{after_places}
-use Rattle.babel_speaker.specs.HandingOut.{Built}
+use Rattle.babel_speaker.specs.HandingOut.{Handing}
 use Rattle.babel_speaker.specs.ExampleStates.{router, addr, peer, pair, start, update, datagram}
 
 -- At 0 from 192.168.0.1, in octets and in meaning.
@@ -44,7 +44,7 @@ state_1 = after_places 0 (peer 1) first start
 abbrev pub state_2 : State
 state_2 = after_places 400 (peer 1) second state_1
 
-abbrev pub built_2 : Built
+abbrev pub built_2 : Handing
 built_2 = datagram 400 state_2
 
 abbrev pub state_3 : State

@@ -6,7 +6,7 @@ use Rattle.babel_value.specs.declared.keys.Peer.{Peer}
 use Rattle.babel_speaker.specs.declared.interfaces.InterfaceEntry.{InterfaceEntry}
 use Rattle.babel_speaker.specs.State.{State}
 use Rattle.babel_speaker.specs.Ticks.{ticked}
-use Rattle.babel_speaker.specs.HandingOut.{Fits, Built, handed_out}
+use Rattle.babel_speaker.specs.HandingOut.{Fits, Handing, handed_out}
 use Rattle.babel_speaker.specs.ExampleStates.{peer, start, interface, up_link, announcing, with_pending, update, after, datagram}
 use Rattle.babel_speaker.specs.LostRoutes.{told_5}
 
@@ -36,17 +36,17 @@ abbrev pub fired_at_10 : ℕ → InterfaceEntry
 fired_at_10 n = record (interface n) { hello_due = Some 410; ihu_due = Some 1210; update_due = Some 1610 }
 
 -- What is handed out after it, in two datagrams.
-abbrev pub first_built : Built
+abbrev pub first_built : Handing
 first_built = datagram 10 first_tick
 
-abbrev pub second_built : Built
+abbrev pub second_built : Handing
 second_built = datagram 10 first_built.state
 
 -- Where only one message fits.
 abbrev pub one_fits : Fits
 one_fits target messages message = nat_eq (length messages) 0
 
-abbrev pub built_of_one : Built
+abbrev pub built_of_one : Handing
 built_of_one = handed_out 10 one_fits first_tick
 
 -- With collection of sources.

@@ -3,9 +3,21 @@
 ghost use Rattle.std.specs.Prelude.{◌≡◌, ◌<◌, ◌≤◌, ◌^◌, List, length};
 ghost use Rattle.babel_speaker.specs.declared.items.Item.{Item};
 ghost use Rattle.babel_speaker.specs.Owing.{Pending, owed, owed_at_once};
+ghost use Rattle.babel_speaker.specs.StepLaws.{MessagesKeepOwn, TicksKeepOwn};
 
 /// Items that are owed one after the other leave what they leave all at once: the last 4,096 of the
 /// old items followed by the owed ones, and a count of what was cut.
 pub fn owing_is_cutting()
     ensures { (xs : List Item) (old : Pending) → length old.items ≤ 4096 → old.dropped < 2 ^ 64 → owed xs old ≡ owed_at_once xs old }
+{}
+
+/// A message leaves the speaker's own router-id, prefixes and source table as they were, and its seqno
+/// grows at most once.
+pub fn messages_keep_what_is_own()
+    ensures { MessagesKeepOwn }
+{}
+
+/// So does a tick, which doesn't raise the seqno either, where collection is off.
+pub fn ticks_keep_what_is_own()
+    ensures { TicksKeepOwn }
 {}

@@ -1,0 +1,266 @@
+-- Steps keep what is the speaker's own.
+use Rattle.std.specs.Prelude.{◌≡◌, ◌⊎◌, ℕ, Bool, true, false, List, [], ◌∷◌, Option, Some, None, nat_lt, if◌then◌else◌}
+use Rattle.std.specs.Option.{option_map_or}
+use Rattle.std.proofs.Common.{refl, ◌∙◌, ap, inl, inr}
+use Rattle.babel_value.specs.declared.addresses.Addr.{Addr}
+use Rattle.babel_value.specs.declared.distances.Distance.{Distance}
+use Rattle.babel_value.specs.declared.keys.Peer.{Peer}
+use Rattle.babel_value.specs.declared.keys.Source.{Source}
+use Rattle.babel_value.specs.Prefixes.{PrefixValue}
+use Rattle.babel_link.specs.Neighbours.{Links, tick_of, gone_of, hello_verdict}
+use Rattle.babel_link.specs.declared.marks.Heard.{Heard}
+use Rattle.babel_link.specs.declared.marks.Heard.TheVariants.{Kept, Flush}
+use Rattle.babel_packet.specs.declared.messages.Message.{Message}
+use Rattle.babel_packet.specs.declared.messages.Message.TheVariants as messages
+use Rattle.babel_route.specs.declared.entries.Selection.{Selection}
+use Rattle.babel_route.specs.Selections.{RoutesValue}
+use Rattle.babel_route.specs.Sources.{collected}
+use Rattle.babel_speaker.specs.declared.interfaces.InterfaceEntry.{InterfaceEntry}
+use Rattle.babel_speaker.specs.declared.items.Item.{Item}
+use Rattle.babel_speaker.specs.declared.requests.Resend.{Resend}
+use Rattle.babel_speaker.specs.declared.notes.Verdict.TheVariants as verdicts
+use Rattle.babel_speaker.specs.Sameness.{is_same_router}
+use Rattle.babel_speaker.specs.PendingRequests.{PendingRequests, is_redundant}
+use Rattle.babel_speaker.specs.State.{State, routed_prefixes, selected_at, pair_at}
+use Rattle.babel_speaker.specs.Reselection.{UnfeasibleUpdate, owes, update_to, asks, asks_for_lost, asks_for_update, asks_sender, asks_for_seqno, tells_change, follows_up, selects, reselects, reselects_each, reselects_all}
+use Rattle.babel_speaker.specs.Hellos.{Step, forgets, forgets_flushed, hears, takes_hello, takes_ihu}
+use Rattle.babel_speaker.specs.Updates.{stores, tells_if_selected, answers_request, judges, is_route_too_many, takes_update, takes_retraction, takes_retract_all}
+use Rattle.babel_speaker.specs.SeqnoRequests.{raised, answers, asked_of_own, passes_on, asked_of_route, receiver, takes_seqno_request}
+use Rattle.babel_speaker.specs.Messages.{takes_of_neighbour, takes}
+use Rattle.babel_speaker.specs.Ticks.{forgets_each, links_ticked, routes_ticked, requests_ticked, interfaces_ticked, sources_ticked, routes_selected, ticked}
+use Rattle.babel_speaker.specs.StepLaws.{OwnValue, own_of, grown, MessagesKeepOwn, TicksKeepOwn}
+
+-- ---- cases
+
+if_state : (b : Bool) (x y : State) (o : OwnValue) → own_of x ≡ o → own_of y ≡ o → own_of (if b then x else y) ≡ o
+if_state true x y o p q = p
+if_state false x y o p q = q
+
+if_step : (b : Bool) (x y : Step) (o : OwnValue) → own_of x.0 ≡ o → own_of y.0 ≡ o → own_of (if b then x else y).0 ≡ o
+if_step true x y o p q = p
+if_step false x y o p q = q
+
+of_option : {A : Type 0} (f : A → State) (m : Option A) (d : State) (o : OwnValue) → ((a : A) → own_of (f a) ≡ o) → own_of d ≡ o → own_of (option_map_or f m d) ≡ o
+of_option f None d o p q = q
+of_option f (Some a) d o p q = p a
+
+-- ---- what isn't the speaker's own
+
+owes_own : (xs : List Item) (s : State) → own_of (owes xs s) ≡ own_of s
+unfolding own_of
+owes_own xs s = refl
+
+requests_own : (s : State) (requests : PendingRequests) → own_of (record s { requests = requests }) ≡ own_of s
+unfolding own_of
+requests_own s requests = refl
+
+routes_own : (s : State) (routes : RoutesValue) → own_of (record s { routes = routes }) ≡ own_of s
+unfolding own_of
+routes_own s routes = refl
+
+neighbours_own : (s : State) (neighbours : Links) → own_of (record s { neighbours = neighbours }) ≡ own_of s
+unfolding own_of
+neighbours_own s neighbours = refl
+
+interfaces_own : (s : State) (interfaces : List InterfaceEntry) → own_of (record s { interfaces = interfaces }) ≡ own_of s
+unfolding own_of
+interfaces_own s interfaces = refl
+
+-- ---- reselection
+
+asks_own : (now : ℕ) (source : Source) (seqno : ℕ) (resend : Resend) (hops : ℕ) (peers : List Peer) (s : State) → own_of (asks now source seqno resend hops peers s) ≡ own_of s
+unfolding asks
+asks_own now source seqno resend hops peers s = if_state _ _ _ _ refl (owes_own _ _ ∙ requests_own s _)
+
+tells_own : (prefix : PrefixValue) (old new : Option Selection) (s : State) → own_of (tells_change prefix old new s) ≡ own_of s
+tells_own prefix old new s = if_state _ _ _ _ refl (owes_own _ s)
+
+update_own : (now : ℕ) (prefix : PrefixValue) (update : UnfeasibleUpdate) (s : State) → own_of (asks_for_update now prefix update s) ≡ own_of s
+update_own now prefix update s = of_option _ (pair_at prefix update.router s) s _ (λ pair. asks_own _ _ _ _ _ _ s) refl
+
+sender_own : (now : ℕ) (cause : Option UnfeasibleUpdate) (prefix : PrefixValue) (old : Option Selection) (s : State) → own_of (asks_sender now cause prefix old s) ≡ own_of s
+sender_own now None prefix old s = refl
+sender_own now (Some update) prefix old s = if_state _ _ _ _ (update_own now prefix update s) refl
+
+seqno_own : (now : ℕ) (cause : Option UnfeasibleUpdate) (prefix : PrefixValue) (old new : Option Selection) (s : State) → own_of (asks_for_seqno now cause prefix old new s) ≡ own_of s
+seqno_own now cause prefix (Some lost) None s = if_state _ _ _ _ (asks_own _ _ _ _ _ _ s) (sender_own now cause prefix (Some lost) s)
+seqno_own now cause prefix (Some lost) (Some new) s = sender_own now cause prefix (Some lost) s
+seqno_own now cause prefix None None s = sender_own now cause prefix None s
+seqno_own now cause prefix None (Some new) s = sender_own now cause prefix None s
+
+follows_own : (now : ℕ) (cause : Option UnfeasibleUpdate) (prefix : PrefixValue) (old new : Option Selection) (s : State) → own_of (follows_up now cause prefix old new s) ≡ own_of s
+follows_own now cause prefix old new s = seqno_own now cause prefix old new (tells_change prefix old new s) ∙ tells_own prefix old new s
+
+reselects_own : (now : ℕ) (cause : Option UnfeasibleUpdate) (prefix : PrefixValue) (s : State) → own_of (reselects now cause prefix s) ≡ own_of s
+unfolding reselects
+reselects_own now cause prefix s =
+    follows_own now cause prefix (selected_at prefix s) (selected_at prefix (selects prefix s)) (selects prefix s) ∙ routes_own s _
+
+each_own : (now : ℕ) (ps : List PrefixValue) (s : State) → own_of (reselects_each now ps s) ≡ own_of s
+each_own now [] s = refl
+each_own now (p ∷ ps) s = each_own now ps (reselects now None p s) ∙ reselects_own now None p s
+
+all_own : (now : ℕ) (s : State) → own_of (reselects_all now s) ≡ own_of s
+unfolding reselects_all
+all_own now s = each_own now (routed_prefixes s) s
+
+-- ---- messages
+
+flushed_own : (heard : Heard) (peer : Peer) (s : State) → own_of (forgets_flushed heard peer s) ≡ own_of s
+flushed_own Kept peer s = refl
+flushed_own Flush peer s = routes_own s _
+
+hears_own : (now : ℕ) (peer : Peer) (unicast : Bool) (seqno interval : ℕ) (s : State) → own_of (hears now peer unicast seqno interval s) ≡ own_of s
+hears_own now peer unicast seqno interval s =
+    flushed_own (hello_verdict peer unicast seqno s.neighbours) peer _ ∙ neighbours_own s _
+
+hello_own : (now : ℕ) (peer : Peer) (unicast : Bool) (seqno interval : ℕ) (s : State) → own_of (takes_hello now peer unicast seqno interval s).0 ≡ own_of s
+unfolding takes_hello
+hello_own now peer unicast seqno interval s =
+    if_step _ _ _ _ (all_own now s) (all_own now (hears now peer unicast seqno interval s) ∙ hears_own now peer unicast seqno interval s)
+
+ihu_own : (now : ℕ) (peer : Peer) (to : Option Addr) (rxcost interval : ℕ) (s : State) → own_of (takes_ihu now peer to rxcost interval s).0 ≡ own_of s
+unfolding takes_ihu
+ihu_own now peer to rxcost interval s = if_step _ _ _ _ (all_own now _ ∙ neighbours_own s _) refl
+
+tells_if_own : (prefix : PrefixValue) (s : State) → own_of (tells_if_selected prefix s) ≡ own_of s
+tells_if_own prefix s = if_state _ _ _ _ (owes_own _ s) refl
+
+answers_own : (source : Source) (seqno : ℕ) (s : State) → own_of (answers_request source seqno s) ≡ own_of s
+unfolding answers_request
+answers_own source seqno s = if_state _ _ _ _ (tells_if_own source.prefix _ ∙ requests_own s _) refl
+
+judges_own : (now : ℕ) (peer : Peer) (prefix : PrefixValue) (router : List ℕ) (distance : Distance) (pair : Option Distance) (s : State) → own_of (judges now peer prefix router distance pair s).0 ≡ own_of s
+judges_own now peer prefix router distance None s = answers_own _ _ _ ∙ reselects_own now None prefix s
+judges_own now peer prefix router distance (Some pair) s =
+    if_step _ _ _ _ (answers_own _ _ _ ∙ reselects_own now None prefix s) (reselects_own now _ prefix s)
+
+takes_update_own : (now : ℕ) (peer : Peer) (prefix : PrefixValue) (router : List ℕ) (next_hop : Addr) (distance : Distance) (interval : ℕ) (s : State) →
+    own_of (takes_update now peer prefix router next_hop distance interval s).0 ≡ own_of s
+unfolding takes_update
+takes_update_own now peer prefix router next_hop distance interval s =
+    let stored : State = stores now peer prefix router next_hop distance interval s in
+    let judged : Step = judges now peer prefix router distance (pair_at prefix router s) stored in
+    let kept : own_of judged.0 ≡ own_of s = judges_own now peer prefix router distance (pair_at prefix router s) stored ∙ routes_own s _ in
+    let full : Step = (s, verdicts.TableFull) in
+    let unless_full : Step = if is_route_too_many prefix peer s then full else judged in
+    if_step (is_same_router router s.router) (s, verdicts.OwnRouterId) unless_full (own_of s) refl
+    (if_step (is_route_too_many prefix peer s) full judged (own_of s) refl kept)
+
+retraction_own : (now : ℕ) (peer : Peer) (prefix : PrefixValue) (s : State) → own_of (takes_retraction now peer prefix s).0 ≡ own_of s
+unfolding takes_retraction
+retraction_own now peer prefix s = if_step _ _ _ _ (reselects_own now None prefix _ ∙ routes_own s _) refl
+
+retract_all_own : (now : ℕ) (peer : Peer) (s : State) → own_of (takes_retract_all now peer s).0 ≡ own_of s
+unfolding takes_retract_all
+retract_all_own now peer s = if_step _ _ _ _ (all_own now _ ∙ routes_own s _) refl
+
+-- ---- seqno requests
+
+abbrev Grows : OwnValue → State → Type 0
+Grows o t = (own_of t ≡ o) ⊎ (own_of t ≡ grown o)
+
+either_step : (b : Bool) (x y : Step) (o : OwnValue) → Grows o x.0 → Grows o y.0 → Grows o (if b then x else y).0
+either_step true x y o p q = p
+either_step false x y o p q = q
+
+either_state : (b : Bool) (x y : State) (o : OwnValue) → Grows o x → Grows o y → Grows o (if b then x else y)
+either_state true x y o p q = p
+either_state false x y o p q = q
+
+raised_own : (s : State) → own_of (raised s) ≡ grown (own_of s)
+unfolding own_of
+raised_own s = refl
+
+own_prefix : (peer : Peer) (source : Source) (seqno : ℕ) (s : State) → Grows (own_of s) (asked_of_own peer source seqno s)
+own_prefix peer source seqno s = either_state _ _ _ _ (inl (owes_own _ s)) (inr (owes_own _ (raised s) ∙ raised_own s))
+
+passes_own : (now : ℕ) (source : Source) (seqno hops : ℕ) (next : Option Peer) (s : State) → own_of (passes_on now source seqno hops next s).0 ≡ own_of s
+passes_own now source seqno hops None s = refl
+passes_own now source seqno hops (Some next) s = asks_own _ _ _ _ _ _ s
+
+route_own : (now : ℕ) (peer : Peer) (source : Source) (seqno hops : ℕ) (route : Option Selection) (s : State) → own_of (asked_of_route now peer source seqno hops route s).0 ≡ own_of s
+route_own now peer source seqno hops None s = refl
+route_own now peer source seqno hops (Some route) s =
+    let passed : Step = passes_on now source seqno hops (receiver peer source.prefix s) s in
+    let kept : own_of passed.0 ≡ own_of s = passes_own now source seqno hops (receiver peer source.prefix s) s in
+    let ends : Step = (s, verdicts.NotForwarded) in
+    let redundant : Step = (s, verdicts.Redundant) in
+    let with_hops : Step = if nat_lt hops 2 then ends else passed in
+    let unless_redundant : Step = if is_redundant source seqno s.requests then redundant else with_hops in
+    if_step (answers route.entry.router route.entry.distance.seqno source.router seqno) (owes (update_to peer source.prefix ∷ []) s, verdicts.Taken) unless_redundant (own_of s)
+    (owes_own _ s)
+    (if_step (is_redundant source seqno s.requests) redundant with_hops (own_of s) refl (if_step (nat_lt hops 2) ends passed (own_of s) refl kept))
+
+seqno_request_own : (now : ℕ) (peer : Peer) (source : Source) (seqno hops : ℕ) (s : State) → Grows (own_of s) (takes_seqno_request now peer source seqno hops s).0
+unfolding takes_seqno_request
+seqno_request_own now peer source seqno hops s =
+    either_step _ _ _ _ (own_prefix peer source seqno s) (inl (route_own now peer source seqno hops (selected_at source.prefix s) s))
+
+-- ---- every message
+
+neighbour_own : (now : ℕ) (peer : Peer) (message : Message) (s : State) → Grows (own_of s) (takes_of_neighbour now peer message s).0
+neighbour_own now peer (messages.AckRequest opaque interval) s = inl refl
+neighbour_own now peer (messages.Ack opaque) s = inl refl
+neighbour_own now peer (messages.Hello unicast seqno interval) s = inl refl
+neighbour_own now peer (messages.Ihu to rxcost interval) s = inl (ihu_own now peer to rxcost interval s)
+neighbour_own now peer (messages.Update prefix router next_hop seqno metric interval) s = inl (takes_update_own now peer prefix router next_hop _ interval s)
+neighbour_own now peer (messages.Retraction prefix interval) s = inl (retraction_own now peer prefix s)
+neighbour_own now peer (messages.RetractAll interval) s = inl (retract_all_own now peer s)
+neighbour_own now peer (messages.RouteRequest prefix) s = inl (owes_own _ s)
+neighbour_own now peer messages.DumpRequest s = inl (owes_own _ s)
+neighbour_own now peer (messages.SeqnoRequest prefix router seqno hops) s = seqno_request_own now peer _ seqno hops s
+
+pub message_own : MessagesKeepOwn
+unfolding takes
+message_own now peer (messages.AckRequest opaque interval) s = inl (owes_own _ s)
+message_own now peer (messages.Ack opaque) s = either_step _ _ _ _ (neighbour_own now peer (messages.Ack opaque) s) (inl refl)
+message_own now peer (messages.Hello unicast seqno interval) s = inl (hello_own now peer unicast seqno interval s)
+message_own now peer (messages.Ihu to rxcost interval) s = either_step _ _ _ _ (neighbour_own now peer (messages.Ihu to rxcost interval) s) (inl refl)
+message_own now peer (messages.Update prefix router next_hop seqno metric interval) s =
+    either_step _ _ _ _ (neighbour_own now peer (messages.Update prefix router next_hop seqno metric interval) s) (inl refl)
+message_own now peer (messages.Retraction prefix interval) s = either_step _ _ _ _ (neighbour_own now peer (messages.Retraction prefix interval) s) (inl refl)
+message_own now peer (messages.RetractAll interval) s = either_step _ _ _ _ (neighbour_own now peer (messages.RetractAll interval) s) (inl refl)
+message_own now peer (messages.RouteRequest prefix) s = either_step _ _ _ _ (neighbour_own now peer (messages.RouteRequest prefix) s) (inl refl)
+message_own now peer messages.DumpRequest s = either_step _ _ _ _ (neighbour_own now peer messages.DumpRequest s) (inl refl)
+message_own now peer (messages.SeqnoRequest prefix router seqno hops) s =
+    either_step _ _ _ _ (neighbour_own now peer (messages.SeqnoRequest prefix router seqno hops) s) (inl refl)
+
+-- ---- the tick
+
+forgets_own : (peers : List Peer) (s : State) → own_of (forgets_each peers s) ≡ own_of s
+forgets_own [] s = refl
+forgets_own (peer ∷ peers) s = forgets_own peers (forgets peer s) ∙ routes_own s _
+
+links_own : (now : ℕ) (s : State) → own_of (links_ticked now s) ≡ own_of s
+unfolding links_ticked
+links_own now s = forgets_own (gone_of now s.neighbours) _ ∙ neighbours_own s _
+
+routes_ticked_own : (now : ℕ) (s : State) → own_of (routes_ticked now s) ≡ own_of s
+unfolding routes_ticked
+routes_ticked_own now s = routes_own s _
+
+requests_ticked_own : (now : ℕ) (s : State) → own_of (requests_ticked now s) ≡ own_of s
+unfolding requests_ticked
+requests_ticked_own now s = owes_own _ _ ∙ requests_own s _
+
+interfaces_ticked_own : (now : ℕ) (s : State) → own_of (interfaces_ticked now s) ≡ own_of s
+unfolding interfaces_ticked
+interfaces_ticked_own now s = owes_own _ _ ∙ interfaces_own s _
+
+sources_ticked_is : (now : ℕ) (s : State) → s.collects ≡ false → sources_ticked now s ≡ s
+unfolding sources_ticked
+sources_ticked_is now s off = ap (λ b. if b then record s { sources = collected now s.sources } else s) off
+
+before_sources : (now : ℕ) (s : State) → own_of (interfaces_ticked now (requests_ticked now (routes_selected now s))) ≡ own_of s
+before_sources now s =
+    interfaces_ticked_own now _ ∙ requests_ticked_own now _ ∙ all_own now _ ∙ routes_ticked_own now _ ∙ all_own now _ ∙ links_own now s
+
+collects_of : (s t : State) → own_of t ≡ own_of s → t.collects ≡ s.collects
+unfolding own_of
+collects_of s t same = ap (λ (o : OwnValue). o.collects) same
+
+pub tick_own : TicksKeepOwn
+unfolding ticked
+tick_own now s off =
+    ap own_of (sources_ticked_is now _ (collects_of s _ (before_sources now s) ∙ off)) ∙ before_sources now s

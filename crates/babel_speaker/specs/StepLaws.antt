@@ -1,0 +1,52 @@
+-- What steps leave as it was (profile). The loop freedom of a network rests on this: a source changes by handing out alone.
+use Rattle.std.specs.Prelude.{◌≡◌, ◌⊎◌, ℕ, Bool, false, List}
+use Rattle.babel_value.specs.declared.keys.Peer.{Peer}
+use Rattle.babel_value.specs.Prefixes.{PrefixValue}
+use Rattle.babel_value.specs.Seqnos.{next_seqno}
+use Rattle.babel_packet.specs.declared.messages.Message.{Message}
+use Rattle.babel_route.specs.Sources.{Sources}
+use Rattle.babel_speaker.specs.Owing.{counted}
+use Rattle.babel_speaker.specs.State.{State}
+use Rattle.babel_speaker.specs.Messages.{takes}
+use Rattle.babel_speaker.specs.Ticks.{ticked}
+
+-- What is the speaker's own: its router-id, seqno and prefixes, and what it sent.
+pub record OwnValue : Type 0 where
+  pub router : List ℕ
+  pub collects : Bool
+  pub seqno : ℕ
+  pub raises : ℕ
+  pub announced : List PrefixValue
+  pub sources : Sources
+  pub left_out : ℕ
+
+unfoldable pub own_of : State → OwnValue
+own_of s = record {
+  router = s.router;
+  collects = s.collects;
+  seqno = s.seqno;
+  raises = s.raises;
+  announced = s.announced;
+  sources = s.sources;
+  left_out = s.left_out;
+}
+
+-- The own seqno grew by 1.
+abbrev pub grown : OwnValue → OwnValue
+grown o = record o { seqno = next_seqno o.seqno; raises = counted o.raises 1 }
+
+abbrev pub KeepsOwn : State → State → Type 0
+KeepsOwn old new = own_of new ≡ own_of old
+
+abbrev pub GrowsOnce : State → State → Type 0
+GrowsOnce old new = own_of new ≡ grown (own_of old)
+
+-- A message keeps it, but for the own seqno, which grows at most once.
+abbrev pub MessagesKeepOwn : Type 0
+MessagesKeepOwn =
+    (now : ℕ) (peer : Peer) (message : Message) (s : State) →
+    KeepsOwn s (takes now peer message s).0 ⊎ GrowsOnce s (takes now peer message s).0
+
+-- A tick keeps it, with collection off.
+abbrev pub TicksKeepOwn : Type 0
+TicksKeepOwn = (now : ℕ) (s : State) → s.collects ≡ false → KeepsOwn s (ticked now s)
