@@ -7,7 +7,7 @@ use Rattle.babel_value.specs.declared.distances.Distance.{Distance}
 use Rattle.babel_value.specs.declared.keys.Peer.{Peer}
 use Rattle.babel_value.specs.declared.keys.Source.{Source}
 use Rattle.babel_value.specs.Prefixes.{PrefixValue}
-use Rattle.babel_link.specs.Neighbours.{Links, tick_of, gone_of, hello_verdict}
+use Rattle.babel_link.specs.Neighbours.{Links, gone_of, hello_verdict}
 use Rattle.babel_link.specs.declared.marks.Heard.{Heard}
 use Rattle.babel_link.specs.declared.marks.Heard.TheVariants.{Kept, Flush}
 use Rattle.babel_packet.specs.declared.messages.Message.{Message}
@@ -22,7 +22,7 @@ use Rattle.babel_speaker.specs.declared.notes.Verdict.TheVariants as verdicts
 use Rattle.babel_speaker.specs.Sameness.{is_same_router}
 use Rattle.babel_speaker.specs.PendingRequests.{PendingRequests, is_redundant}
 use Rattle.babel_speaker.specs.State.{State, routed_prefixes, selected_at, pair_at}
-use Rattle.babel_speaker.specs.Reselection.{UnfeasibleUpdate, owes, update_to, asks, asks_for_lost, asks_for_update, asks_sender, asks_for_seqno, tells_change, follows_up, selects, reselects, reselects_each, reselects_all}
+use Rattle.babel_speaker.specs.Reselection.{UnfeasibleUpdate, owes, update_to, asks, asks_for_update, asks_sender, asks_for_seqno, tells_change, follows_up, selects, reselects, reselects_each, reselects_all}
 use Rattle.babel_speaker.specs.Hellos.{Step, forgets, forgets_flushed, hears, takes_hello, takes_ihu}
 use Rattle.babel_speaker.specs.Updates.{stores, tells_if_selected, answers_request, judges, is_route_too_many, takes_update, takes_retraction, takes_retract_all}
 use Rattle.babel_speaker.specs.SeqnoRequests.{raised, answers, asked_of_own, passes_on, asked_of_route, receiver, takes_seqno_request}

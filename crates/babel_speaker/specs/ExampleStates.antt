@@ -1,6 +1,5 @@
 -- States and messages of the examples, by hand.
-use Rattle.std.specs.Prelude.{ℕ, ◌/◌, ◌%◌, true, false, List, [], ◌∷◌, ◌++◌, map, replicate, Some, None}
-use Rattle.std.specs.List.{range_with_len}
+use Rattle.std.specs.Prelude.{ℕ, true, false, List, [], ◌∷◌, ◌++◌, replicate, Some, None}
 use Rattle.babel_value.specs.declared.addresses.Addr.{Addr}
 use Rattle.babel_value.specs.declared.addresses.Addr.TheVariants.{V4, V6}
 use Rattle.babel_value.specs.declared.addresses.Family.TheVariants.{Ipv4}
@@ -11,8 +10,6 @@ use Rattle.babel_value.specs.Prefixes.{PrefixValue}
 use Rattle.babel_link.specs.declared.links.Link.{Link}
 use Rattle.babel_packet.specs.declared.messages.Message.{Message}
 use Rattle.babel_packet.specs.declared.messages.Message.TheVariants as messages
-use Rattle.babel_route.specs.declared.entries.Entry.{Entry}
-use Rattle.babel_route.specs.Routes.{RouteEntries, key_of}
 use Rattle.babel_speaker.specs.declared.interfaces.InterfaceEntry.{InterfaceEntry}
 use Rattle.babel_speaker.specs.declared.items.Item.{Item}
 use Rattle.babel_speaker.specs.declared.items.Target.{Target}
@@ -147,20 +144,3 @@ datagram now s = handed_out now all_fit s
 -- The state after all that is owed was handed out, in at most two datagrams.
 abbrev pub sent : ℕ → State → State
 sent now s = (datagram now (datagram now s).state).state
-
--- ---- full tables
-
--- The numbers below n, each made into something.
-abbrev pub first_ones : {X : Type 0} → ℕ → (ℕ → X) → List X
-first_ones n f = map f (range_with_len 0 n)
-
-abbrev pub some_entry : Entry
-some_entry = record { router = router 1; distance = pair 0 0; next_hop = addr 1; interval = 1600; deadline = 5600 }
-
--- 256 routes, to 10.0.0.0/16 and so on, of neighbour 1.
-abbrev pub full_routes : RouteEntries
-full_routes = first_ones 256 (λ n. (key_of (net n) (peer 1), some_entry))
-
--- 10.0.0.0/24, 10.0.1.0/24 and so on, of router 1.
-abbrev pub numbered_source : ℕ → Source
-numbered_source n = record { prefix = record { addr = V4 (10 ∷ n / 256 ∷ n % 256 ∷ 0 ∷ []); length = 24 }; router = router 1 }

@@ -13,10 +13,26 @@ use Rattle.babel_speaker.specs.Messages.{after_places}
 use Rattle.babel_speaker.specs.HandingOut.{Handing}
 use Rattle.babel_speaker.specs.ExampleStates.{router, addr, peer, pair, start, update, datagram}
 
--- At 0 from 192.168.0.1, in octets and in meaning.
+-- The octets.
 abbrev pub first_octets : List ℕ
 first_octets = 42 ∷ 2 ∷ 0 ∷ 8 ∷ 4 ∷ 6 ∷ 0 ∷ 0 ∷ 0 ∷ 0 ∷ 1 ∷ 144 ∷ []
 
+abbrev pub second_octets : List ℕ
+second_octets =
+    42 ∷ 2 ∷ 0 ∷ 45 ∷
+    4 ∷ 6 ∷ 0 ∷ 0 ∷ 0 ∷ 1 ∷ 1 ∷ 144 ∷
+    5 ∷ 10 ∷ 1 ∷ 0 ∷ 0 ∷ 96 ∷ 4 ∷ 176 ∷ 192 ∷ 168 ∷ 0 ∷ 2 ∷
+    6 ∷ 10 ∷ 0 ∷ 0 ∷ 0 ∷ 0 ∷ 0 ∷ 0 ∷ 0 ∷ 0 ∷ 0 ∷ 1 ∷
+    8 ∷ 11 ∷ 1 ∷ 128 ∷ 8 ∷ 0 ∷ 6 ∷ 64 ∷ 0 ∷ 0 ∷ 0 ∷ 0 ∷ 10 ∷ []
+
+abbrev pub third_octets : List ℕ
+third_octets =
+    42 ∷ 2 ∷ 0 ∷ 33 ∷
+    4 ∷ 6 ∷ 0 ∷ 0 ∷ 0 ∷ 7 ∷ 1 ∷ 144 ∷
+    6 ∷ 10 ∷ 0 ∷ 0 ∷ 0 ∷ 0 ∷ 0 ∷ 0 ∷ 0 ∷ 0 ∷ 0 ∷ 1 ∷
+    8 ∷ 11 ∷ 1 ∷ 128 ∷ 8 ∷ 0 ∷ 6 ∷ 64 ∷ 0 ∷ 0 ∷ 0 ∷ 96 ∷ 10 ∷ []
+
+-- What they mean: at 0 from 192.168.0.1,
 abbrev pub place : ℕ → Message → Placed
 place offset message = record { offset = offset; content = contents.Message message }
 
@@ -29,12 +45,12 @@ hello seqno = messages.Hello false seqno 400
 abbrev pub first : List Placed
 first = place 4 (hello 0) ∷ []
 
--- At 400 from 192.168.0.1.
+-- at 400 from 192.168.0.1,
 abbrev pub second : List Placed
 second =
     place 4 (hello 1) ∷ place 12 (messages.Ihu (Some (addr 2)) 96 1200) ∷ state_place 24 ∷ place 36 (update 1 1 0 0) ∷ []
 
--- At 500 from 192.168.0.3.
+-- and at 500 from 192.168.0.3.
 abbrev pub third : List Placed
 third = place 4 (hello 7) ∷ state_place 12 ∷ place 24 (update 3 1 0 96) ∷ []
 

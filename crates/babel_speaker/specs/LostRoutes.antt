@@ -61,6 +61,17 @@ given_up = requests_ticked 3020 repeated_thrice
 abbrev pub request_of_6 : Item
 request_of_6 = items.Request (peer 1) (ten_of 1) 6 64
 
+-- Neighbour 3 has an unfeasible route too.
+abbrev pub both_lost : State
+both_lost = after 20 1 (update 1 1 5 96) (after 10 3 (update 3 1 5 200) told_5)
+
+-- Neighbour 3 has a route of router 4 that is as good, and then neighbour 1 retracts.
+abbrev pub tied : State
+tied = after 10 3 (update 3 4 0 0) told_5
+
+abbrev pub other_router : State
+other_router = after 20 1 (messages.Retraction ten 1600) tied
+
 -- ---- the corner: 0, 30000 and 60000 go round the circle
 
 abbrev pub told_0 : State

@@ -1,16 +1,17 @@
 -- What a network sees of a speaker (profile): the loop freedom of the network rests on these words alone.
-use Rattle.std.specs.Prelude.{◌≡◌, ◌⊎◌, ◌<◌, ◌+◌, ◌%◌, ℕ, Bool, true, ◌&&◌, nat_lt, List, [], ◌∷◌, ◌++◌, filter, All, Contains, Option, Some, None, if◌then◌else◌}
+use Rattle.std.specs.Prelude.{◌≡◌, ◌⊎◌, ◌<◌, ◌+◌, ◌%◌, ℕ, Bool, true, nat_lt, List, [], ◌∷◌, ◌++◌, filter, All, Contains, Option, Some, None, if◌then◌else◌}
 use Rattle.std.specs.Option.{option_and_then}
+use Rattle.std.specs.Ordering.{eq_by_cmp}
 use Rattle.babel_value.specs.declared.addresses.Addr.{Addr}
 use Rattle.babel_value.specs.declared.distances.Distance.{Distance}
 use Rattle.babel_value.specs.declared.keys.Peer.{Peer}
+use Rattle.babel_value.specs.Orders.{source_cmp}
 use Rattle.babel_value.specs.Prefixes.{PrefixValue}
 use Rattle.babel_packet.specs.declared.messages.Message.{Message}
 use Rattle.babel_packet.specs.declared.messages.Message.TheVariants as messages
 use Rattle.babel_route.specs.declared.entries.Entry.{Entry}
 use Rattle.babel_route.specs.Distances.{is_feasible, better_pair}
 use Rattle.babel_speaker.specs.declared.selected.Selected.{Selected}
-use Rattle.babel_speaker.specs.Sameness.{is_same_prefix, is_same_router}
 use Rattle.babel_speaker.specs.Owing.{counted}
 use Rattle.babel_speaker.specs.State.{State, announces, pair_at, entry_at}
 use Rattle.babel_speaker.specs.Calls.{selected_route}
@@ -114,7 +115,8 @@ Says s u = IsOwnUpdate s u ⊎ IsRouteUpdate s u
 
 -- The pair of a source after updates, in their order (RFC 8966, section 3.7.3).
 abbrev pub is_of_source : PrefixValue → List ℕ → UpdateValue → Bool
-is_of_source prefix router u = is_same_prefix prefix u.prefix && is_same_router router u.router
+is_of_source prefix router u =
+    eq_by_cmp source_cmp (record { prefix = prefix; router = router }) (record { prefix = u.prefix; router = u.router })
 
 abbrev pub all_lowered : List UpdateValue → Option Distance → Option Distance
 all_lowered [] pair = pair

@@ -11,9 +11,11 @@ ghost use Rattle.babel_speaker.specs.declared.notes.Verdict.TheVariants as verdi
 ghost use Rattle.babel_speaker.specs.Addresses.{source_fault};
 ghost use Rattle.babel_speaker.specs.Calls.{set_cost_fault, cost_set};
 ghost use Rattle.babel_speaker.specs.Saying.{said};
+ghost use Rattle.babel_speaker.specs.SeqnoRequests.{raised};
 ghost use Rattle.babel_speaker.specs.ExampleStates.{router, addr, link_local, ipv6_prefix, peer, ten, net, to_all, start, interface, meshed, update, after, verdict, owed_items, datagram};
 ghost use Rattle.babel_speaker.specs.LostRoutes.{selected_peer, told_5};
-ghost use Rattle.babel_speaker.specs.CallExamples.{full_of_routes, full_of_sources, announced_ten, withdrawn_ten, flushed};
+ghost use Rattle.babel_speaker.specs.FullTables.{full_of_neighbours, full_of_routes, full_of_sources, at_greatest};
+ghost use Rattle.babel_speaker.specs.CallExamples.{announced_ten, withdrawn_ten, flushed};
 
 /// An announced prefix has no selection, and is told with the own router-id; when it is withdrawn the
 /// route is selected again. Both are told to all once.
@@ -35,6 +37,20 @@ pub fn flushed_neighbour()
     ensures selected { selected_peer flushed ≡ None }
     ensures owed { owed_items flushed ≡ items.Update (to_all 0) ten ∷ [] }
     ensures requests { flushed.requests ≡ [] }
+{}
+
+/// A 65th neighbour isn't taken; a known one is.
+pub fn full_neighbour_table()
+    ensures refused { verdict 0 100 (messages.Hello false 0 400) full_of_neighbours ≡ verdicts.TableFull }
+    ensures unchanged { after 0 100 (messages.Hello false 0 400) full_of_neighbours ≡ full_of_neighbours }
+    ensures known { verdict 0 63 (messages.Hello false 2 400) full_of_neighbours ≡ verdicts.Taken }
+{}
+
+/// The seqno goes round the circle; the count of its growths stops.
+pub fn raised_seqno()
+    ensures once { (raised start).seqno ≡ 1 }
+    ensures round { (raised at_greatest).seqno ≡ 0 }
+    ensures counted { (raised at_greatest).raises ≡ 18446744073709551615 }
 {}
 
 /// The 257th route isn't stored; a known one is.

@@ -1,7 +1,8 @@
 //! What datagrams do, and what their messages are answered.
 
-ghost use Rattle.std.specs.Prelude.{◌≡◌, ℕ, true, false, [], ◌∷◌, Some, None};
+ghost use Rattle.std.specs.Prelude.{◌≡◌, ℕ, true, false, [], ◌∷◌, Some, None, Ok};
 ghost use Rattle.babel_packet.specs.declared.messages.Message.TheVariants as messages;
+ghost use Rattle.babel_packet.specs.Meaning.{meaning};
 ghost use Rattle.babel_speaker.specs.declared.items.Item.TheVariants as items;
 ghost use Rattle.babel_speaker.specs.declared.notes.Verdict.TheVariants as verdicts;
 ghost use Rattle.babel_speaker.specs.State.{selected_at};
@@ -9,7 +10,15 @@ ghost use Rattle.babel_speaker.specs.Messages.{notes_of};
 ghost use Rattle.babel_speaker.specs.Calls.{selected_route};
 ghost use Rattle.babel_speaker.specs.ExampleStates.{router, addr, peer, ten, net, ten_of, pair, to_all, to_one, start, meshed, announcing, update, after, verdict, owed_items, datagram, sent};
 ghost use Rattle.babel_speaker.specs.LostRoutes.{selected_peer, told_5};
-ghost use Rattle.babel_speaker.specs.LogB.{first, second, third, state_1, state_2, state_3, built_2, note, link_1, entry_2};
+ghost use Rattle.babel_speaker.specs.LogB.{first_octets, second_octets, third_octets, first, second, third, state_1, state_2, state_3, built_2, note, link_1, entry_2};
+
+/// The octets mean the places that the examples take.
+#[tactic(auto, unfolding(babel_packet::specs::Meaning::meaning, babel_packet::specs::Meaning::content, babel_packet::specs::Numbers::word, babel_packet::specs::Numbers::has_flag, babel_packet::specs::Hellos::hello, babel_packet::specs::Ihus::ihu_of, babel_packet::specs::Ihus::ihu, babel_packet::specs::RouterIds::router_id, babel_packet::specs::RouterIds::named_router, babel_packet::specs::NextHops::next_hop_of, babel_packet::specs::NextHops::next_hop, babel_packet::specs::NextHops::named_hop4, babel_packet::specs::NextHops::named_hop6, babel_packet::specs::Tails::tail_reason, babel_packet::specs::Prefixes::prefix_octets, babel_packet::specs::Prefixes::is_whole, babel_packet::specs::UpdateFields::address, babel_packet::specs::LookBack::update_address, babel_packet::specs::Updates::update_of, babel_packet::specs::Updates::update))]
+pub fn octets()
+    ensures first { meaning first_octets (addr 1) ≡ Ok first }
+    ensures second { meaning second_octets (addr 1) ≡ Ok second }
+    ensures third { meaning third_octets (addr 3) ≡ Ok third }
+{}
 
 /// A Hello makes a neighbour, and owes nothing.
 pub fn first_datagram()

@@ -9,8 +9,9 @@ ghost use Rattle.babel_speaker.specs.declared.requests.Resend.TheVariants.{Unfea
 ghost use Rattle.babel_speaker.specs.State.{selected_at};
 ghost use Rattle.babel_speaker.specs.Standing.{has_revived_route};
 ghost use Rattle.babel_speaker.specs.Ticks.{requests_ticked, ticked};
-ghost use Rattle.babel_speaker.specs.ExampleStates.{peer, ten, ten_of, pair, to_all, to_one, router, update, after, verdict, owed_items, datagram};
-ghost use Rattle.babel_speaker.specs.LostRoutes.{selected_peer, best_route, route_of, told_5, with_other, changed, lost, waiting, repeated_once, repeated_twice, repeated_thrice, given_up, request_of_6, told_0, with_60000, with_30000, told_30000};
+ghost use Rattle.babel_speaker.specs.ExampleStates.{peer, ten, ten_of, pair, to_all, to_one, router, update, after, verdict, with_pending, owed_items, datagram};
+ghost use Rattle.babel_speaker.specs.FullTables.{full_of_requests};
+ghost use Rattle.babel_speaker.specs.LostRoutes.{selected_peer, best_route, route_of, told_5, with_other, changed, lost, both_lost, tied, other_router, waiting, repeated_once, repeated_twice, repeated_thrice, given_up, request_of_6, told_0, with_60000, with_30000, told_30000};
 
 /// The selected route becomes unfeasible, and another one is there: that one is selected, and the
 /// neighbour is asked for a greater seqno.
@@ -33,6 +34,28 @@ pub fn unfeasible_without_another_route()
     ensures second_target { (datagram 20 (datagram 20 lost).state).target ≡ Some (to_one 1) }
     ensures second { (datagram 20 (datagram 20 lost).state).messages ≡ messages.SeqnoRequest ten (router 1) 6 64 ∷ [] }
     ensures sources { (datagram 20 lost).state.sources ≡ told_5.sources }
+{}
+
+/// Each neighbour with an unfeasible route is asked, then and when the request is repeated.
+pub fn two_unfeasible_routes()
+    ensures owed { owed_items both_lost ≡ items.Update (to_all 0) ten ∷ items.Request (peer 1) (ten_of 1) 6 64 ∷ items.Request (peer 3) (ten_of 1) 6 64 ∷ [] }
+    ensures repeated { owed_items (requests_ticked 220 (with_pending [] both_lost)) ≡ items.Request (peer 1) (ten_of 1) 6 64 ∷ items.Request (peer 3) (ten_of 1) 6 64 ∷ [] }
+{}
+
+/// Of two routes that are as good the selected one stays. Where it goes, and the other is of another
+/// router, that is told to all, and nobody is asked.
+pub fn route_of_another_router()
+    ensures stays { selected_peer tied ≡ Some (peer 1) }
+    ensures not_told { owed_items tied ≡ [] }
+    ensures selected { selected_peer other_router ≡ Some (peer 3) }
+    ensures owed { owed_items other_router ≡ items.Update (to_all 0) ten ∷ [] }
+    ensures requests { other_router.requests ≡ [] }
+{}
+
+/// Where 64 other requests are pending, one more is owed once.
+pub fn full_request_table()
+    ensures owed { owed_items (after 20 1 (update 1 1 5 96) full_of_requests) ≡ owed_items lost }
+    ensures requests { (after 20 1 (update 1 1 5 96) full_of_requests).requests ≡ full_of_requests.requests }
 {}
 
 /// The request is repeated after 200, 400 and 800 centiseconds, and given up 1600 later.
