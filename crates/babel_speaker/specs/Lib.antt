@@ -23,3 +23,4 @@ pub mod TickExamples
 pub mod FullTables
 pub mod CallExamples
 pub mod StepLaws
+pub mod ThreeNodes

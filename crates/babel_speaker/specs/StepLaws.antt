@@ -1,14 +1,20 @@
 -- What steps leave as it was (profile). The loop freedom of a network rests on this: a source changes by handing out alone.
 use Rattle.std.specs.Prelude.{◌≡◌, ◌⊎◌, ℕ, Bool, false, List}
+use Rattle.std.specs.List.{filter}
 use Rattle.babel_value.specs.declared.keys.Peer.{Peer}
 use Rattle.babel_value.specs.Prefixes.{PrefixValue}
 use Rattle.babel_value.specs.Seqnos.{next_seqno}
 use Rattle.babel_packet.specs.declared.messages.Message.{Message}
+use Rattle.babel_link.specs.Neighbours.{Links}
+use Rattle.babel_route.specs.Selections.{RoutesValue}
 use Rattle.babel_route.specs.Sources.{Sources}
 use Rattle.babel_speaker.specs.Owing.{counted}
-use Rattle.babel_speaker.specs.State.{State}
+use Rattle.babel_speaker.specs.PendingRequests.{PendingRequests}
+use Rattle.babel_speaker.specs.State.{State, pair_at}
 use Rattle.babel_speaker.specs.Messages.{takes}
 use Rattle.babel_speaker.specs.Ticks.{ticked}
+use Rattle.babel_speaker.specs.HandingOut.{Fits, handed_out}
+use Rattle.babel_speaker.specs.Seen.{updates_among, is_of_source, all_lowered}
 
 -- What is the speaker's own: its router-id, seqno and prefixes, and what it sent.
 pub record OwnValue : Type 0 where
@@ -50,3 +56,39 @@ MessagesKeepOwn =
 -- A tick keeps it, with collection off.
 abbrev pub TicksKeepOwn : Type 0
 TicksKeepOwn = (now : ℕ) (s : State) → s.collects ≡ false → KeepsOwn s (ticked now s)
+
+-- ---- handing out
+
+-- What the speaker knows of itself and of others.
+pub record KnownValue : Type 0 where
+  pub router : List ℕ
+  pub collects : Bool
+  pub seqno : ℕ
+  pub raises : ℕ
+  pub announced : List PrefixValue
+  pub neighbours : Links
+  pub routes : RoutesValue
+  pub requests : PendingRequests
+
+unfoldable pub known_of : State → KnownValue
+known_of s = record {
+  router = s.router;
+  collects = s.collects;
+  seqno = s.seqno;
+  raises = s.raises;
+  announced = s.announced;
+  neighbours = s.neighbours;
+  routes = s.routes;
+  requests = s.requests;
+}
+
+-- A datagram that is handed out changes nothing of it: no selection, above all.
+abbrev pub HandingOutKeepsKnown : Type 0
+HandingOutKeepsKnown = (now : ℕ) (fits : Fits) (s : State) → known_of (handed_out now fits s).state ≡ known_of s
+
+-- And each source is lowered by exactly the Updates that it has for it, in their order (RFC 8966, section 3.7.3).
+abbrev pub HandingOutLowersSources : Type 0
+HandingOutLowersSources =
+    (now : ℕ) (fits : Fits) (s : State) (prefix : PrefixValue) (router : List ℕ) →
+    pair_at prefix router (handed_out now fits s).state
+    ≡ all_lowered (filter (is_of_source prefix router) (updates_among (handed_out now fits s).messages)) (pair_at prefix router s)

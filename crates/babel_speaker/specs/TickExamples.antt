@@ -9,6 +9,7 @@ use Rattle.babel_speaker.specs.Ticks.{ticked}
 use Rattle.babel_speaker.specs.HandingOut.{Fits, Handing, handed_out}
 use Rattle.babel_speaker.specs.ExampleStates.{peer, start, interface, up_link, announcing, with_pending, update, after, datagram}
 use Rattle.babel_speaker.specs.LostRoutes.{told_5}
+use Rattle.babel_speaker.specs.LogB.{state_1}
 
 -- 192.168.1.n on interface 1.
 abbrev pub addr_on_1 : ℕ → Addr
@@ -52,3 +53,10 @@ built_of_one = handed_out 10 one_fits first_tick
 -- With collection of sources.
 abbrev pub collecting : State
 collecting = record told_5 { collects = true }
+
+-- After the first datagram of the log, a tick at 0 and one at 400, with what is handed out after each.
+abbrev pub built_at_0 : Handing
+built_at_0 = datagram 0 (ticked 0 state_1)
+
+abbrev pub built_at_400 : Handing
+built_at_400 = datagram 400 (ticked 400 built_at_0.state)

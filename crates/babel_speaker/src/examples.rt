@@ -5,6 +5,7 @@
 pub mod calls;
 pub mod datagrams;
 pub mod lost_routes;
+pub mod networks;
 pub mod pending;
 pub mod seqno_requests;
 pub mod ticks;

@@ -3,7 +3,7 @@
 ghost use Rattle.std.specs.Prelude.{◌≡◌, ◌<◌, ◌≤◌, ◌^◌, List, length};
 ghost use Rattle.babel_speaker.specs.declared.items.Item.{Item};
 ghost use Rattle.babel_speaker.specs.Owing.{Pending, owed, owed_at_once};
-ghost use Rattle.babel_speaker.specs.StepLaws.{MessagesKeepOwn, TicksKeepOwn};
+ghost use Rattle.babel_speaker.specs.StepLaws.{MessagesKeepOwn, TicksKeepOwn, HandingOutKeepsKnown, HandingOutLowersSources};
 
 /// Items that are owed one after the other leave what they leave all at once: the last 4,096 of the
 /// old items followed by the owed ones, and a count of what was cut.
@@ -20,4 +20,11 @@ pub fn messages_keep_what_is_own()
 /// So does a tick, which doesn't raise the seqno either, where collection is off.
 pub fn ticks_keep_what_is_own()
     ensures { TicksKeepOwn }
+{}
+
+/// Handing out changes nothing that the speaker knows, no selection above all, and lowers each source by
+/// exactly the updates that are handed out for it.
+pub fn handing_out_lowers_sources()
+    ensures known { HandingOutKeepsKnown }
+    ensures sources { HandingOutLowersSources }
 {}

@@ -17,7 +17,9 @@ pub use configs::{Config, ConfigFault, Interface};
 pub use faults::{NotAnnounced, SetCostFault, TooManyPrefixes};
 pub use interfaces::InterfaceEntry;
 pub use items::{Item, Said, Target};
-pub use laws::{messages_keep_what_is_own, owing_is_cutting, ticks_keep_what_is_own};
+pub use laws::{
+    handing_out_lowers_sources, messages_keep_what_is_own, owing_is_cutting, ticks_keep_what_is_own,
+};
 pub use limits::{
     LAST_REQUEST_WAIT, MAX_COST, MAX_HELLO_INTERVAL, MAX_INTERFACES, MAX_PEERS, MAX_PENDING,
     MAX_PREFIXES, MAX_REQUESTS, REQUEST_HOPS, REQUEST_WAIT,

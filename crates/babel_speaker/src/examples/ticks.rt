@@ -6,7 +6,7 @@ ghost use Rattle.babel_speaker.specs.declared.items.Item.TheVariants as items;
 ghost use Rattle.babel_speaker.specs.Ticks.{ticked, routes_selected, sources_ticked};
 ghost use Rattle.babel_speaker.specs.ExampleStates.{router, addr, peer, ten, net, ten_of, pair, to_all, interface, with_pending, owed_items, datagram};
 ghost use Rattle.babel_speaker.specs.LostRoutes.{selected_peer, told_5};
-ghost use Rattle.babel_speaker.specs.TickExamples.{addr_on_1, peer_on_1, routing, first_tick, fired_at_10, first_built, second_built, built_of_one, collecting};
+ghost use Rattle.babel_speaker.specs.TickExamples.{addr_on_1, peer_on_1, routing, first_tick, fired_at_10, first_built, second_built, built_of_one, built_at_0, built_at_400, collecting};
 
 /// The first tick fires the three timers of each interface; then they fire each 400, 1200 and 1600
 /// centiseconds.
@@ -37,6 +37,13 @@ pub fn two_datagrams()
     ensures interfaces { second_built.state.interfaces
         ≡ record (fired_at_10 0) { hello_seqno = 1 } ∷ record (fired_at_10 1) { hello_seqno = 1 } ∷ [] }
     ensures nothing_left { (datagram 10 second_built.state).target ≡ None }
+{}
+
+/// A neighbour of whom one Hello came is told that it isn't heard well enough.
+pub fn one_hello()
+    ensures first { built_at_0.messages ≡ messages.Hello false 0 400 ∷ messages.Ihu (Some (addr 1)) 65535 1200 ∷ [] }
+    ensures second { built_at_400.messages ≡ messages.Hello false 1 400 ∷ [] }
+    ensures nothing_left { owed_items built_at_400.state ≡ [] }
 {}
 
 /// What doesn't fit stays, lowers no source and uses no seqno.
