@@ -1,6 +1,5 @@
 -- Steps keep what is the speaker's own.
 use Rattle.std.specs.Prelude.{◌≡◌, ◌⊎◌, ℕ, Bool, true, false, List, [], ◌∷◌, Option, Some, None, nat_lt, if◌then◌else◌}
-use Rattle.std.specs.Option.{option_map_or}
 use Rattle.std.proofs.Common.{refl, ◌∙◌, ap, inl, inr}
 use Rattle.babel_value.specs.declared.addresses.Addr.{Addr}
 use Rattle.babel_value.specs.declared.distances.Distance.{Distance}
@@ -21,14 +20,15 @@ use Rattle.babel_speaker.specs.declared.requests.Resend.{Resend}
 use Rattle.babel_speaker.specs.declared.notes.Verdict.TheVariants as verdicts
 use Rattle.babel_speaker.specs.Sameness.{is_same_router}
 use Rattle.babel_speaker.specs.PendingRequests.{PendingRequests, is_redundant}
-use Rattle.babel_speaker.specs.State.{State, routed_prefixes, selected_at, pair_at}
-use Rattle.babel_speaker.specs.Reselection.{UnfeasibleUpdate, owes, update_to, asks, asks_for_update, asks_sender, asks_for_seqno, tells_change, follows_up, selects, reselects, reselects_each, reselects_all}
+use Rattle.babel_speaker.specs.State.{State, selected_at, pair_at}
+use Rattle.babel_speaker.specs.Reselection.{UnfeasibleUpdate, owes, update_to, asks, reselects, reselects_all}
 use Rattle.babel_speaker.specs.Hellos.{Step, forgets, forgets_flushed, hears, takes_hello, takes_ihu}
 use Rattle.babel_speaker.specs.Updates.{stores, tells_if_selected, answers_request, judges, is_route_too_many, takes_update, takes_retraction, takes_retract_all}
 use Rattle.babel_speaker.specs.SeqnoRequests.{raised, answers, asked_of_own, passes_on, asked_of_route, receiver, takes_seqno_request}
 use Rattle.babel_speaker.specs.Messages.{takes_of_neighbour, takes}
 use Rattle.babel_speaker.specs.Ticks.{forgets_each, links_ticked, routes_ticked, requests_ticked, interfaces_ticked, sources_ticked, routes_selected, ticked}
-use Rattle.babel_speaker.specs.StepLaws.{OwnValue, own_of, grown, MessagesKeepOwn, TicksKeepOwn}
+use Rattle.babel_speaker.specs.StepLaws.{OwnValue, own_of, grown, kept_of, base_of, MessagesKeepOwn, TicksKeepOwn}
+use Rattle.babel_speaker.proofs.Reselecting.{asks_kept, reselects_base, all_base}
 
 -- ---- cases
 
@@ -39,10 +39,6 @@ if_state false x y o p q = q
 if_step : (b : Bool) (x y : Step) (o : OwnValue) → own_of x.0 ≡ o → own_of y.0 ≡ o → own_of (if b then x else y).0 ≡ o
 if_step true x y o p q = p
 if_step false x y o p q = q
-
-of_option : {A : Type 0} (f : A → State) (m : Option A) (d : State) (o : OwnValue) → ((a : A) → own_of (f a) ≡ o) → own_of d ≡ o → own_of (option_map_or f m d) ≡ o
-of_option f None d o p q = q
-of_option f (Some a) d o p q = p a
 
 -- ---- what isn't the speaker's own
 
@@ -68,41 +64,22 @@ interfaces_own s interfaces = refl
 
 -- ---- reselection
 
+from_kept : (s t : State) → kept_of t ≡ kept_of s → own_of t ≡ own_of s
+unfolding kept_of own_of
+from_kept s t same = ap own_of same
+
+from_base : (s t : State) → base_of t ≡ base_of s → own_of t ≡ own_of s
+unfolding base_of own_of
+from_base s t same = ap own_of same
+
 asks_own : (now : ℕ) (source : Source) (seqno : ℕ) (resend : Resend) (hops : ℕ) (peers : List Peer) (s : State) → own_of (asks now source seqno resend hops peers s) ≡ own_of s
-unfolding asks
-asks_own now source seqno resend hops peers s = if_state _ _ _ _ refl (owes_own _ _ ∙ requests_own s _)
-
-tells_own : (prefix : PrefixValue) (old new : Option Selection) (s : State) → own_of (tells_change prefix old new s) ≡ own_of s
-tells_own prefix old new s = if_state _ _ _ _ refl (owes_own _ s)
-
-update_own : (now : ℕ) (prefix : PrefixValue) (update : UnfeasibleUpdate) (s : State) → own_of (asks_for_update now prefix update s) ≡ own_of s
-update_own now prefix update s = of_option _ (pair_at prefix update.router s) s _ (λ pair. asks_own _ _ _ _ _ _ s) refl
-
-sender_own : (now : ℕ) (cause : Option UnfeasibleUpdate) (prefix : PrefixValue) (old : Option Selection) (s : State) → own_of (asks_sender now cause prefix old s) ≡ own_of s
-sender_own now None prefix old s = refl
-sender_own now (Some update) prefix old s = if_state _ _ _ _ (update_own now prefix update s) refl
-
-seqno_own : (now : ℕ) (cause : Option UnfeasibleUpdate) (prefix : PrefixValue) (old new : Option Selection) (s : State) → own_of (asks_for_seqno now cause prefix old new s) ≡ own_of s
-seqno_own now cause prefix (Some lost) None s = if_state _ _ _ _ (asks_own _ _ _ _ _ _ s) (sender_own now cause prefix (Some lost) s)
-seqno_own now cause prefix (Some lost) (Some new) s = sender_own now cause prefix (Some lost) s
-seqno_own now cause prefix None None s = sender_own now cause prefix None s
-seqno_own now cause prefix None (Some new) s = sender_own now cause prefix None s
-
-follows_own : (now : ℕ) (cause : Option UnfeasibleUpdate) (prefix : PrefixValue) (old new : Option Selection) (s : State) → own_of (follows_up now cause prefix old new s) ≡ own_of s
-follows_own now cause prefix old new s = seqno_own now cause prefix old new (tells_change prefix old new s) ∙ tells_own prefix old new s
+asks_own now source seqno resend hops peers s = from_kept s _ (asks_kept now source seqno resend hops peers s)
 
 reselects_own : (now : ℕ) (cause : Option UnfeasibleUpdate) (prefix : PrefixValue) (s : State) → own_of (reselects now cause prefix s) ≡ own_of s
-unfolding reselects
-reselects_own now cause prefix s =
-    follows_own now cause prefix (selected_at prefix s) (selected_at prefix (selects prefix s)) (selects prefix s) ∙ routes_own s _
-
-each_own : (now : ℕ) (ps : List PrefixValue) (s : State) → own_of (reselects_each now ps s) ≡ own_of s
-each_own now [] s = refl
-each_own now (p ∷ ps) s = each_own now ps (reselects now None p s) ∙ reselects_own now None p s
+reselects_own now cause prefix s = from_base s _ (reselects_base now cause prefix s)
 
 all_own : (now : ℕ) (s : State) → own_of (reselects_all now s) ≡ own_of s
-unfolding reselects_all
-all_own now s = each_own now (routed_prefixes s) s
+all_own now s = from_base s _ (all_base now s)
 
 -- ---- messages
 
@@ -248,7 +225,7 @@ interfaces_ticked_own : (now : ℕ) (s : State) → own_of (interfaces_ticked no
 unfolding interfaces_ticked
 interfaces_ticked_own now s = owes_own _ _ ∙ interfaces_own s _
 
-sources_ticked_is : (now : ℕ) (s : State) → s.collects ≡ false → sources_ticked now s ≡ s
+pub sources_ticked_is : (now : ℕ) (s : State) → s.collects ≡ false → sources_ticked now s ≡ s
 unfolding sources_ticked
 sources_ticked_is now s off = ap (λ b. if b then record s { sources = collected now s.sources } else s) off
 
@@ -259,6 +236,9 @@ before_sources now s =
 collects_of : (s t : State) → own_of t ≡ own_of s → t.collects ≡ s.collects
 unfolding own_of
 collects_of s t same = ap (λ (o : OwnValue). o.collects) same
+
+pub collects_before_sources : (now : ℕ) (s : State) → (interfaces_ticked now (requests_ticked now (routes_selected now s))).collects ≡ s.collects
+collects_before_sources now s = collects_of s _ (before_sources now s)
 
 pub tick_own : TicksKeepOwn
 unfolding ticked

@@ -1,3 +1,5 @@
-pub mod Cutting
+pub mod Reselecting
 pub mod Keeping
 pub mod HandingLaws
+pub mod StandingLaws
+pub mod Cutting

@@ -1,5 +1,5 @@
 -- What steps leave as it was (profile). The loop freedom of a network rests on this: a source changes by handing out alone.
-use Rattle.std.specs.Prelude.{◌≡◌, ◌⊎◌, ℕ, Bool, false, List}
+use Rattle.std.specs.Prelude.{◌≡◌, ◌⊎◌, ℕ, Bool, false, List, [], Option}
 use Rattle.std.specs.List.{filter}
 use Rattle.babel_value.specs.declared.keys.Peer.{Peer}
 use Rattle.babel_value.specs.Prefixes.{PrefixValue}
@@ -11,6 +11,7 @@ use Rattle.babel_route.specs.Sources.{Sources}
 use Rattle.babel_speaker.specs.Owing.{counted}
 use Rattle.babel_speaker.specs.PendingRequests.{PendingRequests}
 use Rattle.babel_speaker.specs.State.{State, pair_at}
+use Rattle.babel_speaker.specs.Reselection.{UnfeasibleUpdate, reselects, reselects_all}
 use Rattle.babel_speaker.specs.Messages.{takes}
 use Rattle.babel_speaker.specs.Ticks.{ticked}
 use Rattle.babel_speaker.specs.HandingOut.{Fits, handed_out}
@@ -92,3 +93,26 @@ HandingOutLowersSources =
     (now : ℕ) (fits : Fits) (s : State) (prefix : PrefixValue) (router : List ℕ) →
     pair_at prefix router (handed_out now fits s).state
     ≡ all_lowered (filter (is_of_source prefix router) (updates_among (handed_out now fits s).messages)) (pair_at prefix router s)
+
+-- ---- reselections
+
+-- The state without what is asked and owed.
+unfoldable pub kept_of : State → State
+kept_of s = record s { requests = []; pending = record { items = []; dropped = 0 } }
+
+-- And without the selections.
+unfoldable pub base_of : State → State
+base_of s = record s {
+  requests = [];
+  pending = record { items = []; dropped = 0 };
+  routes = record s.routes { selections = [] };
+}
+
+-- A reselection keeps all else.
+abbrev pub ReselectionKeepsBase : Type 0
+ReselectionKeepsBase =
+    (now : ℕ) (cause : Option UnfeasibleUpdate) (prefix : PrefixValue) (s : State) →
+    base_of (reselects now cause prefix s) ≡ base_of s
+
+abbrev pub ReselectionOfAllKeepsBase : Type 0
+ReselectionOfAllKeepsBase = (now : ℕ) (s : State) → base_of (reselects_all now s) ≡ base_of s

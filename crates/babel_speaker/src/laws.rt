@@ -3,7 +3,8 @@
 ghost use Rattle.std.specs.Prelude.{◌≡◌, ◌<◌, ◌≤◌, ◌^◌, List, length};
 ghost use Rattle.babel_speaker.specs.declared.items.Item.{Item};
 ghost use Rattle.babel_speaker.specs.Owing.{Pending, owed, owed_at_once};
-ghost use Rattle.babel_speaker.specs.StepLaws.{MessagesKeepOwn, TicksKeepOwn, HandingOutKeepsKnown, HandingOutLowersSources};
+ghost use Rattle.babel_speaker.specs.Standing.{NewSpeakersStand, ReselectionsMakeStand, TicksMakeStand};
+ghost use Rattle.babel_speaker.specs.StepLaws.{ReselectionKeepsBase, ReselectionOfAllKeepsBase, MessagesKeepOwn, TicksKeepOwn, HandingOutKeepsKnown, HandingOutLowersSources};
 
 /// Items that are owed one after the other leave what they leave all at once: the last 4,096 of the
 /// old items followed by the owed ones, and a count of what was cut.
@@ -27,4 +28,18 @@ pub fn ticks_keep_what_is_own()
 pub fn handing_out_lowers_sources()
     ensures known { HandingOutKeepsKnown }
     ensures sources { HandingOutLowersSources }
+{}
+
+/// A reselection, and that of all, leave all but selections, requests and pending items as it was.
+pub fn reselections_keep_the_rest()
+    ensures one { ReselectionKeepsBase }
+    ensures all { ReselectionOfAllKeepsBase }
+{}
+
+/// In a new speaker, after a reselection of all, and after a tick with collection off, the selection of
+/// every prefix is that of the definition.
+pub fn selections_stand()
+    ensures new { NewSpeakersStand }
+    ensures all { ReselectionsMakeStand }
+    ensures tick { TicksMakeStand }
 {}
