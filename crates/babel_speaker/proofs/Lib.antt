@@ -3,3 +3,4 @@ pub mod Keeping
 pub mod HandingLaws
 pub mod StandingLaws
 pub mod Cutting
+pub mod SeeingLaws

@@ -24,3 +24,4 @@ pub mod FullTables
 pub mod CallExamples
 pub mod StepLaws
 pub mod ThreeNodes
+pub mod SeenLaws

@@ -3,6 +3,7 @@
 ghost use Rattle.std.specs.Prelude.{◌≡◌, ◌<◌, ◌≤◌, ◌^◌, List, length};
 ghost use Rattle.babel_speaker.specs.declared.items.Item.{Item};
 ghost use Rattle.babel_speaker.specs.Owing.{Pending, owed, owed_at_once};
+ghost use Rattle.babel_speaker.specs.SeenLaws.{NewSpeakersAreNew, StandingIsSelecting};
 ghost use Rattle.babel_speaker.specs.Standing.{NewSpeakersStand, ReselectionsMakeStand, TicksMakeStand};
 ghost use Rattle.babel_speaker.specs.StepLaws.{ReselectionKeepsBase, ReselectionOfAllKeepsBase, MessagesKeepOwn, TicksKeepOwn, HandingOutKeepsKnown, HandingOutLowersSources};
 
@@ -42,4 +43,11 @@ pub fn selections_stand()
     ensures new { NewSpeakersStand }
     ensures all { ReselectionsMakeStand }
     ensures tick { TicksMakeStand }
+{}
+
+/// Where all selections stand, each is a feasible and finite route of the table, with a metric above the
+/// advertised one; and a new speaker has neither routes nor sources.
+pub fn selected_routes_are_good()
+    ensures new { NewSpeakersAreNew }
+    ensures standing { StandingIsSelecting }
 {}
