@@ -4,3 +4,4 @@ pub mod HandingLaws
 pub mod StandingLaws
 pub mod Cutting
 pub mod SeeingLaws
+pub mod Hearing

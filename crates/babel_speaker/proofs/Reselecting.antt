@@ -13,7 +13,7 @@ use Rattle.babel_speaker.specs.State.{State, routed_prefixes, selected_at, pair_
 use Rattle.babel_speaker.specs.Reselection.{UnfeasibleUpdate, owes, asks, asks_for_update, asks_sender, asks_for_seqno, tells_change, selects, reselects, reselects_each, reselects_all}
 use Rattle.babel_speaker.specs.StepLaws.{kept_of, base_of, ReselectionKeepsBase, ReselectionOfAllKeepsBase}
 
-if_kept : (b : Bool) (x y o : State) → kept_of x ≡ o → kept_of y ≡ o → kept_of (if b then x else y) ≡ o
+pub if_kept : (b : Bool) (x y o : State) → kept_of x ≡ o → kept_of y ≡ o → kept_of (if b then x else y) ≡ o
 if_kept true x y o p q = p
 if_kept false x y o p q = q
 

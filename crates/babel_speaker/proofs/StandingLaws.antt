@@ -109,7 +109,7 @@ below_revised {K} {V} R f x (e ∷ es) below =
     by None here rest = rest
     by (Some v) here rest = and_from (is_lt (R x e.0)) (below_all R x (revised_entries f es)) here rest
 
-sorted_revised : {K V : Type 0} (R : K → K → Ordering) (f : K → V → Option V) (es : List (K × V)) → is_sorted R es ≡ true → is_sorted R (revised_entries f es) ≡ true
+pub sorted_revised : {K V : Type 0} (R : K → K → Ordering) (f : K → V → Option V) (es : List (K × V)) → is_sorted R es ≡ true → is_sorted R (revised_entries f es) ≡ true
 sorted_revised R f [] sorted = refl
 sorted_revised {K} {V} R f (e ∷ es) sorted =
     let parts = and_parts (below_all R e.0 es) (is_sorted R es) sorted in

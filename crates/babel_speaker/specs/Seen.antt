@@ -48,6 +48,10 @@ heard_if_finite e =
     if nat_lt e.distance.metric 65535 then Some (record { router = e.router; distance = e.distance; next_hop = e.next_hop })
     else None
 
+-- What a neighbour's finite route to the prefix says.
+abbrev pub heard_at : PrefixValue → Peer → State → Option HeardValue
+heard_at prefix peer s = option_and_then heard_if_finite (entry_at prefix peer s)
+
 pub record Seen : Type 0 where
   pub router : List ℕ
   pub seqno : ℕ
@@ -67,7 +71,7 @@ seen s = record {
   raises = s.raises;
   announces = λ prefix. announces prefix s;
   source_at = λ prefix router. pair_at prefix router s;
-  heard_at = λ prefix peer. option_and_then heard_if_finite (entry_at prefix peer s);
+  heard_at = λ prefix peer. heard_at prefix peer s;
   selected_at = λ prefix. selected_route prefix s;
 }
 

@@ -19,7 +19,8 @@ pub use interfaces::InterfaceEntry;
 pub use items::{Item, Said, Target};
 pub use laws::{
     handing_out_lowers_sources, messages_keep_what_is_own, owing_is_cutting,
-    reselections_keep_the_rest, selected_routes_are_good, selections_stand, ticks_keep_what_is_own,
+    reselections_keep_the_rest, routes_come_from_updates, selected_routes_are_good,
+    selections_stand, ticks_keep_what_is_own,
 };
 pub use limits::{
     LAST_REQUEST_WAIT, MAX_COST, MAX_HELLO_INTERVAL, MAX_INTERFACES, MAX_PEERS, MAX_PENDING,
