@@ -1,5 +1,5 @@
 -- After a message the routes are in order, and a finite one was there or was told by the message.
-use Rattle.std.specs.Prelude.{◌≡◌, ◌⊎◌, ℕ, Bool, true, false, cond, List, [], ◌∷◌, Option, Some, None, is_some, nat_lt, ◌-◌, if◌then◌else◌}
+use Rattle.std.specs.Prelude.{◌≡◌, ◌⊎◌, ℕ, Bool, true, false, cond, List, [], ◌∷◌, Option, Some, None, is_some, nat_lt, nat_le, ◌-◌, if◌then◌else◌}
 use Rattle.std.specs.Option.{option_map_or, option_and_then}
 use Rattle.std.specs.Ordering.{eq_by_cmp}
 use Rattle.std.specs.FinMap.{find, put, is_sorted}
@@ -13,7 +13,7 @@ use Rattle.babel_value.specs.declared.keys.Source.{Source}
 use Rattle.babel_value.specs.Prefixes.{PrefixValue}
 use Rattle.babel_link.specs.declared.marks.Heard.{Heard}
 use Rattle.babel_link.specs.declared.marks.Heard.TheVariants.{Kept, Flush}
-use Rattle.babel_link.specs.Neighbours.{hello_of, hello_verdict, ihu_of}
+use Rattle.babel_link.specs.Neighbours.{hello_of, hello_verdict, ihu_of, gone_of, tick_of}
 use Rattle.babel_packet.specs.declared.messages.Message.{Message}
 use Rattle.babel_packet.specs.declared.messages.Message.TheVariants as messages
 use Rattle.babel_route.specs.declared.entries.Entry.{Entry}
@@ -22,7 +22,7 @@ use Rattle.babel_route.specs.declared.route_keys.RouteKey.{RouteKey}
 use Rattle.babel_route.specs.Distances.{is_feasible}
 use Rattle.babel_route.specs.Entries.{revised_entries}
 use Rattle.babel_route.specs.RouteKeys.{route_cmp, route_total, route_exact}
-use Rattle.babel_route.specs.Routes.{RouteEntries, key_of, is_from, entry_of_update, updated, retracted_entry, retracted, retracted_from, retracted_all, has_routes_from, kept_without, forgotten}
+use Rattle.babel_route.specs.Routes.{RouteEntries, key_of, is_from, entry_of_update, updated, retracted_entry, retracted, retracted_from, retracted_all, has_routes_from, kept_without, forgotten, expired_entry, expired}
 use Rattle.babel_route.proofs.PlaceLemmas.{so, holds, find_revised}
 use Rattle.babel_route.proofs.SelectionLookups.{equal}
 use Rattle.babel_speaker.specs.declared.notes.Verdict.TheVariants as verdicts
@@ -31,12 +31,14 @@ use Rattle.babel_speaker.specs.Sameness.{is_same_router}
 use Rattle.babel_speaker.specs.PendingRequests.{is_redundant}
 use Rattle.babel_speaker.specs.State.{State, announces, is_neighbour, entry_at, selected_at, pair_at, with_entries}
 use Rattle.babel_speaker.specs.Reselection.{UnfeasibleUpdate, owes, update_to, updates_to_all, asks, reselects, reselects_all}
-use Rattle.babel_speaker.specs.Hellos.{Step, forgets_flushed, hears, is_neighbour_too_many, is_for_interface, takes_hello, takes_ihu}
+use Rattle.babel_speaker.specs.Hellos.{Step, forgets, forgets_flushed, hears, is_neighbour_too_many, is_for_interface, takes_hello, takes_ihu}
 use Rattle.babel_speaker.specs.Updates.{stores, tells_if_selected, answers_request, takes_feasible, takes_unfeasible, judges, is_route_too_many, takes_update, takes_retraction, takes_retract_all}
 use Rattle.babel_speaker.specs.SeqnoRequests.{raised, answers, asked_of_own, passes_on, asked_of_route, receiver, takes_seqno_request}
 use Rattle.babel_speaker.specs.Messages.{takes_of_neighbour, takes}
 use Rattle.babel_speaker.specs.Seen.{UpdateValue, update_of, HeardValue, heard_if_finite, IsHeardFrom}
-use Rattle.babel_speaker.specs.SeenLaws.{MessagesAreHeard}
+use Rattle.babel_route.specs.Sources.{collected}
+use Rattle.babel_speaker.specs.Ticks.{forgets_each, links_ticked, routes_ticked, requests_ticked, interfaces_ticked, sources_ticked, routes_selected, ticked}
+use Rattle.babel_speaker.specs.SeenLaws.{MessagesAreHeard, TicksHearNothing}
 use Rattle.babel_speaker.specs.StepLaws.{kept_of, base_of}
 use Rattle.babel_speaker.proofs.Reselecting.{if_kept, owes_kept, requests_kept, asks_kept, base_kept, reselects_base, all_base}
 use Rattle.babel_speaker.proofs.StandingLaws.{sorted_revised}
@@ -116,25 +118,28 @@ retraction_fine now p peer us es sorted = by (find route_cmp (key_of p peer) es)
     }
 
 -- a revision that makes no route finite or other
+revised_only : (f : RouteKey → Entry → Option Entry) →
+    ((key : RouteKey) (e : Entry) (h : HeardValue) → option_and_then heard_if_finite (f key e) ≡ Some h → heard_if_finite e ≡ Some h) →
+    (key : RouteKey) (h : HeardValue) (m : Option Entry) → option_and_then heard_if_finite (option_and_then (f key) m) ≡ Some h → option_and_then heard_if_finite m ≡ Some h
+revised_only f only key h None is = absurd (none-some h is)
+revised_only f only key h (Some e) is = only key e h is
+
 revised_fine : (peer : Peer) (us : List UpdateValue) (f : RouteKey → Entry → Option Entry) (es : RouteEntries) → is_sorted route_cmp es ≡ true →
     ((key : RouteKey) (e : Entry) (h : HeardValue) → option_and_then heard_if_finite (f key e) ≡ Some h → heard_if_finite e ≡ Some h) →
     IsFine peer us es (revised_entries f es)
 revised_fine peer us f es sorted only = record {
   in_order = sorted_revised route_cmp f es sorted;
   heard = λ prefix from h is.
-      inl (by (key_of prefix from) h (find route_cmp (key_of prefix from) es) (ap (option_and_then heard_if_finite) (sym (find_revised route_cmp route_total route_exact f (key_of prefix from) es sorted)) ∙ is));
+      inl (revised_only f only (key_of prefix from) h (find route_cmp (key_of prefix from) es)
+      (ap (option_and_then heard_if_finite) (sym (find_revised route_cmp route_total route_exact f (key_of prefix from) es sorted)) ∙ is));
 }
-  where
-    by : (key : RouteKey) (h : HeardValue) (m : Option Entry) → option_and_then heard_if_finite (option_and_then (f key) m) ≡ Some h → option_and_then heard_if_finite m ≡ Some h
-    by key h None is = absurd (none-some h is)
-    by key h (Some e) is = only key e h is
+
+forgotten_only : (b : Bool) (e : Entry) (h : HeardValue) → option_and_then heard_if_finite (if b then None else Some e) ≡ Some h → heard_if_finite e ≡ Some h
+forgotten_only true e h is = absurd (none-some h is)
+forgotten_only false e h is = is
 
 forgotten_fine : (peer : Peer) (us : List UpdateValue) (es : RouteEntries) → is_sorted route_cmp es ≡ true → IsFine peer us es (forgotten peer es)
-forgotten_fine peer us es sorted = revised_fine peer us (kept_without peer) es sorted (λ key e h is. by (is_from peer key) e h is)
-  where
-    by : (b : Bool) (e : Entry) (h : HeardValue) → option_and_then heard_if_finite (if b then None else Some e) ≡ Some h → heard_if_finite e ≡ Some h
-    by true e h is = absurd (none-some h is)
-    by false e h is = is
+forgotten_fine peer us es sorted = revised_fine peer us (kept_without peer) es sorted (λ key e h is. forgotten_only (is_from peer key) e h is)
 
 retract_all_fine : (now : ℕ) (peer : Peer) (us : List UpdateValue) (es : RouteEntries) → is_sorted route_cmp es ≡ true → IsFine peer us es (retracted_all now peer es)
 retract_all_fine now peer us es sorted = revised_fine peer us (retracted_from now peer) es sorted (λ key e h is. by (is_from peer key) e h is)
@@ -311,3 +316,83 @@ message_fine now peer (messages.SeqnoRequest prefix router seqno hops) s sorted 
 pub messages_heard : MessagesAreHeard
 messages_heard now peer message s sorted =
     let fine = message_fine now peer message s sorted in (fine.in_order, λ prefix from h is. fine.heard prefix from h is)
+
+-- ---- a tick
+
+-- In order, and heard before.
+record IsLess (old es : RouteEntries) : Type 0 where
+  in_order : is_sorted route_cmp es ≡ true
+  heard : (prefix : PrefixValue) (from : Peer) (h : HeardValue) → heard_in prefix from es ≡ Some h → heard_in prefix from old ≡ Some h
+
+abbrev Less : State → State → Type 0
+Less old t = IsLess old.routes.entries t.routes.entries
+
+less_revised : (f : RouteKey → Entry → Option Entry) (es : RouteEntries) → is_sorted route_cmp es ≡ true →
+    ((key : RouteKey) (e : Entry) (h : HeardValue) → option_and_then heard_if_finite (f key e) ≡ Some h → heard_if_finite e ≡ Some h) →
+    IsLess es (revised_entries f es)
+less_revised f es sorted only = record {
+  in_order = sorted_revised route_cmp f es sorted;
+  heard = λ prefix from h is.
+      revised_only f only (key_of prefix from) h (find route_cmp (key_of prefix from) es)
+      (ap (option_and_then heard_if_finite) (sym (find_revised route_cmp route_total route_exact f (key_of prefix from) es sorted)) ∙ is);
+}
+
+less_then : (a b c : RouteEntries) → IsLess a b → IsLess b c → IsLess a c
+less_then a b c p q = record { in_order = q.in_order; heard = λ prefix from h is. p.heard prefix from h (q.heard prefix from h is) }
+
+less_on_base : (s t r : State) → base_of t ≡ base_of r → Less s r → Less s t
+unfolding base_of
+less_on_base s t r same p = subst (λ k. Less s k) (sym same) p
+
+expired_only : (now : ℕ) (key : RouteKey) (e : Entry) (h : HeardValue) → option_and_then heard_if_finite (expired_entry now key e) ≡ Some h → heard_if_finite e ≡ Some h
+expired_only now key e h is = by (nat_le e.deadline now) (nat_lt e.distance.metric 65535) is
+  where
+    by : (due finite : Bool) → option_and_then heard_if_finite (if due then (if finite then Some (retracted_entry now e) else None) else Some e) ≡ Some h → heard_if_finite e ≡ Some h
+    by true true is = absurd (none-some h is)
+    by true false is = absurd (none-some h is)
+    by false finite is = is
+
+less_forgotten : (peers : List Peer) (s t : State) → Less s t → Less s (forgets_each peers t)
+less_forgotten [] s t p = p
+less_forgotten (peer ∷ peers) s t p =
+    less_forgotten peers s (forgets peer t)
+    (less_then s.routes.entries t.routes.entries (forgotten peer t.routes.entries) p
+    (less_revised (kept_without peer) t.routes.entries p.in_order (λ key e h is. forgotten_only (is_from peer key) e h is)))
+
+less_links : (now : ℕ) (s : State) → is_sorted route_cmp s.routes.entries ≡ true → Less s (links_ticked now s)
+unfolding links_ticked
+less_links now s sorted =
+    less_forgotten (gone_of now s.neighbours) s (record s { neighbours = tick_of now s.neighbours })
+    (record { in_order = sorted; heard = λ prefix from h is. is })
+
+less_routes : (now : ℕ) (s t : State) → Less s t → Less s (routes_ticked now t)
+unfolding routes_ticked
+less_routes now s t p =
+    less_then s.routes.entries t.routes.entries (expired now t.routes.entries) p (less_revised (expired_entry now) t.routes.entries p.in_order (expired_only now))
+
+less_selected : (now : ℕ) (s : State) → is_sorted route_cmp s.routes.entries ≡ true → Less s (routes_selected now s)
+less_selected now s sorted =
+    let linked : State = links_ticked now s in
+    let once : State = reselects_all now linked in
+    let expiring : State = routes_ticked now once in
+    less_on_base s (reselects_all now expiring) expiring (all_base now expiring)
+    (less_routes now s once (less_on_base s once linked (all_base now linked) (less_links now s sorted)))
+
+less_sources : (now : ℕ) (s t : State) → Less s t → Less s (sources_ticked now t)
+unfolding sources_ticked
+less_sources now s t p = by t.collects
+  where
+    by : (b : Bool) → Less s (if b then record t { sources = collected now t.sources } else t)
+    by true = p
+    by false = p
+
+less_timed : (now : ℕ) (s t : State) → Less s t → Less s (interfaces_ticked now (requests_ticked now t))
+unfolding interfaces_ticked requests_ticked
+less_timed now s t p = p
+
+pub ticks_heard : TicksHearNothing
+unfolding ticked
+ticks_heard now s sorted =
+    let t : State = interfaces_ticked now (requests_ticked now (routes_selected now s)) in
+    let less : Less s (sources_ticked now t) = less_sources now s t (less_timed now s (routes_selected now s) (less_selected now s sorted)) in
+    (less.in_order, λ prefix from h is. less.heard prefix from h is)

@@ -1,5 +1,5 @@
 -- The step of a speaker for each message, and for a datagram (RFC 8966, sections 3.3 to 3.8).
-use Rattle.std.specs.Prelude.{◌≡◌, ℕ, List, [], ◌∷◌, Option, Some, None, Result, Ok, Err, if◌then◌else◌}
+use Rattle.std.specs.Prelude.{◌≡◌, ℕ, List, [], ◌∷◌, Option, Some, None, Result, Ok, if◌then◌else◌}
 use Rattle.babel_value.specs.declared.keys.Peer.{Peer}
 use Rattle.babel_packet.specs.declared.messages.Message.{Message}
 use Rattle.babel_packet.specs.declared.messages.Message.TheVariants as messages
@@ -62,8 +62,7 @@ abbrev pub IsRecvFault : Option RecvFault → Result (List Placed) Refusal → R
 IsRecvFault (Some fault) read answer = answer ≡ fault
 IsRecvFault None read answer = (refusal : Refusal) × (answer ≡ faults.Refused refusal) × Refuses refusal read
 
--- What `receive` does with a datagram of this meaning: its places are taken, with a note for each; or it is refused, and nothing changes.
-abbrev pub Receives : ℕ → Peer → Option RecvFault → Result (List Placed) Refusal → State → State → Result (List Note) RecvFault → Type 0
-Receives now peer fault read old new (Ok notes) =
+-- What `receive` does where it answers notes: there is no fault, and the places of the datagram are taken, with a note for each.
+abbrev pub Receives : ℕ → Peer → Option RecvFault → Result (List Placed) Refusal → State → State → List Note → Type 0
+Receives now peer fault read old new notes =
     (placed : List Placed) × (fault ≡ None) × (read ≡ Ok placed) × (new ≡ after_places now peer placed old) × (notes ≡ notes_of now peer placed old)
-Receives now peer fault read old new (Err answer) = (new ≡ old) × IsRecvFault fault read answer

@@ -8,6 +8,7 @@ use Rattle.babel_speaker.specs.Standing.{StandsEverywhere, AreRoutesInOrder}
 use Rattle.babel_value.specs.Prefixes.{PrefixValue}
 use Rattle.babel_packet.specs.declared.messages.Message.{Message}
 use Rattle.babel_speaker.specs.Messages.{takes}
+use Rattle.babel_speaker.specs.Ticks.{ticked}
 use Rattle.babel_speaker.specs.Seen.{seen, HeardValue, heard_at, update_of, IsHeardFrom, IsSelecting, IsNew}
 
 -- A new speaker has its configured router-id and seqno, and no source, route or selection.
@@ -35,3 +36,10 @@ abbrev pub MessagesAreHeard : Type 0
 MessagesAreHeard =
     (now : ℕ) (peer : Peer) (message : Message) (s : State) → AreRoutesInOrder s →
     AreRoutesInOrder (takes now peer message s).0 × HearsOnly peer message s (takes now peer message s).0
+
+-- A tick leaves the routes in order, and a finite route that is there after it was there before.
+abbrev pub TicksHearNothing : Type 0
+TicksHearNothing =
+    (now : ℕ) (s : State) → AreRoutesInOrder s →
+    AreRoutesInOrder (ticked now s) ×
+    ((prefix : PrefixValue) (from : Peer) (h : HeardValue) → heard_at prefix from (ticked now s) ≡ Some h → heard_at prefix from s ≡ Some h)

@@ -3,7 +3,7 @@
 ghost use Rattle.std.specs.Prelude.{◌≡◌, ◌<◌, ◌≤◌, ◌^◌, List, length};
 ghost use Rattle.babel_speaker.specs.declared.items.Item.{Item};
 ghost use Rattle.babel_speaker.specs.Owing.{Pending, owed, owed_at_once};
-ghost use Rattle.babel_speaker.specs.SeenLaws.{MessagesAreHeard, NewSpeakersAreNew, StandingIsSelecting};
+ghost use Rattle.babel_speaker.specs.SeenLaws.{MessagesAreHeard, NewSpeakersAreNew, StandingIsSelecting, TicksHearNothing};
 ghost use Rattle.babel_speaker.specs.Standing.{NewSpeakersStand, ReselectionsMakeStand, TicksMakeStand};
 ghost use Rattle.babel_speaker.specs.StepLaws.{ReselectionKeepsBase, ReselectionOfAllKeepsBase, MessagesKeepOwn, TicksKeepOwn, HandingOutKeepsKnown, HandingOutLowersSources};
 
@@ -52,8 +52,9 @@ pub fn selected_routes_are_good()
     ensures standing { StandingIsSelecting }
 {}
 
-/// A message leaves the routes in order, and each finite route that is there after it was there before,
-/// or is what the message told of its sender.
+/// A message and a tick leave the routes in order, and each finite route that is there after them was
+/// there before, or is what the message told of its sender.
 pub fn routes_come_from_updates()
-    ensures { MessagesAreHeard }
+    ensures messages { MessagesAreHeard }
+    ensures ticks { TicksHearNothing }
 {}
