@@ -13,7 +13,7 @@ use Rattle.babel_route.specs.Routes.{key_of}
 use Rattle.babel_route.specs.Selections.{is_feasible_route, route_metric}
 use Rattle.babel_route.proofs.StandLemmas.{chosen_is_candidate}
 use Rattle.babel_speaker.specs.declared.selected.Selected.{Selected}
-use Rattle.babel_speaker.specs.State.{State, announces, link_cost, pair_at, entry_at, selected_at}
+use Rattle.babel_speaker.specs.State.{State, announces, cost_at, pair_at, entry_at, selected_at}
 use Rattle.babel_speaker.specs.Calls.{first_state, told_selected, selected_route}
 use Rattle.babel_speaker.specs.Standing.{StandsEverywhere, AreRoutesInOrder}
 use Rattle.babel_speaker.specs.Seen.{seen, heard_if_finite, heard_of}
@@ -47,13 +47,13 @@ told prefix s c is = by (selected_at prefix s) refl is
 record IsGood (prefix : PrefixValue) (s : State) (route : Selection) : Type 0 where
   there : entry_at prefix route.peer s ≡ Some route.entry
   feasible : is_feasible (pair_at prefix route.entry.router s) route.entry.distance ≡ true
-  finite : route_metric (link_cost s) (key_of prefix route.peer, route.entry) < 65535
+  finite : route_metric (cost_at s) (key_of prefix route.peer, route.entry) < 65535
 
 good : (prefix : PrefixValue) (s : State) (route : Selection) → AreRoutesInOrder s → StandsEverywhere s → selected_at prefix s ≡ Some route → IsGood prefix s route
 good prefix s route sorted stands at =
-    let chosen = chosen_is_candidate s.sources (link_cost s) prefix (announces prefix s) (selected_at prefix s) s.routes.entries route sorted (sym (stands prefix) ∙ at) in
-    let parts = and_parts (is_feasible_route s.sources (key_of prefix route.peer, route.entry)) (nat_lt (route_metric (link_cost s) (key_of prefix route.peer, route.entry)) 65535) chosen.2 in
-    record { there = chosen.1; feasible = parts.0; finite = ltb-true (route_metric (link_cost s) (key_of prefix route.peer, route.entry)) 65535 parts.1 }
+    let chosen = chosen_is_candidate s.sources (cost_at s) prefix (announces prefix s) (selected_at prefix s) s.routes.entries route sorted (sym (stands prefix) ∙ at) in
+    let parts = and_parts (is_feasible_route s.sources (key_of prefix route.peer, route.entry)) (nat_lt (route_metric (cost_at s) (key_of prefix route.peer, route.entry)) 65535) chosen.2 in
+    record { there = chosen.1; feasible = parts.0; finite = ltb-true (route_metric (cost_at s) (key_of prefix route.peer, route.entry)) 65535 parts.1 }
 
 below_sum : (m cost : ℕ) → 1 ≤ cost → metric_sum m cost < 65535 → m < metric_sum m cost
 below_sum m cost positive finite = omega arith
@@ -70,7 +70,7 @@ told_entry_is : (prefix : PrefixValue) (s : State) (route : Selection) → IsGoo
     option_and_then heard_if_finite (entry_at prefix route.peer s) ≡ Some (heard_of (told_selected prefix s route))
 told_entry_is prefix s route g =
     ap (option_and_then heard_if_finite) g.there
-    ∙ heard route.entry (finite_part route.entry.distance.metric (link_cost s route.peer) g.finite)
+    ∙ heard route.entry (finite_part route.entry.distance.metric (cost_at s route.peer) g.finite)
 
 pub stands_selecting : StandingIsSelecting
 unfolding seen selected_route
@@ -87,5 +87,5 @@ stands_selecting s sorted positive stands = record {
       let t = told prefix s c is in
       let g = good prefix s t.0 sorted stands t.1 in
       subst (λ (c : Selected). (c.distance.metric < c.metric) × (c.metric < 65535)) t.2
-      (below_sum t.0.entry.distance.metric (link_cost s t.0.peer) (positive t.0.peer) g.finite, g.finite);
+      (below_sum t.0.entry.distance.metric (cost_at s t.0.peer) (positive t.0.peer) g.finite, g.finite);
 }

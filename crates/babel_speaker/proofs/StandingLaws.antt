@@ -22,7 +22,7 @@ use Rattle.babel_route.specs.Selections.{RoutesValue, Stands, prefixes_of}
 use Rattle.babel_route.proofs.StandLemmas.{all_stand}
 use Rattle.babel_speaker.specs.declared.interfaces.InterfaceEntry.{InterfaceEntry}
 use Rattle.babel_speaker.specs.Sameness.{has_prefix}
-use Rattle.babel_speaker.specs.State.{State, announces, interface_at, nominal_cost, link_cost, gathered, ascending, routed_prefixes}
+use Rattle.babel_speaker.specs.State.{State, announces, interface_at, nominal_cost, cost_at, gathered, ascending, routed_prefixes}
 use Rattle.babel_speaker.specs.Reselection.{reselects, reselects_each, reselects_all}
 use Rattle.babel_speaker.specs.Ticks.{forgets_each, links_ticked, routes_ticked, requests_ticked, fired, interfaces_ticked, routes_selected, ticked}
 use Rattle.babel_speaker.specs.Hellos.{forgets}
@@ -74,7 +74,7 @@ routed_has p s = has_ascending p (prefixes_of s.routes)
 -- ---- the routes after reselections
 
 abbrev routes_after : List PrefixValue → State → RoutesValue
-routes_after ps k = each_reselected k.sources (link_cost k) (λ q. announces q k) ps k.routes
+routes_after ps k = each_reselected k.sources (cost_at k) (λ q. announces q k) ps k.routes
 
 each_routes : (now : ℕ) (ps : List PrefixValue) (s : State) → (reselects_each now ps s).routes ≡ routes_after ps s
 unfolding kept_of
@@ -86,7 +86,7 @@ unfolding reselects_all
 all_routes now s = each_routes now (routed_prefixes s) s
 
 abbrev StandIn : PrefixValue → State → RoutesValue → Type 0
-StandIn p k routes = Stands k.sources (link_cost k) p (announces p k) routes
+StandIn p k routes = Stands k.sources (cost_at k) p (announces p k) routes
 
 in_base : (p : PrefixValue) (s t : State) → base_of t ≡ base_of s → StandIn p s t.routes → StandsAt p t
 unfolding base_of
@@ -96,7 +96,7 @@ pub reselections_stand : ReselectionsMakeStand
 reselections_stand now s sorted p =
     in_base p s (reselects_all now s) (all_base now s)
     (subst (StandIn p s) (sym (all_routes now s))
-    (all_stand s.sources (link_cost s) (λ q. announces q s) (routed_prefixes s) s.routes p sorted (λ there. routed_has p s ∙ there)))
+    (all_stand s.sources (cost_at s) (λ q. announces q s) (routed_prefixes s) s.routes p sorted (λ there. routed_has p s ∙ there)))
 
 -- ---- the order of the routes
 
@@ -148,7 +148,7 @@ timers_stand p now s stands =
     let nominal : (iface : ℕ) → nominal_cost iface s ≡ option_map_or (λ i. i.cost) (slice_get (map (fired now) s.interfaces) iface) 65535 =
     λ iface. sym (cost_fired now (interface_at iface s)) ∙ ap (λ o. option_map_or (λ i. i.cost) o 65535) (sym (slice_get-map (fired now) s.interfaces iface))
     in
-    let costs : link_cost s ≡ link_cost (interfaces_ticked now s) = λ i peer. cost_of peer (nominal peer.iface i) s.neighbours in
+    let costs : cost_at s ≡ cost_at (interfaces_ticked now s) = λ i peer. cost_of peer (nominal peer.iface i) s.neighbours in
     subst (λ cost. Stands s.sources cost p (announces p s) s.routes) costs stands
 
 requests_stand : (p : PrefixValue) (now : ℕ) (s : State) → StandsAt p s → StandsAt p (requests_ticked now s)
@@ -172,6 +172,6 @@ pub new_stands : NewSpeakersStand
 unfolding first_state
 new_stands c p = by (announces p (first_state c))
   where
-    by : (local : Bool) → Stands [] (link_cost (first_state c)) p local (record { entries = []; selections = [] })
+    by : (local : Bool) → Stands [] (cost_at (first_state c)) p local (record { entries = []; selections = [] })
     by true = refl
     by false = refl

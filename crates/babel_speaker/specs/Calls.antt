@@ -15,7 +15,7 @@ use Rattle.babel_speaker.specs.declared.interfaces.InterfaceEntry.{InterfaceEntr
 use Rattle.babel_speaker.specs.declared.selected.Selected.{Selected}
 use Rattle.babel_speaker.specs.Sameness.{is_same_prefix}
 use Rattle.babel_speaker.specs.Configs.{is_up_to}
-use Rattle.babel_speaker.specs.State.{State, interface_at, with_interface, announces, link_cost, selected_at, ascending}
+use Rattle.babel_speaker.specs.State.{State, interface_at, with_interface, announces, cost_at, selected_at, ascending}
 use Rattle.babel_speaker.specs.Reselection.{owes, updates_to_all, selects}
 
 -- ---- a new speaker
@@ -94,7 +94,7 @@ told_selected prefix s route = record {
   next_hop = route.entry.next_hop;
   router = route.entry.router;
   distance = route.entry.distance;
-  metric = route_metric (link_cost s) (key_of prefix route.peer, route.entry);
+  metric = route_metric (cost_at s) (key_of prefix route.peer, route.entry);
 }
 
 unfoldable pub selected_route : PrefixValue → State → Option Selected
@@ -102,7 +102,7 @@ selected_route prefix s = option_map (told_selected prefix s) (selected_at prefi
 
 -- An entry, with its neighbour and the cost of the link to it.
 abbrev pub told_entry : State → Route → Peer × Entry × ℕ
-told_entry s route = (route.0.peer, route.1, link_cost s route.0.peer)
+told_entry s route = (route.0.peer, route.1, cost_at s route.0.peer)
 
 -- The prefix's entries, ascending by neighbour: `entry` tells the one at a place.
 unfoldable pub told_entries : PrefixValue → State → List (Peer × Entry × ℕ)

@@ -5,7 +5,7 @@ use Rattle.babel_value.specs.declared.keys.Peer.{Peer}
 use Rattle.babel_packet.specs.declared.messages.Message.TheVariants as messages
 use Rattle.babel_route.specs.declared.entries.Selection.{Selection}
 use Rattle.babel_route.specs.Selections.{choice_at}
-use Rattle.babel_speaker.specs.State.{State, announces, link_cost, selected_at}
+use Rattle.babel_speaker.specs.State.{State, announces, cost_at, selected_at}
 use Rattle.babel_speaker.specs.declared.items.Item.{Item}
 use Rattle.babel_speaker.specs.declared.items.Item.TheVariants as items
 use Rattle.babel_speaker.specs.Ticks.{requests_ticked}
@@ -17,7 +17,7 @@ selected_peer s = option_map (λ c. c.peer) (selected_at ten s)
 
 -- What a reselection would choose now.
 abbrev pub best_route : State → Option Selection
-best_route s = choice_at s.sources (link_cost s) ten (announces ten s) s.routes
+best_route s = choice_at s.sources (cost_at s) ten (announces ten s) s.routes
 
 abbrev pub route_of : ℕ → ℕ → ℕ → ℕ → Selection
 route_of n seqno metric now = record {

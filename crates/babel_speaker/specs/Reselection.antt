@@ -18,7 +18,7 @@ use Rattle.babel_speaker.specs.declared.requests.Resend.TheVariants.{Unfeasible,
 use Rattle.babel_speaker.specs.Sameness.{is_same_router, is_same_peer}
 use Rattle.babel_speaker.specs.Owing.{owed}
 use Rattle.babel_speaker.specs.PendingRequests.{is_redundant, recorded}
-use Rattle.babel_speaker.specs.State.{State, announces, link_cost, pair_at, selected_at, routed_prefixes}
+use Rattle.babel_speaker.specs.State.{State, announces, cost_at, pair_at, selected_at, routed_prefixes}
 
 -- ---- owing
 
@@ -109,7 +109,7 @@ asks_for_seqno now cause prefix old new s = asks_sender now cause prefix old s
 
 -- The route of the prefix is selected anew (RFC 8966, section 3.6).
 abbrev pub selects : PrefixValue → State → State
-selects prefix s = record s { routes = reselected s.sources (link_cost s) prefix (announces prefix s) s.routes }
+selects prefix s = record s { routes = reselected s.sources (cost_at s) prefix (announces prefix s) s.routes }
 
 abbrev pub follows_up : ℕ → Option UnfeasibleUpdate → PrefixValue → Option Selection → Option Selection → State → State
 follows_up now cause prefix old new s = asks_for_seqno now cause prefix old new (tells_change prefix old new s)

@@ -20,7 +20,7 @@ use Rattle.babel_speaker.specs.declared.items.Item.TheVariants as items
 use Rattle.babel_speaker.specs.declared.items.Said.{Said}
 use Rattle.babel_speaker.specs.declared.items.Said.TheVariants as sayings
 use Rattle.babel_speaker.specs.declared.items.Target.{Target}
-use Rattle.babel_speaker.specs.State.{State, interface_at, announces, is_neighbour, link_cost, link_rxcost, selected_at}
+use Rattle.babel_speaker.specs.State.{State, interface_at, announces, is_neighbour, cost_at, rxcost_at, selected_at}
 use Rattle.babel_speaker.specs.Addresses.{address_of}
 
 abbrev pub to_all : ℕ → Target
@@ -35,7 +35,7 @@ hello_said iface i = sayings.Message (to_all iface) (messages.Hello false i.hell
 
 -- How well the neighbour is heard (RFC 8966, section 3.4.2).
 abbrev pub ihu_said : Peer → State → InterfaceEntry → Said
-ihu_said peer s i = sayings.Message (to_all peer.iface) (messages.Ihu (Some peer.addr) (link_rxcost s peer) (3 * i.hello))
+ihu_said peer s i = sayings.Message (to_all peer.iface) (messages.Ihu (Some peer.addr) (rxcost_at s peer) (3 * i.hello))
 
 -- ---- updates (RFC 8966, section 3.7)
 
@@ -54,7 +54,7 @@ route_telling prefix s route = record {
   router = route.entry.router;
   distance = record {
     seqno = route.entry.distance.seqno;
-    metric = route_metric (link_cost s) (key_of prefix route.peer, route.entry);
+    metric = route_metric (cost_at s) (key_of prefix route.peer, route.entry);
   };
 }
 

@@ -2,7 +2,7 @@
 use Rattle.std.specs.Prelude.{◌≡◌, ◌≤◌, ◌⊎◌, ℕ, Some}
 use Rattle.babel_value.specs.declared.keys.Peer.{Peer}
 use Rattle.babel_speaker.specs.declared.configs.Config.{Config}
-use Rattle.babel_speaker.specs.State.{State, link_cost}
+use Rattle.babel_speaker.specs.State.{State, cost_at}
 use Rattle.babel_speaker.specs.Calls.{first_state}
 use Rattle.babel_speaker.specs.Standing.{StandsEverywhere, AreRoutesInOrder}
 use Rattle.babel_value.specs.Prefixes.{PrefixValue}
@@ -17,7 +17,7 @@ NewSpeakersAreNew = (c : Config) → IsNew c.router_id c.seqno (seen (first_stat
 
 -- Every link costs at least 1 (RFC 8966, section 3.5.2: costs are positive).
 abbrev pub AreCostsPositive : State → Type 0
-AreCostsPositive s = (peer : Peer) → 1 ≤ link_cost s peer
+AreCostsPositive s = (peer : Peer) → 1 ≤ cost_at s peer
 
 -- Where all selections stand, each is a feasible and finite route of the table, with a metric above the advertised one.
 abbrev pub StandingIsSelecting : Type 0

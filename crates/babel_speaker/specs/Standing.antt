@@ -11,11 +11,11 @@ use Rattle.babel_speaker.specs.declared.configs.Config.{Config}
 use Rattle.babel_speaker.specs.Reselection.{reselects_all}
 use Rattle.babel_speaker.specs.Ticks.{ticked}
 use Rattle.babel_speaker.specs.Calls.{first_state}
-use Rattle.babel_speaker.specs.State.{State, announces, link_cost, selected_at}
+use Rattle.babel_speaker.specs.State.{State, announces, cost_at, selected_at}
 
 -- The selection stands at the prefix: it's the one that a reselection would leave in the present state (RFC 8966, section 3.6).
 abbrev pub StandsAt : PrefixValue → State → Type 0
-StandsAt prefix s = Stands s.sources (link_cost s) prefix (announces prefix s) s.routes
+StandsAt prefix s = Stands s.sources (cost_at s) prefix (announces prefix s) s.routes
 
 -- At every prefix. So it is in a new speaker and after a tick, and every call but `next_datagram` keeps it.
 abbrev pub StandsEverywhere : State → Type 0
@@ -27,7 +27,7 @@ KeepsStanding old new = (prefix : PrefixValue) → StandsAt prefix old → Stand
 -- The selected route is a candidate: feasible, with a finite metric, and not of an own prefix.
 abbrev pub is_selection_candidate : PrefixValue → State → Selection → Bool
 is_selection_candidate prefix s route =
-    not (announces prefix s) && is_candidate s.sources (link_cost s) (key_of prefix route.peer, route.entry)
+    not (announces prefix s) && is_candidate s.sources (cost_at s) (key_of prefix route.peer, route.entry)
 
 -- A route of the prefix that was unfeasible is feasible now. Handing out lowers sources, and the order of seqnos isn't transitive: from seqnos that are more than half of the circle apart this can come.
 abbrev pub becomes_feasible : State → State → Route → Bool

@@ -61,11 +61,11 @@ abbrev pub nominal_cost : ℕ → State → ℕ
 nominal_cost iface s = option_map_or (λ i. i.cost) (interface_at iface s) 65535
 
 -- The costs of the link to a neighbour now (RFC 8966, section 3.4.3).
-abbrev pub link_rxcost : State → Peer → ℕ
-link_rxcost s peer = rxcost_of peer (nominal_cost peer.iface s) s.neighbours
+abbrev pub rxcost_at : State → Peer → ℕ
+rxcost_at s peer = rxcost_of peer (nominal_cost peer.iface s) s.neighbours
 
-abbrev pub link_cost : State → Peer → ℕ
-link_cost s peer = cost_of peer (nominal_cost peer.iface s) s.neighbours
+abbrev pub cost_at : State → Peer → ℕ
+cost_at s peer = cost_of peer (nominal_cost peer.iface s) s.neighbours
 
 -- The feasibility distance of a source, where it has one (RFC 8966, section 3.2.5).
 abbrev pub pair_at : PrefixValue → List ℕ → State → Option Distance
