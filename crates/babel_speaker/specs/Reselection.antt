@@ -72,9 +72,9 @@ is_same_origin (Some old) (Some new) = is_same_router old.entry.router new.entry
 abbrev pub tells_change : PrefixValue → Option Selection → Option Selection → State → State
 tells_change prefix old new s = if is_same_origin old new then s else owes (updates_to_all prefix s) s
 
--- B. Where the route was lost, and only unfeasible ones are left, their neighbours are asked for a greater seqno (RFC 8966, section 3.8.2.1).
-abbrev pub has_unfeasible_only : PrefixValue → State → Bool
-has_unfeasible_only prefix s = not (announces prefix s) && list_any (is_unfeasible s.sources) (routes_of prefix s.routes.entries)
+-- B. Where the route was lost, the prefix isn't announced here, and some finite route to it is unfeasible, the neighbours of all such routes are asked for a greater seqno (RFC 8966, section 3.8.2.1).
+abbrev pub may_ask_for_lost : PrefixValue → State → Bool
+may_ask_for_lost prefix s = not (announces prefix s) && list_any (is_unfeasible s.sources) (routes_of prefix s.routes.entries)
 
 -- The seqno that makes a route of the source feasible again: one more than that of its pair, or than the lost one.
 abbrev pub seqno_after : Option Distance → ℕ → ℕ
@@ -102,7 +102,7 @@ asks_sender now (Some update) prefix old s =
 
 abbrev pub asks_for_seqno : ℕ → Option UnfeasibleUpdate → PrefixValue → Option Selection → Option Selection → State → State
 asks_for_seqno now cause prefix (Some lost) None s =
-    if has_unfeasible_only prefix s then asks_for_lost now prefix lost s else asks_sender now cause prefix (Some lost) s
+    if may_ask_for_lost prefix s then asks_for_lost now prefix lost s else asks_sender now cause prefix (Some lost) s
 asks_for_seqno now cause prefix old new s = asks_sender now cause prefix old s
 
 -- ---- the reselection
