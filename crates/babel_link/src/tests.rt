@@ -154,3 +154,18 @@ fn no_room_for_a_65th(rt: HostRuntime) -> Result<(), Fail> {
     assert_eq!(rt; neighbours.at(64), None);
     Ok(())
 }
+
+/// Run by `rt try --test --fail-alloc N` for each N, as well as by itself: what is refused its memory
+/// says so, and is made when it asks again.
+#[test]
+fn neighbours_refused_their_memory(rt: HostRuntime) -> Result<(), Fail> {
+    let neighbours = match Neighbours::new(rt.alloc()) {
+        Ok(neighbours) => neighbours,
+        Err(fault) => {
+            assert_eq!(rt; fault, Memory);
+            Neighbours::new(rt.alloc())?
+        }
+    };
+    assert_eq!(rt; neighbours.at(0), None);
+    Ok(())
+}

@@ -233,3 +233,26 @@ fn both_tables_answer_alike(rt: HostRuntime) -> Result<(), Fail> {
     assert_eq!(rt; sorted.as_slice(), expected.as_slice());
     Ok(())
 }
+
+/// Run by `rt try --test --fail-alloc N` for each N, as well as by itself: what is refused its memory
+/// says so, and is made when it asks again.
+#[test]
+fn tables_refused_their_memory(rt: HostRuntime) -> Result<(), Fail> {
+    let sources = match Sources::new(rt.alloc()) {
+        Ok(sources) => sources,
+        Err(fault) => {
+            assert_eq!(rt; fault, Memory);
+            Sources::new(rt.alloc())?
+        }
+    };
+    assert_eq!(rt; sources.len(), 0);
+    let routes = match Routes::new(rt.alloc()) {
+        Ok(routes) => routes,
+        Err(fault) => {
+            assert_eq!(rt; fault, Memory);
+            Routes::new(rt.alloc())?
+        }
+    };
+    assert_eq!(rt; routes.len(), 0);
+    Ok(())
+}
