@@ -12,9 +12,9 @@ use Rattle.babel_route.specs.declared.route_keys.RouteKey.{RouteKey}
 use Rattle.babel_route.specs.declared.entries.Selection.{Selection}
 use Rattle.babel_route.specs.Sources.{Sources}
 use Rattle.babel_route.specs.RouteKeys.{route_cmp}
-use Rattle.babel_route.specs.Routes.{RouteEntries, key_of, entry_of_update, updated, retracted_entry, retracted, retracted_from, retracted_all, kept_without, forgotten, expired_entry, expired}
-use Rattle.babel_route.specs.Firsts.{first_of, IsFirstOf}
-use Rattle.babel_route.specs.Selections.{RoutesValue, candidates, is_candidate, preference, peer_before, choice, choice_at, selection_at, reselected, Stands, prefixes_of}
+use Rattle.babel_route.specs.Routes.{Route, RouteEntries, key_of, entry_of_update, updated, retracted_entry, retracted, retracted_from, retracted_all, kept_without, forgotten, expired_entry, expired}
+use Rattle.babel_route.specs.Firsts.{IsFirstOf}
+use Rattle.babel_route.specs.Selections.{RoutesValue, candidates, is_candidate, preference, peer_before, selection_of, choice, choice_at, selection_at, reselected, Stands, prefixes_of}
 
 -- ---- entries
 
@@ -45,12 +45,12 @@ ChangesEachRoute =
 
 -- ---- selections
 
--- The choice is the candidate that no other comes before, and there is none exactly where there is no candidate.
+-- The choice is the candidate that no other comes before; there is none exactly where there is no candidate.
 abbrev pub ChoosesTheFirst : Type 0
 ChoosesTheFirst =
     (sources : Sources) (cost : Peer → ℕ) (prefix : PrefixValue) (local : Bool) (before : Option Selection) (es : RouteEntries) →
-    IsFirstOf (preference cost (peer_before before)) (candidates sources cost prefix local es)
-    (first_of (preference cost (peer_before before)) (candidates sources cost prefix local es))
+    (first : Option Route) × (choice sources cost prefix local before es ≡ option_map selection_of first)
+    × IsFirstOf (preference cost (peer_before before)) (candidates sources cost prefix local es) first
 
 -- What is chosen is what its neighbour tells of the prefix, and a candidate.
 abbrev pub ChoosesACandidate : Type 0

@@ -68,8 +68,8 @@ impl<E: Table<RouteKey, Entry>, S: Table<Prefix, Selection>> RoutesOver<E, S> {
         })
     }
 
-    /// Takes a neighbour's update for a prefix, feasible or not (RFC 8966, section 3.5.3); the metric
-    /// in the distance is the advertised one, the interval in centiseconds. It replaces what this
+    /// Takes a neighbour's finite update for a prefix, feasible or not (RFC 8966, section 3.5.3); the
+    /// metric in the distance is the advertised one, the interval in centiseconds. It replaces what this
     /// neighbour told of the prefix. `Full` exactly where the neighbour told nothing of the prefix and
     /// all places are taken: one for each entry, and one for each prefix that has a selection but no
     /// entry.
