@@ -9,7 +9,7 @@ abbrev pub family_of : Addr → Family
 family_of (V4 octets) = Ipv4
 family_of (V6 octets) = Ipv6
 
--- How many bits an address has.
+-- How many bits an address has: 32 or 128.
 abbrev pub width_of : Addr → ℕ
 width_of (V4 octets) = 32
 width_of (V6 octets) = 128

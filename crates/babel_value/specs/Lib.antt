@@ -5,8 +5,6 @@ pub mod Lifts
 pub mod RouterIds
 pub mod Addresses
 pub mod Prefixes
-pub mod PrefixLaws
 pub mod Orders
-pub mod OrderLaws
 pub mod Moments
 pub mod Texts

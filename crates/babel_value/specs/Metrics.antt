@@ -2,6 +2,10 @@
 use Rattle.std.specs.Prelude.{ℕ, ◌+◌}
 use Rattle.std.specs.Prelude.{min}
 
--- The metric over a link: the sum, and infinity from 65535 on.
+-- The metric of an unreachable destination (section 2.4).
+abbrev pub infinity : ℕ
+infinity = 65535
+
+-- The metric over a link: the sum, and infinity from 65535 on (section 3.5.2).
 abbrev pub metric_sum : ℕ → ℕ → ℕ
-metric_sum metric cost = min (metric + cost) 65535
+metric_sum metric cost = min (metric + cost) infinity

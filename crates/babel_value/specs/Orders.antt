@@ -1,11 +1,13 @@
--- The orders of the keys (profile): what `cmp` answers on each.
+-- The orders of the keys (profile): what `cmp` returns on each.
 use Rattle.std.specs.Prelude.{ℕ, List}
 use Rattle.std.specs.declared.cmp.Ordering.{Ordering}
-use Rattle.std.specs.declared.cmp.Ordering.TheVariants.{Less, Greater}
+use Rattle.std.specs.declared.cmp.Ordering.TheVariants.{Less, Equal, Greater}
 use Rattle.std.specs.Ordering.{nat_cmp, ordering_then}
 use Rattle.std.specs.Cmp.Lexicographic.{slice_cmp}
 use Rattle.babel_value.specs.declared.addresses.Addr.{Addr}
 use Rattle.babel_value.specs.declared.addresses.Addr.TheVariants.{V4, V6}
+use Rattle.babel_value.specs.declared.addresses.Family.{Family}
+use Rattle.babel_value.specs.declared.addresses.Family.TheVariants.{Ipv4, Ipv6}
 use Rattle.babel_value.specs.declared.keys.Source.{Source}
 use Rattle.babel_value.specs.declared.keys.Peer.{Peer}
 use Rattle.babel_value.specs.Prefixes.{PrefixValue}
@@ -14,7 +16,14 @@ use Rattle.babel_value.specs.Prefixes.{PrefixValue}
 abbrev pub octets_cmp : List ℕ → List ℕ → Ordering
 octets_cmp = slice_cmp nat_cmp
 
--- IPv4 first, then by octets.
+-- IPv4 first.
+abbrev pub family_cmp : Family → Family → Ordering
+family_cmp Ipv4 Ipv4 = Equal
+family_cmp Ipv4 Ipv6 = Less
+family_cmp Ipv6 Ipv4 = Greater
+family_cmp Ipv6 Ipv6 = Equal
+
+-- IPv4 first, then octet by octet.
 abbrev pub addr_cmp : Addr → Addr → Ordering
 addr_cmp (V4 a) (V4 b) = octets_cmp a b
 addr_cmp (V4 a) (V6 b) = Less

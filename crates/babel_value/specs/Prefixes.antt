@@ -18,7 +18,7 @@ abbrev pub cleared_addr : ℕ → Addr → Addr
 cleared_addr bits (V4 octets) = V4 (cleared bits octets)
 cleared_addr bits (V6 octets) = V6 (cleared bits octets)
 
--- The prefix of an address, where the length isn't too large for it.
+-- The prefix of an address, unless the length is greater than the address is wide.
 abbrev pub prefix_of : Addr → ℕ → Option PrefixValue
 prefix_of addr length =
     if nat_le length (width_of addr) then Some (record { addr = cleared_addr length addr; length = length }) else None

@@ -18,12 +18,12 @@ ipv4_text o =
 
 -- two octets as a group: lower case hexadecimal digits without leading zeros
 abbrev pub group_text : List ℕ → ℕ → List ℕ
-group_text o place = digits 16 false (256 * slice_index o place + slice_index o (place + 1))
+group_text o index = digits 16 false (256 * slice_index o index + slice_index o (index + 1))
 
 -- four groups with colons
 abbrev pub groups_text : List ℕ → ℕ → List ℕ
-groups_text o place =
-    group_text o place ++ codes ":" ++ group_text o (place + 2) ++ codes ":" ++ group_text o (place + 4) ++ codes ":" ++ group_text o (place + 6)
+groups_text o index =
+    group_text o index ++ codes ":" ++ group_text o (index + 2) ++ codes ":" ++ group_text o (index + 4) ++ codes ":" ++ group_text o (index + 6)
 
 -- eight groups with colons, none of them left out
 abbrev pub ipv6_text : List ℕ → List ℕ

@@ -24,7 +24,7 @@ pub enum Addr {
     V6([u8; 16]),
 }
 
-/// 0.0.0.0, which fills the unused places of a list with a fixed room.
+/// 0.0.0.0, which fills the unused elements of an array.
 impl Default for Addr {
     fn default() -> Addr
         ensures { result ≡ Addr.V4 (replicate 4 0) }
@@ -98,10 +98,10 @@ impl fmt::Display for Groups<'_> {
     }
 }
 
-/// The number in the two octets from this place on.
-fn group(octets: &[u8; 16], place: usize) -> u16
-    requires { place < 15 }
-    ensures { result ≡ 256 * slice_index octets.now place + slice_index octets.now (place + 1) }
+/// The number in the two octets from this index on.
+fn group(octets: &[u8; 16], index: usize) -> u16
+    requires { index < 15 }
+    ensures { result ≡ 256 * slice_index octets.now index + slice_index octets.now (index + 1) }
 {
-    256 * u16::from(octets[place]) + u16::from(octets[place + 1])
+    256 * u16::from(octets[index]) + u16::from(octets[index + 1])
 }

@@ -1,4 +1,4 @@
-//! Distances: what a source table keeps, and feasibility compares (RFC 8966, sections 2.4 and 3.5.1).
+//! Distances, which a source table keeps and feasibility compares (RFC 8966, sections 2.4 and 3.5.1).
 
 ghost use Rattle.std.specs.Prelude.{◌≡◌};
 ghost use Rattle.babel_value.specs.Distances.{is_better};
@@ -8,9 +8,9 @@ use crate::{Metric, Seqno};
 /// A sequence number and a metric (RFC 8966, section 2.4).
 #[derive(Clone, Copy, Debug, PartialEq, Eq, Hash)]
 pub struct Distance {
-    /// The sequence number that the source gave the route.
+    /// The sequence number that the source gave the route (RFC 8966, section 2.5).
     pub seqno: Seqno,
-    /// The metric that goes with it.
+    /// The metric at that sequence number.
     pub metric: Metric,
 }
 

@@ -1,13 +1,15 @@
 //! The values of the Babel routing protocol (RFC 8966), and the orders on them.
 //!
-//! Nothing here takes memory, and nothing knows of datagrams, tables or sockets.
+//! Nothing here allocates, and nothing depends on datagrams, tables or sockets.
 #![tactic(auto)]
 
 mod addresses;
 mod distances;
+mod errors;
 mod keys;
-mod laws;
+pub mod laws;
 mod metrics;
+mod moments;
 mod prefixes;
 mod router_ids;
 mod seqnos;
@@ -15,13 +17,11 @@ mod texts;
 
 pub use addresses::{Addr, Family};
 pub use distances::Distance;
+pub use errors::{AddrTextFault, Memory};
 pub use keys::{Peer, Source};
 pub use laws::{distances_agree_on_lifts, seqnos_agree_on_lifts};
 pub use metrics::Metric;
-pub use prefixes::Prefix;
+pub use moments::hold_time;
+pub use prefixes::{Prefix, keep_bits};
 pub use router_ids::RouterId;
 pub use seqnos::Seqno;
-pub use texts::AddrTextFault;
-
-#[cfg(test)]
-mod tests;

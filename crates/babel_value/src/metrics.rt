@@ -2,7 +2,7 @@
 
 ghost use Rattle.std.specs.Prelude.{Some, ◌≡◌, nat_lt};
 ghost use Rattle.std.specs.Fmt.{decimal};
-ghost use Rattle.babel_value.specs.Metrics.{metric_sum};
+ghost use Rattle.babel_value.specs.Metrics.{infinity, metric_sum};
 
 use std::fmt;
 use std::marker::Model;
@@ -22,7 +22,7 @@ impl Model for Metric {
 }
 
 impl Metric {
-    /// The metric of what can't be reached.
+    /// The metric of an unreachable destination.
     pub const INFINITE: Metric = Metric(u16::MAX);
 
     /// The metric over a link of this cost. A sum of 65535 or more is infinity.
@@ -34,7 +34,7 @@ impl Metric {
 
     /// Whether it is less than infinity.
     pub fn is_finite(self) -> bool
-        ensures { result ≡ nat_lt self 65535 }
+        ensures { result ≡ nat_lt self infinity }
     {
         self.0 < Metric::INFINITE.0
     }

@@ -31,8 +31,8 @@ impl Model for Prefix {
 }
 
 impl Prefix {
-    /// The prefix of this address and length, with the bits past the length cleared. `None` exactly
-    /// where the length is greater than 32 or 128.
+    /// The prefix of this address and length, with the bits past the length cleared. `None` exactly if
+    /// the length is greater than the address is wide: 32 or 128.
     pub fn new(addr: Addr, length: u8) -> Option<Prefix>
         ensures { result ≡ prefix_of addr length }
     {
@@ -43,8 +43,9 @@ impl Prefix {
         Some(Prefix { addr, length })
     }
 
-    /// The prefix of an address whose bits past the length are zero already.
-    pub fn of(addr: Addr, length: u8) -> Prefix
+    /// The prefix of an address whose bits past the length are zero already, which isn't tested.
+    #[inline]
+    pub fn new_unchecked(addr: Addr, length: u8) -> Prefix
         requires short { length ≤ width_of addr }
         requires clear { cleared_addr length addr ≡ addr }
         ensures { result ≡ record { addr = addr; length = length } }
@@ -104,7 +105,8 @@ fn clear_past(octets: &mut [u8], length: u8)
 }
 
 /// The octet with the bits past the first `bits` cleared.
-fn keep_bits(octet: u8, bits: u8) -> u8
+#[inline]
+pub fn keep_bits(octet: u8, bits: u8) -> u8
     ensures { result ≡ octet - octet % 2 ^ (8 - bits) }
 {
     if bits >= 8 {

@@ -28,7 +28,7 @@ impl Model for RouterId {
 }
 
 impl RouterId {
-    /// The router-id of these octets, `None` exactly where they are one of the two reserved ones.
+    /// The router-id of these octets, `None` exactly if they are one of the two reserved ones.
     pub fn new(octets: [u8; 8]) -> Option<RouterId>
         ensures { result ≡ router_id_of octets }
     {

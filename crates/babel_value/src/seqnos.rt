@@ -9,7 +9,7 @@ use std::marker::Model;
 
 /// A sequence number: 16 bits around a circle (RFC 8966, section 3.2.1).
 ///
-/// It has no `Ord`: on a circle there is no order that is one everywhere. `less` is the RFC's.
+/// It has no `Ord`, since the circular order isn't transitive. `less` is the order of the RFC.
 #[derive(Clone, Copy, Debug, PartialEq, Eq, Hash)]
 pub struct Seqno(pub u16);
 
@@ -27,7 +27,8 @@ impl Model for Seqno {
 const HALF_CIRCLE: u16 = 0x8000;
 
 impl Seqno {
-    /// Whether this number comes before `other`: by less than half of the circle.
+    /// Whether this number comes before `other`, by less than half of the circle (RFC 8966, section
+    /// 3.2.1).
     pub fn less(self, other: Seqno) -> bool
         ensures { result ≡ is_before self other }
     {

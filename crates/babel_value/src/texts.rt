@@ -1,20 +1,14 @@
-//! Addresses as text is read.
+//! Addresses read from text.
 
 ghost use Rattle.std.specs.Net.Grammar.{Parses};
 ghost use Rattle.babel_value.specs.Texts.{IsAddrText};
 
-use crate::Addr;
+use crate::{Addr, AddrTextFault};
 use std::net::{Ipv4Addr, Ipv6Addr};
 use std::str::FromStr;
-use thiserror::Error;
-
-/// A text that is no address.
-#[derive(Clone, Copy, Debug, PartialEq, Eq, Error)]
-#[error("not an IPv4 or IPv6 address")]
-pub struct AddrTextFault;
 
 /// Reads IPv4 as four decimal numbers without leading zeros, and IPv6 as groups of one to four
-/// hexadecimal digits of either case, with at most one `::`, which stands for at least one group.
+/// hexadecimal digits of either case, with at most one `::`, which abbreviates at least one group.
 /// There is no zone, and no IPv4 address inside an IPv6 one.
 impl FromStr for Addr {
     type Err = AddrTextFault;

@@ -1,4 +1,4 @@
--- What is behind the octet is cleared, and clearing the rest gives the whole.
+-- The octets up to this one are cleared, and clearing the rest gives the whole.
 use Rattle.std.proofs.Common.{◌≡◌, ◌++◌, take, drop}
 use Rattle.babel_value.specs.Prefixes.{cleared}
 use Rattle.babel_value.proofs.prefixes.clear_past.Given as goal

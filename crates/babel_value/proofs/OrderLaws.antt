@@ -1,4 +1,4 @@
--- The orders of the keys are total, and tell any two keys apart (profile).
+-- The orders of the keys are total, and only equal keys compare as equal.
 use Rattle.std.specs.Prelude.{◌≡◌, ℕ, List, ◌∷◌}
 use Rattle.std.proofs.Common.{refl, ap, subst}
 use Rattle.std.specs.Ordering.{nat_cmp}
@@ -21,6 +21,12 @@ addr_cmp-tagged (V4 a) (V4 b) = refl
 addr_cmp-tagged (V4 a) (V6 b) = refl
 addr_cmp-tagged (V6 a) (V4 b) = refl
 addr_cmp-tagged (V6 a) (V6 b) = refl
+
+pub octets_total : IsTotalOrder octets_cmp
+octets_total = nat_list_cmp_total
+
+pub octets_exact : IsAntisymmetric octets_cmp
+octets_exact = exact_bytes
 
 pub addr_total : IsTotalOrder addr_cmp
 addr_total = subst IsTotalOrder (λ i a b. addr_cmp-tagged a b i) (on_total tagged nat_list_cmp_total)

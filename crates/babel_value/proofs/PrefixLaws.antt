@@ -1,4 +1,4 @@
--- Laws of clearing (RFC 8966, section 4.1.5): clearing twice clears nothing more, and keeps the family.
+-- Clearing a second time changes nothing, and clearing keeps the family.
 use Rattle.std.proofs.Common.{◌≡◌, ℕ, ◌-◌, ◌*◌, ◌/◌, ◌%◌, ◌^◌, List, [], ◌∷◌, refl, ap, arith, mul_comm}
 use Rattle.std.proofs.Math.Nat.{mod-add-div, mul-mod_left}
 use Rattle.babel_value.specs.declared.addresses.Addr.{Addr}
@@ -6,7 +6,7 @@ use Rattle.babel_value.specs.declared.addresses.Addr.TheVariants.{V4, V6}
 use Rattle.babel_value.specs.Addresses.{width_of}
 use Rattle.babel_value.specs.Prefixes.{cleared, cleared_addr}
 
--- What is left is a multiple of m, so nothing more is cut.
+-- The rest is a multiple of m, so nothing more is cut.
 pub rounded-rounded : (a m : ℕ) → (a - a % m) - (a - a % m) % m ≡ a - a % m
 rounded-rounded a m =
     let whole : a - a % m ≡ a / m * m = omega (arith, mod-add-div a m, mul_comm m (a / m)) in rw (whole, mul-mod_left (a / m) m) (omega arith)

@@ -1,0 +1,5 @@
+//! Tests of values.
+#![tactic(auto)]
+
+#[cfg(test)]
+mod value_tests;
