@@ -1,0 +1,4 @@
+pub mod Readings
+pub mod Numbers
+pub mod Prefixes
+pub mod RouterIds
