@@ -7,7 +7,7 @@ use Rattle.babel_tlv.specs.Place.{Place}
 use Rattle.babel_tlv.specs.Spelling.{spelling, IsTlv, AreInPlace, IsSliceOf}
 use Rattle.babel_tlv.specs.Split.{places_at, fault_at}
 
--- what is true of Pad1 and of every other TLV among octets is true of each place, where `At o bs` says where the octets stand
+-- a property of Pad1 and of every other TLV among octets is one of each place; `At o bs` is what is known of the octets at an offset
 each_place : (P : Place → Type 0) (At : ℕ → List ℕ → Type 0)
     → ((o b : ℕ) (bs : List ℕ) → At o (b ∷ bs) → At (o + 1) bs)
     → ((o : ℕ) (bs : List ℕ) → At o (0 ∷ bs) → P record { offset = o; kind = 0; payload = [] })
@@ -68,7 +68,7 @@ left_at zero (zero ∷ bs) = left_at zero bs
 left_at zero (suc k ∷ []) = suc k ∷ []
 left_at zero (suc k ∷ len ∷ bs) = if ltb (length bs) len then suc k ∷ len ∷ bs else left_at len bs
 
--- what the places spell stands before what is left
+-- the octets that the places spell precede those that are left
 pub spelled_front : (skip o : ℕ) (bs : List ℕ) → skip ≤ length bs → drop skip bs ≡ flat_map spelling (places_at skip o bs) ++ left_at skip bs
 spelled_front zero o [] within = refl
 spelled_front (suc skip) o [] within = absurd (omega arith)
@@ -86,7 +86,7 @@ spelled_front zero o (suc k ∷ len ∷ bs) within =
 abbrev pub IsFaultAt : ℕ → ℕ → Option ℕ → Type 0
 IsFaultAt end left f = MatchOption f (left ≡ 0) (λ f. (f + left ≡ end) × (0 < left))
 
--- the fault is where what is left begins
+-- the fault is at the first octet that is left
 pub fault_at-is : (end skip o : ℕ) (bs : List ℕ) → o + length bs ≡ end → IsFaultAt end (length (left_at skip bs)) (fault_at skip o bs)
 fault_at-is end skip o [] ends = refl
 fault_at-is end (suc skip) o (b ∷ bs) ends = fault_at-is end skip (o + 1) bs (omega arith)
@@ -98,7 +98,7 @@ fault_at-is end zero o (suc k ∷ len ∷ bs) ends =
       | inr fits ↦ rw fits (fault_at-is end len (o + 2) bs (omega arith))
     ]
 
--- each place stands where the one before it ends
+-- each place begins at the end of the one before it
 pub places_at-AreInPlace : (skip o at : ℕ) (bs : List ℕ) → skip ≤ length bs → at ≡ o + skip → AreInPlace at (places_at skip o bs)
 places_at-AreInPlace skip o at [] within here = tt
 places_at-AreInPlace (suc skip) o at (b ∷ bs) within here = places_at-AreInPlace skip (o + 1) at bs (omega arith) (omega arith)

@@ -8,7 +8,7 @@ use Rattle.babel_tlv.specs.Spelling.{spelled, spelling, IsTlv, AreInPlace}
 use Rattle.babel_tlv.specs.Split.{places_at, fault_at}
 use Rattle.babel_tlv.proofs.Steps.{places_at-skip, fault_at-skip}
 
--- behind octets without a fault the walk goes on
+-- after octets without a fault the walk goes on
 pub places_at-append : (skip o : ℕ) (xs ys : List ℕ) → skip ≤ length xs → fault_at skip o xs ≡ None → places_at skip o (xs ++ ys) ≡ places_at skip o xs ++ places_at 0 (o + length xs) ys
 places_at-append zero o [] ys within whole = ap (λ n. places_at 0 n ys) (omega arith)
 places_at-append (suc skip) o [] ys within whole = absurd (omega arith)
@@ -59,7 +59,7 @@ fault_at-spelled o (suc k) payload =
     let fits : ltb (length payload) (length payload) ≡ false = le-ltb _ _ (omega arith) in
     rw (fits, fault_at-skip (length payload) (o + 2) payload (omega arith), drop_all (length payload) payload (omega arith)) refl
 
--- the TLVs of a list come first, and then the places of the octets behind them
+-- the TLVs of a list come first, and then the places of the octets after them
 pub places_at-all : (o : ℕ) (ts : List Place) (rest : List ℕ) → AllByRecursion IsTlv ts → AreInPlace o ts → places_at 0 o (flat_map spelling ts ++ rest) ≡ ts ++ places_at 0 (o + length (flat_map spelling ts)) rest
 places_at-all o [] rest tlvs here = ap (λ n. places_at 0 n rest) (omega arith)
 places_at-all o (t ∷ ts) rest tlvs here =

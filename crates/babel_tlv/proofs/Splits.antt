@@ -12,7 +12,7 @@ use Rattle.babel_tlv.proofs.Spelled.{places_at-all, fault_at-all}
 abbrev pub AreOctets : List ℕ → Type 0
 AreOctets bytes = (k : ℕ) → get_or bytes k 0 < 256
 
--- the places spell the front of the octets that ends where those begin that are left
+-- the places spell the octets up to the first that is left
 front : (bytes : List ℕ) (n : ℕ) → AreOctets bytes → n + length (left_at 0 bytes) ≡ length bytes → Spells (places_of bytes) (take n bytes)
 front bytes n octets ends =
     let parts = spelled_front 0 0 bytes (omega arith) in
@@ -47,8 +47,8 @@ longest : (bytes : List ℕ) (f : ℕ) → fault_of bytes ≡ Some f → (ts : L
 longest bytes f fault ts n within spells =
     let all : bytes ≡ flat_map spelling ts ++ drop n bytes = sym (take-append-drop n bytes) ∙ ap (λ xs. xs ++ drop n bytes) spells.whole in
     let size : n ≡ length (flat_map spelling ts) = sym (length-take-le n bytes within) ∙ ap length spells.whole in
-    let behind : fault_at 0 (0 + length (flat_map spelling ts)) (drop n bytes) ≡ Some f = sym (fault_at-all 0 ts (drop n bytes)) ∙ sym (ap fault_of all) ∙ fault in
-    omega (arith, above (0 + length (flat_map spelling ts)) f (drop n bytes) behind)
+    let following : fault_at 0 (0 + length (flat_map spelling ts)) (drop n bytes) ≡ Some f = sym (fault_at-all 0 ts (drop n bytes)) ∙ sym (ap fault_of all) ∙ fault in
+    omega (arith, above (0 + length (flat_map spelling ts)) f (drop n bytes) following)
 
 -- the fault that is found is the one of the definition
 pub fault_of-IsFault : (bytes : List ℕ) (f : ℕ) → AreOctets bytes → fault_of bytes ≡ Some f → IsFault bytes f

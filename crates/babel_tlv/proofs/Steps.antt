@@ -1,9 +1,11 @@
 -- One step over octets: the first TLV, and the octets after it.
-use Rattle.std.proofs.Common.{◌≡◌, ℕ, zero, suc, ◌+◌, ◌-◌, ◌≤◌, ◌<◌, false, ltb, List, [], ◌∷◌, length, take, drop, Some, MatchOption, refl, ap, ◌∙◌, inl, inr, arith, length-drop}
+use Rattle.std.proofs.Common.{◌≡◌, ℕ, zero, suc, ◌+◌, ◌-◌, ◌≤◌, ◌<◌, false, ltb, List, [], ◌∷◌, length, take, drop, Option, Some, None, MatchOption, option_map, refl, ap, sym, ◌∙◌, inl, inr, arith, length-drop}
 use Rattle.std.proofs.lemmas.Bool.{ltb-false, cases_Bool}
+use Rattle.std.specs.Option.{is_some}
+use Rattle.babel_tlv.specs.Place.{fault_if_last}
 use Rattle.babel_tlv.specs.Split.{places_at, fault_at, first_of}
 
--- what skips octets goes on behind them
+-- a walk that skips octets goes on after them
 skipped : {X : Type 0} (walk : ℕ → ℕ → List ℕ → X) → ((k o b : ℕ) (bs : List ℕ) → walk (suc k) o (b ∷ bs) ≡ walk k (o + 1) bs) → (skip o : ℕ) (bs : List ℕ) → skip ≤ length bs → walk skip o bs ≡ walk 0 (o + skip) (drop skip bs)
 skipped walk step zero o bs within = ap (λ n. walk 0 n bs) (omega arith)
 skipped walk step (suc k) o [] within = absurd (omega arith)
@@ -17,7 +19,7 @@ places_at-skip = skipped places_at (λ _ _ _ _. refl)
 pub fault_at-skip : (skip o : ℕ) (bs : List ℕ) → skip ≤ length bs → fault_at skip o bs ≡ fault_at 0 (o + skip) (drop skip bs)
 fault_at-skip = skipped fault_at (λ _ _ _ _. refl)
 
--- what a walk at o over octets finds, by their first TLV: nothing, or that TLV and then what it finds behind it
+-- what a walk at o over octets finds, by their first TLV: nothing, or that TLV and the places after it
 record Finds (o : ℕ) (bs : List ℕ) (kind : ℕ) (payload rest : List ℕ) : Type 0 where
   pub shorter : length rest < length bs
   pub places : places_at 0 o bs ≡ record { offset = o; kind = kind; payload = payload } ∷ places_at 0 (o + (length bs - length rest)) rest
@@ -68,13 +70,28 @@ goes bytes o kind payload end from to first =
       fault = found.fault ∙ ap (λ n. fault_at 0 n (drop end bytes)) there;
     }
 
--- where octets are left and no place is, the fault is there
-pub fault_at-stuck : (o : ℕ) (bs : List ℕ) → 0 < length bs → places_at 0 o bs ≡ [] → fault_at 0 o bs ≡ Some o
-fault_at-stuck o [] some none = absurd (omega arith)
-fault_at-stuck o (zero ∷ bs) some none = cc
-fault_at-stuck o (suc k ∷ []) some none = refl
-fault_at-stuck o (suc k ∷ len ∷ bs) some none =
+-- a walk has come to the fault if octets are left and no TLV is first, and not as long as one is
+pub reached-first : (o : ℕ) (bs : List ℕ) (f : ℕ × List ℕ × List ℕ) → first_of bs ≡ Some f → fault_if_last (places_at 0 o bs) (fault_at 0 o bs) ≡ None
+reached-first o [] f first = cc
+reached-first o (zero ∷ bs) f first = refl
+reached-first o (suc k ∷ []) f first = cc
+reached-first o (suc k ∷ len ∷ bs) f first =
+    elim (cases_Bool (ltb (length bs) len)) [
+      | inl runs_past ↦ let none = rw runs_past at first in cc
+      | inr fits ↦ rw fits refl
+    ]
+
+pub reached-stuck : (o : ℕ) (bs : List ℕ) → 0 < length bs → first_of bs ≡ None → fault_if_last (places_at 0 o bs) (fault_at 0 o bs) ≡ Some o
+reached-stuck o [] some first = absurd (omega arith)
+reached-stuck o (zero ∷ bs) some first = cc
+reached-stuck o (suc k ∷ []) some first = refl
+reached-stuck o (suc k ∷ len ∷ bs) some first =
     elim (cases_Bool (ltb (length bs) len)) [
       | inl runs_past ↦ rw runs_past refl
-      | inr fits ↦ let place = rw fits at none in cc
+      | inr fits ↦ let place = rw fits at first in cc
     ]
+
+-- no image, so no element
+pub mapped-None : {X Y : Type 0} (f : X → Y) (x : Option X) (y : Option Y) → option_map f x ≡ y → is_some x ≡ false → y ≡ None
+mapped-None f None y image none = sym image
+mapped-None f (Some x) y image none = cc

@@ -1,3 +1,4 @@
+pub mod Layout
 pub mod Place
 pub mod Spelling
 pub mod Split

@@ -6,8 +6,7 @@ ghost use Rattle.babel_tlv.specs.Place.{Place};
 ghost use Rattle.babel_tlv.specs.Spelling.{Spells, IsFault, IsSliceOf};
 ghost use Rattle.babel_tlv.specs.Split.{places_of, fault_of};
 
-use crate::tlv::{Tlv, TlvFault};
-use crate::walking::{Walker, walk};
+use crate::{Tlv, TlvFault, Walker, walk};
 use std::marker::Model;
 
 /// An iterator over the TLVs of octets that a list of TLVs spells, in their order.
@@ -46,11 +45,11 @@ impl<'a> Iterator for Tlvs<'a> {
 /// The TLVs that spell the octets, the body of a packet or the sub-TLVs of a TLV, each payload a slice of
 /// them; or the offset of the first TLV that runs past their end.
 pub fn split(bytes: &[u8]) -> Result<Tlvs<'_>, TlvFault>
-    // What is answered spells the octets.
+    // The list that is returned spells the octets.
     ensures found { IfOk result (λ tlvs. Spells tlvs bytes.now) }
     ensures slices { IfOk result (λ tlvs. AllByRecursion (IsSliceOf bytes.now) tlvs) }
     ensures few { IfOk result (λ tlvs. length tlvs ≤ length bytes.now) }
-    // What spells the octets is answered.
+    // A list that spells the octets is returned.
     ensures only { (ts : List Place) → Spells ts bytes.now → IsOkAnd result (λ tlvs. tlvs ≡ ts) }
     ensures fault { IfErr result (λ e. IsFault bytes.now e.offset) }
     // Both outcomes, as they are computed.
@@ -64,7 +63,7 @@ pub fn split(bytes: &[u8]) -> Result<Tlvs<'_>, TlvFault>
     }
 }
 
-// What is wrong with the octets, if anything is.
+// The fault of the octets, if they have one.
 fn first_fault(bytes: &[u8]) -> Option<TlvFault>
     ensures { option_map (λ fault. fault.offset) result ≡ fault_of bytes.now }
 {

@@ -1,15 +1,16 @@
-//! One pass over TLVs, which meets the fault only where it comes to it.
+//! One pass over TLVs, up to the first fault.
 
-ghost use Rattle.std.specs.Prelude.{◌≡◌, ◌<◌, ◌≤◌, [], drop, length, slice_range, option_map, IfSome};
+ghost use Rattle.std.specs.Prelude.{◌≡◌, ◌<◌, ◌≤◌, drop, length, slice_range, option_map, IfSome};
+ghost use Rattle.babel_tlv.specs.Place.{fault_reached};
 ghost use Rattle.babel_tlv.specs.Split.{places_of, fault_of, first_of};
 
-use crate::tlv::{HEADER_LEN, PAD1, Tlv, TlvFault};
+use crate::{PAD1, TLV_HEADER_LEN, Tlv, TlvFault};
 use std::marker::Model;
 
 /// An iterator over TLVs that stops at the end of the octets, or at the first TLV that runs past it.
-/// [`Walker::fault`] says which it was.
+/// [`Walker::fault`] returns that TLV.
 ///
-/// A clause sees the places that lie ahead, the fault behind them, and the end of the octets.
+/// A clause sees the places that are ahead, the fault after them, and the end of the octets.
 #[derive(Debug, Drop)]
 pub struct Walker<'a> {
     bytes: &'a [u8],
@@ -56,14 +57,16 @@ impl<'a> Iterator for Walker<'a> {
 }
 
 impl Walker<'_> {
-    /// The TLV that runs past the end, if one does: asked once the walk has stopped.
-    #[inline]
+    /// The fault that ended the walk: the TLV that runs past the end of the octets. `None` if the walk
+    /// ended without a fault, or a TLV is still ahead.
     pub fn fault(&self) -> Option<TlvFault>
-        requires { self.now.places ≡ [] }
-        ensures value { option_map (λ fault. fault.offset) result ≡ self.now.fault }
+        ensures value { option_map (λ fault. fault.offset) result ≡ fault_reached self.now }
         ensures within { IfSome result (λ fault. fault.offset < self.now.end) }
     {
         if self.offset == self.bytes.len() {
+            return None;
+        }
+        if first_at(self.bytes, self.offset).is_some() {
             return None;
         }
         Some(TlvFault {
@@ -83,7 +86,7 @@ pub fn walk(bytes: &[u8]) -> Walker<'_>
     Walker { bytes, offset: 0 }
 }
 
-// The type of the TLV at this offset, and where its payload begins and ends, where that TLV is whole.
+// The type of the TLV at this offset, and where its payload begins and ends, if that TLV is whole.
 #[inline]
 fn first_at(bytes: &[u8], offset: usize) -> Option<(u8, usize, usize)>
     requires { offset ≤ length bytes.now }
@@ -99,13 +102,13 @@ fn first_at(bytes: &[u8], offset: usize) -> Option<(u8, usize, usize)>
     if kind == PAD1 {
         return Some((kind, offset + 1, offset + 1));
     }
-    if left < HEADER_LEN {
+    if left < TLV_HEADER_LEN {
         return None;
     }
     let length = usize::from(bytes[offset + 1]);
-    if left - HEADER_LEN < length {
+    if left - TLV_HEADER_LEN < length {
         return None;
     }
-    let start = offset + HEADER_LEN;
+    let start = offset + TLV_HEADER_LEN;
     Some((kind, start, start + length))
 }

@@ -1,8 +1,8 @@
 ghost use Rattle.std.specs.Prelude.{◌≡◌, map, Some, None, IfOk, MatchResult};
 ghost use Rattle.babel_tlv.specs.Split.{places_of, fault_of};
 
-use super::*;
 use arrayvec::ArrayVec;
+use babel_tlv::*;
 use std::alloc::{AllocError, Global};
 use std::test::Fail;
 
@@ -60,10 +60,10 @@ fn as_many_pads_as_fit_a_body(rt: HostRuntime) -> Result<(), Fail> {
 #[test]
 fn faults(rt: HostRuntime) -> Result<(), Fail> {
     let rows: [(&[u8], usize); 5] = [
-        // A type without a length octet, alone and behind Pad1.
+        // A type without a length octet, alone and after Pad1.
         (&[4], 0),
         (&[0, 4], 1),
-        // A TLV that runs past the end, by one octet, behind a PadN, and behind a whole Hello.
+        // A TLV that runs past the end, by one octet, after a PadN, and after a whole Hello.
         (&[4, 6, 0, 0, 0, 1, 1], 0),
         (&[1, 0, 4, 3, 1, 2], 2),
         (&[4, 6, 0, 0, 0, 1, 1, 0x90, 255, 254], 8),

@@ -1,0 +1,5 @@
+//! Tests of TLVs.
+#![tactic(auto)]
+
+#[cfg(test)]
+mod tlv_tests;
