@@ -1,4 +1,4 @@
--- Where only zeros stand behind a prefix, clearing the bits past its length changes one octet at most.
+-- If only zeros follow a prefix, clearing the bits past its length changes one octet at most.
 use Rattle.std.proofs.Common.{◌≡◌, ℕ, zero, suc, ◌+◌, ◌-◌, ◌*◌, ◌%◌, ◌^◌, ◌<◌, ◌≤◌, List, [], ◌∷◌, get_or, refl, ap, arith, ◌∙◌}
 use Rattle.std.proofs.Math.ListN.{set}
 use Rattle.std.proofs.Math.Nat.{mod-one}

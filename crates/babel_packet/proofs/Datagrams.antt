@@ -1,4 +1,4 @@
--- A datagram means what its body says.
+-- A datagram means the messages of its body.
 use Rattle.std.proofs.Common.{◌≡◌, ℕ, ◌+◌, false, List, length, None, Ok, nat_lt, refl, arith}
 use Rattle.std.proofs.lemmas.Bool.{le-ltb}
 use Rattle.std.proofs.lemmas.List.{take_all}
@@ -6,7 +6,7 @@ use Rattle.babel_value.specs.declared.addresses.Addr.{Addr}
 use Rattle.babel_packet.specs.declared.messages.Message.{Message}
 use Rattle.babel_packet.specs.Numbers.{word}
 use Rattle.babel_packet.specs.Meaning.{meaning, header_refusal, body_of}
-use Rattle.babel_packet.specs.Says.{Says, Means, told, datagram}
+use Rattle.babel_packet.specs.BodyMeanings.{BodyMeans, Means, placed_of, datagram}
 use Rattle.babel_packet.proofs.Layouts.{two_again}
 
 length_again : (body : List ℕ) → word (datagram body) 2 ≡ length body
@@ -22,10 +22,10 @@ accepted body =
     let whole : nat_lt (length (datagram body)) (4 + length body) ≡ false = le-ltb _ _ (omega arith) in
     rw (long, length_again body, whole) refl
 
-read_again : (source : Addr) (body : List ℕ) (said : List Message) → Says source body said → meaning (datagram body) source ≡ Ok (told source body)
+read_again : (source : Addr) (body : List ℕ) (decoded : List Message) → BodyMeans source body decoded → meaning (datagram body) source ≡ Ok (placed_of source body)
 unfolding meaning
-read_again source body said says = rw (accepted body, body_again body, says.whole) refl
+read_again source body decoded meant = rw (accepted body, body_again body, meant.whole) refl
 
-pub datagram_means : (source : Addr) (body : List ℕ) (said : List Message) → Says source body said → Means (datagram body) source said
-datagram_means source body said says =
-    record { placed = told source body; read = read_again source body said says; said = says.said; heeded = says.heeded }
+pub datagram_means : (source : Addr) (body : List ℕ) (decoded : List Message) → BodyMeans source body decoded → Means (datagram body) source decoded
+datagram_means source body decoded meant =
+    record { placed = placed_of source body; read = read_again source body decoded meant; decoded = meant.decoded; heeded = meant.heeded }

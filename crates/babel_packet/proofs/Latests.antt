@@ -4,7 +4,7 @@ use Rattle.std.specs.Option.{option_or}
 use Rattle.babel_tlv.specs.Place.{Place}
 use Rattle.babel_packet.specs.Latest.{NoneSets, IsLatest, FindsLatest}
 
--- the search's outcome behind these places
+-- the search's outcome after these places
 abbrev Outcome : {X : Type 0} → (List Place → Place → Option X) → Option X → (List Place → Option X) → List Place → Type 0
 Outcome {X} sets first found places =
     ((x : X) × IsLatest sets places x × (found places ≡ Some x)) ⊎ (NoneSets sets places [] × (found places ≡ first))
@@ -16,9 +16,9 @@ found_here sets first found t older x set same =
     inl (x, record { newer = []; at = t; older = older; parts = refl; set = set; later = tt }, same)
 
 -- A place that sets nothing leaves the outcome.
-found_behind : {X : Type 0} (sets : List Place → Place → Option X) (first : Option X) (found : List Place → Option X) (t : Place) (older : List Place) →
+found_following : {X : Type 0} (sets : List Place → Place → Option X) (first : Option X) (found : List Place → Option X) (t : Place) (older : List Place) →
     sets older t ≡ None → found (t ∷ older) ≡ found older → Outcome sets first found older → Outcome sets first found (t ∷ older)
-found_behind sets first found t older nothing same (inl w) =
+found_following sets first found t older nothing same (inl w) =
     inl (
       w.0,
       record {
@@ -31,13 +31,13 @@ found_behind sets first found t older nothing same (inl w) =
       },
       same ∙ w.2,
     )
-found_behind sets first found t older nothing same (inr w) = inr ((rw (append-nil older) nothing, w.0), same ∙ w.1)
+found_following sets first found t older nothing same (inr w) = inr ((rw (append-nil older) nothing, w.0), same ∙ w.1)
 
 by_setting : {X : Type 0} (sets : List Place → Place → Option X) (first : Option X) (found : List Place → Option X) (t : Place) (older : List Place) →
     (o : Option X) → sets older t ≡ o → found (t ∷ older) ≡ option_or o (found older) → Outcome sets first found older →
     Outcome sets first found (t ∷ older)
-by_setting sets first found t older (Some x) set same behind = found_here sets first found t older x set same
-by_setting sets first found t older None set same behind = found_behind sets first found t older set same behind
+by_setting sets first found t older (Some x) set same following = found_here sets first found t older x set same
+by_setting sets first found t older None set same following = found_following sets first found t older set same following
 
 pub finds_latest : {X : Type 0} (sets : List Place → Place → Option X) (first : Option X) (found : List Place → Option X) → found [] ≡ first →
     ((t : Place) (older : List Place) → found (t ∷ older) ≡ option_or (sets older t) (found older)) → FindsLatest sets first found

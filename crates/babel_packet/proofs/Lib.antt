@@ -5,3 +5,10 @@ pub mod Layouts
 pub mod Growing
 pub mod Written
 pub mod Datagrams
+pub mod Compressing
+pub mod CompressedTlvs
+pub mod CompressedMessages
+pub mod CompressedSizes
+pub mod Octets
+pub mod Sendable
+pub mod FirstReasons

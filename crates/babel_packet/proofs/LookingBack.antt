@@ -1,4 +1,4 @@
--- Keeping running defaults gives what looking back gives.
+-- Keeping the parser state gives what looking back gives.
 use Rattle.std.proofs.Common.{◌≡◌, ◌+◌, List, [], ◌∷◌, refl, ap}
 use Rattle.babel_value.specs.declared.addresses.Addr.{Addr}
 use Rattle.babel_tlv.specs.Place.{Place}

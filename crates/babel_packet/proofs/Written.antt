@@ -15,7 +15,8 @@ use Rattle.babel_packet.specs.Tails.{tail_reason}
 use Rattle.babel_packet.specs.Acks.{ack_request, ack}
 use Rattle.babel_packet.specs.Hellos.{hello}
 use Rattle.babel_packet.specs.Contents.{means}
-use Rattle.babel_packet.specs.LookBack.{Standing, before, flagged, update_address}
+use Rattle.babel_packet.specs.declared.parser_state.ParserState.{ParserState}
+use Rattle.babel_packet.specs.LookBack.{before, flagged, update_address}
 use Rattle.babel_packet.specs.RouterIds.{router_id, named_router}
 use Rattle.babel_packet.specs.Addresses.{link_local_at}
 use Rattle.babel_packet.specs.Ihus.{ihu, ihu_of}
@@ -26,44 +27,44 @@ use Rattle.babel_packet.specs.Requests.{route_request, route_request_in, seqno_r
 use Rattle.babel_packet.specs.Updates.{update, update_in, update_of, update_router}
 use Rattle.babel_packet.specs.Meaning.{content}
 use Rattle.babel_packet.specs.Payloads.{two, octets, is_link_local, router_id_payload, next_hop_payload, prefix_encoding, prefix_written, update_payload, kind_of, payload_of}
-use Rattle.babel_packet.specs.Sayable.{are_kin, is_sayable, AreOctets, IsAddr, IsReceiver, IsPrefix, IsRouterId, IsMessage}
-use Rattle.babel_packet.specs.Says.{Provides, hop_for}
-use Rattle.babel_packet.proofs.Layouts.{behind, two_again, prefix_again, whole_again, none_behind}
+use Rattle.babel_packet.specs.Encodable.{are_kin, is_encodable, AreOctets, IsAddr, IsReceiver, IsPrefix, IsRouterId, IsMessage}
+use Rattle.babel_packet.specs.BodyMeanings.{Provides, hop_for}
+use Rattle.babel_packet.proofs.Layouts.{following, two_again, prefix_again, whole_again, none_following}
 
-pub ack_request_again : (d : Standing) (opaque interval : ℕ) →
+pub ack_request_again : (d : ParserState) (opaque interval : ℕ) →
     content d 2 (payload_of (messages.AckRequest opaque interval)) ≡ means (messages.AckRequest opaque interval)
 unfolding content ack_request word tail_reason
 ack_request_again d opaque interval = rw (two_again opaque, two_again interval) refl
 
-pub ack_again : (d : Standing) (opaque : ℕ) → content d 3 (payload_of (messages.Ack opaque)) ≡ means (messages.Ack opaque)
+pub ack_again : (d : ParserState) (opaque : ℕ) → content d 3 (payload_of (messages.Ack opaque)) ≡ means (messages.Ack opaque)
 unfolding content ack word tail_reason
 ack_again d opaque = rw (two_again opaque) refl
 
-pub hello_again : (d : Standing) (unicast : Bool) (seqno interval : ℕ) →
+pub hello_again : (d : ParserState) (unicast : Bool) (seqno interval : ℕ) →
     content d 4 (payload_of (messages.Hello unicast seqno interval)) ≡ means (messages.Hello unicast seqno interval)
 unfolding content hello word has_flag tail_reason
 hello_again d true seqno interval = rw (two_again seqno, two_again interval) refl
 hello_again d false seqno interval = rw (two_again seqno, two_again interval) refl
 
-pub retract_all_again : (d : Standing) (interval : ℕ) →
+pub retract_all_again : (d : ParserState) (interval : ℕ) →
     content d 8 (payload_of (messages.RetractAll interval)) ≡ means (messages.RetractAll interval)
 unfolding content update word tail_reason
 retract_all_again d interval = rw (two_again interval) refl
 
-pub dump_request_again : (d : Standing) → content d 9 (payload_of messages.DumpRequest) ≡ means messages.DumpRequest
+pub dump_request_again : (d : ParserState) → content d 9 (payload_of messages.DumpRequest) ≡ means messages.DumpRequest
 unfolding content route_request tail_reason
 dump_request_again d = refl
 
-both : (a b : Bool) → (a && b) ≡ true → (a ≡ true) × (b ≡ true)
+pub both : (a b : Bool) → (a && b) ≡ true → (a ≡ true) × (b ≡ true)
 both true true h = (refl, refl)
 both true false h = cc
 both false b h = cc
 
-not_zero : (n : ℕ) → nat_lt 0 n ≡ true → nat_eq n 0 ≡ false
+pub not_zero : (n : ℕ) → nat_lt 0 n ≡ true → nat_eq n 0 ≡ false
 not_zero n some = ne_eqb n 0 (λ e. absurd (omega (arith, ltb-true 0 n some, e)))
 
--- the next hop that stands for the family of a prefix, as an address
-abbrev hop_of_family : Addr → Standing → Option Addr
+-- the next hop of the parser state for the family of a prefix, as an address
+abbrev hop_of_family : Addr → ParserState → Option Addr
 hop_of_family (V4 o) d = option_map V4 d.hop4
 hop_of_family (V6 o) d = option_map V6 d.hop6
 
@@ -82,17 +83,17 @@ is_clear6 : (bits : ℕ) (o : List ℕ) → IsPrefix (record { addr = V6 o; leng
 is_clear6 bits o is =
     let clear = is.clear in record { long = is.addr.0; small = is.addr.1; short = is.short; clear = cc }
 
--- a prefix behind what stands in front: it is whole, it is read again, and nothing is left over
+-- a prefix after the fields in front of it: it is whole, it is read again, and nothing is left over
 record Reads (size bits place : ℕ) (front o : List ℕ) : Type 0 where
-  whole : is_whole size 0 bits place (behind front bits o) ≡ true
-  again : prefix_octets size (replicate size 0) 0 bits place (behind front bits o) ≡ o
-  none : drop (place + octets_of bits) (behind front bits o) ≡ []
+  whole : is_whole size 0 bits place (following front bits o) ≡ true
+  again : prefix_octets size (replicate size 0) 0 bits place (following front bits o) ≡ o
+  none : drop (place + octets_of bits) (following front bits o) ≡ []
 
 reads : (size bits place : ℕ) (front o : List ℕ) → length front ≡ place → IsClear size bits o → Reads size bits place front o
 reads size bits place front o here is = record {
   whole = whole_again size bits place front o here is.long is.short;
   again = prefix_again size bits place front o here is.long is.small is.clear;
-  none = none_behind size bits place front o here is.long is.short (place + octets_of bits) refl;
+  none = none_following size bits place front o here is.long is.short (place + octets_of bits) refl;
 }
 
 route_request_in_again : (size : ℕ) (family : List ℕ → Addr) (ae bits : ℕ) (o : List ℕ) → IsClear size bits o →
@@ -101,7 +102,7 @@ unfolding tail_reason
 route_request_in_again size family ae bits o is =
     let r = reads size bits 2 (ae ∷ bits ∷ []) o refl is in rw (r.whole, r.again, r.none) refl
 
-route_request_of : (d : Standing) (addr : Addr) (bits : ℕ) → IsPrefix (record { addr = addr; length = bits }) →
+route_request_of : (d : ParserState) (addr : Addr) (bits : ℕ) → IsPrefix (record { addr = addr; length = bits }) →
     content d 9 (payload_of (messages.RouteRequest (record { addr = addr; length = bits }))) ≡
     means (messages.RouteRequest (record { addr = addr; length = bits }))
 unfolding content route_request
@@ -112,7 +113,7 @@ route_request_of d (V6 o) bits is =
     let long : nat_lt (length (2 ∷ bits ∷ take (octets_of bits) o)) 2 ≡ false = le-ltb _ _ (omega arith) in
     rw long (route_request_in_again 16 V6 2 bits o (is_clear6 bits o is))
 
-pub route_request_again : (d : Standing) (prefix : PrefixValue) → IsPrefix prefix →
+pub route_request_again : (d : ParserState) (prefix : PrefixValue) → IsPrefix prefix →
     content d 9 (payload_of (messages.RouteRequest prefix)) ≡ means (messages.RouteRequest prefix)
 route_request_again d prefix is = route_request_of d prefix.addr prefix.length is
 
@@ -126,7 +127,7 @@ seqno_request_in_again size family ae bits seqno hops router o is named some =
     let id = take_at router (take (octets_of bits) o) 8 named.size in
     rw (r.whole, r.again, r.none, id, named.named, not_zero hops some, two_again seqno) refl
 
-seqno_request_of : (d : Standing) (addr : Addr) (bits seqno hops : ℕ) (router : List ℕ) → IsPrefix (record { addr = addr; length = bits }) →
+seqno_request_of : (d : ParserState) (addr : Addr) (bits seqno hops : ℕ) (router : List ℕ) → IsPrefix (record { addr = addr; length = bits }) →
     IsRouterId router → nat_lt 0 hops ≡ true →
     content d 10 (payload_of (messages.SeqnoRequest (record { addr = addr; length = bits }) router seqno hops)) ≡
     means (messages.SeqnoRequest (record { addr = addr; length = bits }) router seqno hops)
@@ -140,7 +141,7 @@ seqno_request_of d (V6 o) bits seqno hops router is named some =
     let long : nat_lt (length p) 14 ≡ false = le-ltb _ _ (omega (arith, named.size, length-append router (take (octets_of bits) o))) in
     rw long (seqno_request_in_again 16 V6 2 bits seqno hops router o (is_clear6 bits o is) named some)
 
-pub seqno_request_again : (d : Standing) (prefix : PrefixValue) (router : List ℕ) (seqno hops : ℕ) → IsPrefix prefix → IsRouterId router →
+pub seqno_request_again : (d : ParserState) (prefix : PrefixValue) (router : List ℕ) (seqno hops : ℕ) → IsPrefix prefix → IsRouterId router →
     nat_lt 0 hops ≡ true → content d 10 (payload_of (messages.SeqnoRequest prefix router seqno hops)) ≡ means (messages.SeqnoRequest prefix router seqno hops)
 seqno_request_again d prefix router seqno hops is named some = seqno_request_of d prefix.addr prefix.length seqno hops router is named some
 
@@ -149,10 +150,10 @@ unflagged : (flag : ℕ) (p : List ℕ) (octets : Option (List ℕ)) → has_fla
 unflagged flag p None bare = refl
 unflagged flag p (Some octets) bare = rw bare refl
 
-router_stands : (d : Standing) (ae bits interval seqno metric : ℕ) (written : List ℕ) →
+router_is_set : (d : ParserState) (ae bits interval seqno metric : ℕ) (written : List ℕ) →
     update_router d (update_payload ae bits interval seqno metric written) ≡ d.router
 unfolding named_router has_flag
-router_stands d ae bits interval seqno metric written =
+router_is_set d ae bits interval seqno metric written =
     let p = update_payload ae bits interval seqno metric written in
     let four = unflagged 0x40 p (update_address 1 4 d.default4 8 p) refl in let six = unflagged 0x40 p (update_address 2 16 d.default6 8 p) refl in
     rw (four, six) refl
@@ -167,34 +168,34 @@ update_in_again size family default router hop ae bits interval seqno metric o i
     let all : octets_of bits - 0 ≡ octets_of bits = omega arith in
     rw (r.whole, r.again, all, r.none) refl
 
--- the Update TLV of a prefix, given what stands: what it says follows from its fields
-update_of_addr : (d : Standing) (addr : Addr) (bits interval seqno metric : ℕ) → IsPrefix (record { addr = addr; length = bits }) →
+-- the Update TLV of a prefix: its meaning follows from the parser state and its fields
+update_of_addr : (d : ParserState) (addr : Addr) (bits interval seqno metric : ℕ) → IsPrefix (record { addr = addr; length = bits }) →
     (let p = update_payload (prefix_encoding addr) bits interval seqno metric (prefix_written (record { addr = addr; length = bits })) in
     content d 8 p ≡ update_of (record { addr = addr; length = bits }) d.router (hop_of_family addr d) p)
 unfolding content update
 update_of_addr d (V4 o) bits interval seqno metric is =
     let p = update_payload 1 bits interval seqno metric (take (octets_of bits) o) in
     let long : nat_lt (length p) 10 ≡ false = le-ltb _ _ (omega arith) in
-    rw (long, router_stands d 1 bits interval seqno metric (take (octets_of bits) o))
+    rw (long, router_is_set d 1 bits interval seqno metric (take (octets_of bits) o))
     (update_in_again 4 V4 d.default4 d.router d.hop4 1 bits interval seqno metric o (is_clear4 bits o is))
 update_of_addr d (V6 o) bits interval seqno metric is =
     let p = update_payload 2 bits interval seqno metric (take (octets_of bits) o) in
     let long : nat_lt (length p) 10 ≡ false = le-ltb _ _ (omega arith) in
-    rw (long, router_stands d 2 bits interval seqno metric (take (octets_of bits) o))
+    rw (long, router_is_set d 2 bits interval seqno metric (take (octets_of bits) o))
     (update_in_again 16 V6 d.default6 d.router d.hop6 2 bits interval seqno metric o (is_clear6 bits o is))
 
-pub retraction_again : (d : Standing) (prefix : PrefixValue) (interval : ℕ) → IsPrefix prefix →
+pub retraction_again : (d : ParserState) (prefix : PrefixValue) (interval : ℕ) → IsPrefix prefix →
     content d 8 (payload_of (messages.Retraction prefix interval)) ≡ means (messages.Retraction prefix interval)
 unfolding update_of word
 retraction_again d prefix interval is =
     update_of_addr d prefix.addr prefix.length interval 0 65535 is ∙ rw (two_again interval) refl
 
--- the next hop of the family of an address, where one stands
-hop_stands : (addr hop : Addr) (d : Standing) → are_kin hop addr ≡ true → hop_for hop d ≡ Some (octets hop) → hop_of_family addr d ≡ Some hop
-hop_stands (V4 o) (V4 hop) d kin stands = rw stands refl
-hop_stands (V4 o) (V6 hop) d kin stands = cc
-hop_stands (V6 o) (V4 hop) d kin stands = cc
-hop_stands (V6 o) (V6 hop) d kin stands = rw stands refl
+-- the next hop of the family of an address, if the parser state has one
+hop_is_set : (addr hop : Addr) (d : ParserState) → are_kin hop addr ≡ true → hop_for hop d ≡ Some (octets hop) → hop_of_family addr d ≡ Some hop
+hop_is_set (V4 o) (V4 hop) d kin state_after = rw state_after refl
+hop_is_set (V4 o) (V6 hop) d kin state_after = cc
+hop_is_set (V6 o) (V4 hop) d kin state_after = cc
+hop_is_set (V6 o) (V6 hop) d kin state_after = rw state_after refl
 
 finite_again : (prefix : PrefixValue) (router : List ℕ) (hop : Addr) (ae bits interval seqno metric : ℕ) (written : List ℕ) → IsRouterId router →
     nat_eq metric 65535 ≡ false → nat_lt 0 interval ≡ true →
@@ -204,35 +205,35 @@ unfolding update_of word
 finite_again prefix router hop ae bits interval seqno metric written named finite some =
     rw (two_again metric, finite, named.named, two_again interval, not_zero interval some, two_again seqno, two_again metric) refl
 
-pub update_again : (d : Standing) (prefix : PrefixValue) (router : List ℕ) (hop : Addr) (seqno metric interval : ℕ) → IsPrefix prefix → IsRouterId router →
-    is_sayable (messages.Update prefix router hop seqno metric interval) ≡ true → Provides d (messages.Update prefix router hop seqno metric interval) →
+pub update_again : (d : ParserState) (prefix : PrefixValue) (router : List ℕ) (hop : Addr) (seqno metric interval : ℕ) → IsPrefix prefix → IsRouterId router →
+    is_encodable (messages.Update prefix router hop seqno metric interval) ≡ true → Provides d (messages.Update prefix router hop seqno metric interval) →
     content d 8 (payload_of (messages.Update prefix router hop seqno metric interval)) ≡ means (messages.Update prefix router hop seqno metric interval)
-update_again d prefix router hop seqno metric interval is named sayable provides =
+update_again d prefix router hop seqno metric interval is named encodable provides =
     let p = payload_of (messages.Update prefix router hop seqno metric interval) in
-    let parts = both (nat_lt metric 65535) (nat_lt 0 interval && are_kin hop prefix.addr) sayable in
+    let parts = both (nat_lt metric 65535) (nat_lt 0 interval && are_kin hop prefix.addr) encodable in
     let more = both (nat_lt 0 interval) (are_kin hop prefix.addr) parts.1 in
     let finite : nat_eq metric 65535 ≡ false = ne_eqb metric 65535 (λ e. absurd (omega (arith, ltb-true metric 65535 parts.0, e))) in
     update_of_addr d prefix.addr prefix.length interval seqno metric is ∙
     ap (λ r. update_of prefix r (hop_of_family prefix.addr d) p) provides.0 ∙
-    ap (λ h. update_of prefix (Some router) h p) (hop_stands prefix.addr hop d more.1 provides.1) ∙
+    ap (λ h. update_of prefix (Some router) h p) (hop_is_set prefix.addr hop d more.1 provides.1) ∙
     finite_again prefix router hop (prefix_encoding prefix.addr) prefix.length interval seqno metric (prefix_written prefix) named finite more.0
 
--- A Router-Id is state, and lets itself stand.
-pub router_id_again : (d : Standing) (router : List ℕ) → IsRouterId router → content d 6 (router_id_payload router) ≡ contents.State
+-- A Router-Id is state, and sets the router-id.
+pub router_id_again : (d : ParserState) (router : List ℕ) → IsRouterId router → content d 6 (router_id_payload router) ≡ contents.State
 unfolding content router_id tail_reason
 router_id_again d router named =
     let long : nat_lt (length (0 ∷ 0 ∷ router)) 10 ≡ false = le-ltb _ _ (omega (arith, named.size)) in
     rw (long, drop_all 8 router (omega (arith, named.size))) refl
 
-pub router_id_stands : (source : Addr) (offset : ℕ) (router : List ℕ) (earlier : List Place) → IsRouterId router →
+pub router_id_is_set : (source : Addr) (offset : ℕ) (router : List ℕ) (earlier : List Place) → IsRouterId router →
     (before source (record { offset = offset; kind = 6; payload = router_id_payload router } ∷ earlier)).router ≡ Some router
 unfolding named_router
-router_id_stands source offset router earlier named =
+router_id_is_set source offset router earlier named =
     let long : nat_le 10 (length (0 ∷ 0 ∷ router)) ≡ true = le-leb _ _ (omega (arith, named.size)) in
     rw (long, take_all 8 router (omega (arith, named.size))) refl
 
 -- An address that is written is read again.
-link_local_again : (o : List ℕ) → length o ≡ 16 → is_link_local o ≡ true → link_local_at (drop 8 o) 0 ≡ o
+pub link_local_again : (o : List ℕ) → length o ≡ 16 → is_link_local o ≡ true → link_local_at (drop 8 o) 0 ≡ o
 link_local_again o long local =
     let start : take 8 o ≡ 0xfe ∷ 0x80 ∷ 0 ∷ 0 ∷ 0 ∷ 0 ∷ 0 ∷ 0 ∷ [] = (bytes_eq-Decides (take 8 o) (0xfe ∷ 0x80 ∷ 0 ∷ 0 ∷ 0 ∷ 0 ∷ 0 ∷ 0 ∷ [])).0 local in
     rw (take_all 8 (drop 8 o) (omega (arith, length-drop 8 o))) (ap (λ xs. xs ++ drop 8 o) (sym start) ∙ take-append-drop 8 o)
@@ -246,7 +247,7 @@ ihu_of_again size to ae rxcost interval e long some =
     let fits : nat_lt (length p) size ≡ false = le-ltb _ _ (omega arith) in
     rw (fits, drop_all size p (omega arith), two_again rxcost, two_again interval, not_zero rxcost parts.0, not_zero interval parts.1) refl
 
-ihu_in : (d : Standing) (ae rxcost interval : ℕ) (e : List ℕ) →
+ihu_in : (d : ParserState) (ae rxcost interval : ℕ) (e : List ℕ) →
     content d 5 (ae ∷ 0 ∷ (two rxcost ++ (two interval ++ e))) ≡ ihu (ae ∷ 0 ∷ (two rxcost ++ (two interval ++ e)))
 unfolding content
 ihu_in d ae rxcost interval e = refl
@@ -264,7 +265,7 @@ ihu6_again o rxcost interval true local long some =
 ihu6_again o rxcost interval false other long some =
     rw (other, ihu_long 2 rxcost interval o, take_all 16 o (omega arith)) (ihu_of_again 22 (Some (V6 o)) 2 rxcost interval o (omega arith) some)
 
-pub ihu_again : (d : Standing) (to : Option Addr) (rxcost interval : ℕ) → IsReceiver to → (nat_lt 0 rxcost && nat_lt 0 interval) ≡ true →
+pub ihu_again : (d : ParserState) (to : Option Addr) (rxcost interval : ℕ) → IsReceiver to → (nat_lt 0 rxcost && nat_lt 0 interval) ≡ true →
     content d 5 (payload_of (messages.Ihu to rxcost interval)) ≡ means (messages.Ihu to rxcost interval)
 unfolding content ihu
 ihu_again d None rxcost interval is some = ihu_of_again 6 None 0 rxcost interval [] refl some
@@ -286,8 +287,8 @@ unfolding next_hop
 next_hop6_again o true local long = rw (local, next_hop_long 3 (drop 8 o)) (next_hop_of_again 10 3 (drop 8 o) (omega (arith, length-drop 8 o)))
 next_hop6_again o false other long = rw (other, next_hop_long 2 o) (next_hop_of_again 18 2 o (omega arith))
 
--- A Next Hop is state, and lets itself stand for its family, and the router-id that stood.
-pub next_hop_again : (d : Standing) (hop : Addr) → IsAddr hop → content d 7 (next_hop_payload hop) ≡ contents.State
+-- A Next Hop is state, sets the next hop of its family, and keeps the router-id.
+pub next_hop_again : (d : ParserState) (hop : Addr) → IsAddr hop → content d 7 (next_hop_payload hop) ≡ contents.State
 unfolding content next_hop
 next_hop_again d (V4 o) is = rw (next_hop_long 1 o) (next_hop_of_again 6 1 o (omega (arith, is.0)))
 next_hop_again d (V6 o) is = next_hop6_again o (is_link_local o) refl is.0
@@ -300,12 +301,12 @@ named6_again o true local long =
 named6_again o false other long =
     let fits : nat_le 18 (length (2 ∷ 0 ∷ o)) ≡ true = le-leb _ _ (omega arith) in rw (other, fits, take_all 16 o (omega arith)) refl
 
-pub next_hop_stands : (source : Addr) (offset : ℕ) (hop : Addr) (earlier : List Place) → IsAddr hop →
+pub next_hop_is_set : (source : Addr) (offset : ℕ) (hop : Addr) (earlier : List Place) → IsAddr hop →
     hop_for hop (before source (record { offset = offset; kind = 7; payload = next_hop_payload hop } ∷ earlier)) ≡ Some (octets hop)
 unfolding named_hop4
-next_hop_stands source offset (V4 o) earlier is =
+next_hop_is_set source offset (V4 o) earlier is =
     let fits : nat_le 6 (length (1 ∷ 0 ∷ o)) ≡ true = le-leb _ _ (omega (arith, is.0)) in rw (fits, take_all 4 o (omega (arith, is.0))) refl
-next_hop_stands source offset (V6 o) earlier is = rw (named6_again o (is_link_local o) refl is.0) refl
+next_hop_is_set source offset (V6 o) earlier is = rw (named6_again o (is_link_local o) refl is.0) refl
 
 pub next_hop_keeps : (source : Addr) (offset : ℕ) (payload : List ℕ) (earlier : List Place) →
     (before source (record { offset = offset; kind = 7; payload = payload } ∷ earlier)).router ≡ (before source earlier).router
@@ -313,19 +314,19 @@ unfolding named_router update_address
 next_hop_keeps source offset payload earlier = refl
 
 -- the message of each kind
-pub message_again : (d : Standing) (message : Message) → IsMessage message → is_sayable message ≡ true → Provides d message →
+pub message_again : (d : ParserState) (message : Message) → IsMessage message → is_encodable message ≡ true → Provides d message →
     content d (kind_of message) (payload_of message) ≡ contents.Message message
-message_again d (messages.AckRequest opaque interval) is sayable provides = ack_request_again d opaque interval
-message_again d (messages.Ack opaque) is sayable provides = ack_again d opaque
-message_again d (messages.Hello unicast seqno interval) is sayable provides = hello_again d unicast seqno interval
-message_again d (messages.Ihu to rxcost interval) is sayable provides = ihu_again d to rxcost interval is sayable
-message_again d (messages.Update prefix router hop seqno metric interval) is sayable provides =
-    update_again d prefix router hop seqno metric interval is.0 is.1 sayable provides
-message_again d (messages.Retraction prefix interval) is sayable provides = retraction_again d prefix interval is
-message_again d (messages.RetractAll interval) is sayable provides = retract_all_again d interval
-message_again d (messages.RouteRequest prefix) is sayable provides = route_request_again d prefix is
-message_again d messages.DumpRequest is sayable provides = dump_request_again d
-message_again d (messages.SeqnoRequest prefix router seqno hops) is sayable provides = seqno_request_again d prefix router seqno hops is.0 is.1 sayable
+message_again d (messages.AckRequest opaque interval) is encodable provides = ack_request_again d opaque interval
+message_again d (messages.Ack opaque) is encodable provides = ack_again d opaque
+message_again d (messages.Hello unicast seqno interval) is encodable provides = hello_again d unicast seqno interval
+message_again d (messages.Ihu to rxcost interval) is encodable provides = ihu_again d to rxcost interval is encodable
+message_again d (messages.Update prefix router hop seqno metric interval) is encodable provides =
+    update_again d prefix router hop seqno metric interval is.0 is.1 encodable provides
+message_again d (messages.Retraction prefix interval) is encodable provides = retraction_again d prefix interval is
+message_again d (messages.RetractAll interval) is encodable provides = retract_all_again d interval
+message_again d (messages.RouteRequest prefix) is encodable provides = route_request_again d prefix is
+message_again d messages.DumpRequest is encodable provides = dump_request_again d
+message_again d (messages.SeqnoRequest prefix router seqno hops) is encodable provides = seqno_request_again d prefix router seqno hops is.0 is.1 encodable
 
 -- A TLV is written.
 pub kind_is : (message : Message) → kind_of message ≢ 0

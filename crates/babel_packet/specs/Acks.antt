@@ -1,5 +1,6 @@
 -- Acknowledgment Request and Acknowledgment (RFC 8966, sections 4.6.3 and 4.6.4).
 use Rattle.std.specs.Prelude.{ℕ, List, length, drop, nat_lt, if◌then◌else◌}
+use Rattle.babel_packet.specs.Layout as layout
 use Rattle.babel_packet.specs.declared.placements.Content.{Content}
 use Rattle.babel_packet.specs.declared.placements.Reason.TheVariants.{Unreadable}
 use Rattle.babel_packet.specs.declared.messages.Message.TheVariants as messages
@@ -7,11 +8,14 @@ use Rattle.babel_packet.specs.Numbers.{word}
 use Rattle.babel_packet.specs.Contents.{means, ignored}
 use Rattle.babel_packet.specs.Tails.{after_tail}
 
--- reserved 2, opaque 2, interval 2
+-- an Acknowledgment Request with this payload (section 4.6.3)
 unfoldable pub ack_request : List ℕ → Content
 ack_request p =
-    if nat_lt (length p) 6 then ignored Unreadable else after_tail (drop 6 p) (means (messages.AckRequest (word p 2) (word p 4)))
+    if nat_lt (length p) layout.ack_request_len then ignored Unreadable
+    else after_tail (drop layout.ack_request_len p) (means (messages.AckRequest (word p layout.ack_request_opaque) (word p layout.ack_request_interval)))
 
--- opaque 2
+-- an Acknowledgment with this payload (section 4.6.4)
 unfoldable pub ack : List ℕ → Content
-ack p = if nat_lt (length p) 2 then ignored Unreadable else after_tail (drop 2 p) (means (messages.Ack (word p 0)))
+ack p =
+    if nat_lt (length p) layout.ack_len then ignored Unreadable
+    else after_tail (drop layout.ack_len p) (means (messages.Ack (word p layout.ack_opaque)))

@@ -1,4 +1,4 @@
--- What stands at a place of a datagram: its message, state for the places after it, or the reason why it is ignored.
+-- The content of a place of a datagram: its message, state for the places after it, or the reason why it is ignored (RFC 8966, section 4.5).
 use Rattle.std.specs.Prelude.{ℕ, List, [], ◌∷◌, ◌++◌, Option, Some, None}
 use Rattle.babel_packet.specs.declared.placements.Content.{Content}
 use Rattle.babel_packet.specs.declared.placements.Content.TheVariants as contents
@@ -12,7 +12,7 @@ means message = contents.Message message
 abbrev pub ignored : Reason → Content
 ignored reason = contents.Ignored reason
 
--- the first reason, if there is one, before all that comes later
+-- the first reason, if there is one, and else the content
 abbrev pub unless : Option Reason → Content → Content
 unless None content = content
 unless (Some reason) content = ignored reason

@@ -1,5 +1,6 @@
 -- Hello (RFC 8966, section 4.6.5).
 use Rattle.std.specs.Prelude.{ℕ, List, length, drop, nat_lt, if◌then◌else◌}
+use Rattle.babel_packet.specs.Layout as layout
 use Rattle.babel_packet.specs.declared.placements.Content.{Content}
 use Rattle.babel_packet.specs.declared.placements.Reason.TheVariants.{Unreadable}
 use Rattle.babel_packet.specs.declared.messages.Message.TheVariants as messages
@@ -7,8 +8,9 @@ use Rattle.babel_packet.specs.Numbers.{word, has_flag}
 use Rattle.babel_packet.specs.Contents.{means, ignored}
 use Rattle.babel_packet.specs.Tails.{after_tail}
 
--- flags 2 (0x8000 unicast), seqno 2, interval 2
+-- a Hello with this payload
 unfoldable pub hello : List ℕ → Content
 hello p =
-    if nat_lt (length p) 6 then ignored Unreadable
-    else after_tail (drop 6 p) (means (messages.Hello (has_flag (word p 0) 0x8000) (word p 2) (word p 4)))
+    if nat_lt (length p) layout.hello_len then ignored Unreadable
+    else after_tail (drop layout.hello_len p)
+    (means (messages.Hello (has_flag (word p layout.hello_flags) layout.hello_unicast) (word p layout.hello_seqno) (word p layout.hello_interval)))

@@ -1,3 +1,4 @@
+pub mod Layout
 pub mod Numbers
 pub mod Contents
 pub mod Tails
@@ -15,7 +16,10 @@ pub mod Requests
 pub mod Texts
 pub mod Meaning
 pub mod Latest
+pub mod ReasonTable
 pub mod Payloads
-pub mod Sayable
-pub mod Says
+pub mod Encodable
+pub mod Decoded
+pub mod BodyMeanings
 pub mod Running
+pub mod Compressed

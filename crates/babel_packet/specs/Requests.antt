@@ -4,6 +4,7 @@ use Rattle.babel_value.specs.declared.addresses.Addr.{Addr}
 use Rattle.babel_value.specs.declared.addresses.Addr.TheVariants.{V4, V6}
 use Rattle.babel_value.specs.Prefixes.{PrefixValue}
 use Rattle.babel_value.specs.RouterIds.{is_reserved}
+use Rattle.babel_packet.specs.Layout as layout
 use Rattle.babel_packet.specs.declared.placements.Content.{Content}
 use Rattle.babel_packet.specs.declared.placements.Reason.TheVariants as reasons
 use Rattle.babel_packet.specs.declared.messages.Message.TheVariants as messages
@@ -12,41 +13,53 @@ use Rattle.babel_packet.specs.Contents.{means, ignored}
 use Rattle.babel_packet.specs.Tails.{after_tail}
 use Rattle.babel_packet.specs.Prefixes.{octets_of, prefix_octets, is_whole}
 
--- the prefix from this place on
-abbrev pub asked : ℕ → (List ℕ → Addr) → ℕ → List ℕ → PrefixValue
-asked size family place p = record { addr = family (prefix_octets size (replicate size 0) 0 (octet p 1) place p); length = octet p 1 }
+-- the prefix at this offset, of the length in the octet at `plen`
+abbrev pub asked : ℕ → (List ℕ → Addr) → ℕ → ℕ → List ℕ → PrefixValue
+asked size family plen at p = record { addr = family (prefix_octets size (replicate size 0) 0 (octet p plen) at p); length = octet p plen }
 
 abbrev pub route_request_in : ℕ → (List ℕ → Addr) → List ℕ → Content
 route_request_in size family p =
-    if is_whole size 0 (octet p 1) 2 p then after_tail (drop (2 + octets_of (octet p 1)) p) (means (messages.RouteRequest (asked size family 2 p)))
+    if is_whole size 0 (octet p layout.route_request_plen) layout.route_request_len p then
+    after_tail (drop (layout.route_request_len + octets_of (octet p layout.route_request_plen)) p)
+    (means (messages.RouteRequest (asked size family layout.route_request_plen layout.route_request_len p)))
     else ignored reasons.Unreadable
 
--- AE 1, Plen 1, prefix; AE 0 asks for all routes
+-- the wildcard asks for all routes
+abbrev pub dump_request : List ℕ → Content
+dump_request p = if nat_eq (octet p layout.route_request_plen) 0 then means messages.DumpRequest else ignored reasons.Wildcard
+
+-- a Route Request with this payload
 unfoldable pub route_request : List ℕ → Content
 route_request p =
-    if nat_lt (length p) 2 then ignored reasons.Unreadable
-    else if nat_eq (octet p 0) 0 then after_tail (drop 2 p) (if nat_eq (octet p 1) 0 then means messages.DumpRequest else ignored reasons.Wildcard)
-    else if nat_eq (octet p 0) 1 then route_request_in 4 V4 p
-    else if nat_eq (octet p 0) 2 then route_request_in 16 V6 p
+    if nat_lt (length p) layout.route_request_len then ignored reasons.Unreadable
+    else if nat_eq (octet p layout.route_request_ae) layout.ae_wildcard then after_tail (drop layout.route_request_len p) (dump_request p)
+    else if nat_eq (octet p layout.route_request_ae) layout.ae_ipv4 then route_request_in layout.ipv4_len V4 p
+    else if nat_eq (octet p layout.route_request_ae) layout.ae_ipv6 then route_request_in layout.ipv6_len V6 p
     else ignored reasons.UnknownEncoding
 
--- A reserved router-id comes before a hop count of 0.
+-- the octets of the router-id
+abbrev pub requested_router : List ℕ → List ℕ
+requested_router p = slice_range p layout.seqno_request_router_id (layout.seqno_request_router_id + layout.router_id_len)
+
+-- A reserved router-id is reported before a hop count of 0 (profile).
 unfoldable pub seqno_request_for : PrefixValue → List ℕ → Content
 seqno_request_for prefix p =
-    if is_reserved (slice_range p 6 14) then ignored reasons.NoRouterId
-    else if nat_eq (octet p 4) 0 then ignored reasons.NoHops
-    else means (messages.SeqnoRequest prefix (slice_range p 6 14) (word p 2) (octet p 4))
+    if is_reserved (requested_router p) then ignored reasons.NoRouterId
+    else if nat_eq (octet p layout.seqno_request_hops) 0 then ignored reasons.NoHops
+    else means (messages.SeqnoRequest prefix (requested_router p) (word p layout.seqno_request_seqno) (octet p layout.seqno_request_hops))
 
 abbrev pub seqno_request_in : ℕ → (List ℕ → Addr) → List ℕ → Content
 seqno_request_in size family p =
-    if is_whole size 0 (octet p 1) 14 p then after_tail (drop (14 + octets_of (octet p 1)) p) (seqno_request_for (asked size family 14 p) p)
+    if is_whole size 0 (octet p layout.seqno_request_plen) layout.seqno_request_len p then
+    after_tail (drop (layout.seqno_request_len + octets_of (octet p layout.seqno_request_plen)) p)
+    (seqno_request_for (asked size family layout.seqno_request_plen layout.seqno_request_len p) p)
     else ignored reasons.Unreadable
 
--- AE 1, Plen 1, seqno 2, hop count 1, reserved 1, router-id 8, prefix; there is no request for all
+-- a Seqno Request with this payload; there is no request for all prefixes
 unfoldable pub seqno_request : List ℕ → Content
 seqno_request p =
-    if nat_lt (length p) 14 then ignored reasons.Unreadable
-    else if nat_eq (octet p 0) 0 then after_tail (drop 14 p) (ignored reasons.Wildcard)
-    else if nat_eq (octet p 0) 1 then seqno_request_in 4 V4 p
-    else if nat_eq (octet p 0) 2 then seqno_request_in 16 V6 p
+    if nat_lt (length p) layout.seqno_request_len then ignored reasons.Unreadable
+    else if nat_eq (octet p layout.seqno_request_ae) layout.ae_wildcard then after_tail (drop layout.seqno_request_len p) (ignored reasons.Wildcard)
+    else if nat_eq (octet p layout.seqno_request_ae) layout.ae_ipv4 then seqno_request_in layout.ipv4_len V4 p
+    else if nat_eq (octet p layout.seqno_request_ae) layout.ae_ipv6 then seqno_request_in layout.ipv6_len V6 p
     else ignored reasons.UnknownEncoding

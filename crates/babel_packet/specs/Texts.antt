@@ -1,4 +1,4 @@
--- Messages, reasons and places as text (profile). Numbers are decimal.
+-- Messages, reasons, places and codes of refusals as text (profile). Numbers are decimal.
 use Rattle.std.specs.Prelude.{ℕ, List, ◌++◌, true, false, Option, Some, None, codes}
 use Rattle.std.specs.Fmt.{decimal}
 use Rattle.babel_value.specs.declared.addresses.Addr.{Addr}
@@ -11,12 +11,14 @@ use Rattle.babel_packet.specs.declared.placements.Reason.TheVariants as reasons
 use Rattle.babel_packet.specs.declared.placements.Content.{Content}
 use Rattle.babel_packet.specs.declared.placements.Content.TheVariants as contents
 use Rattle.babel_packet.specs.declared.placements.Placed.{Placed}
+use Rattle.babel_packet.specs.declared.errors.Refusal.{Refusal}
+use Rattle.babel_packet.specs.declared.errors.Refusal.TheVariants as refusals
 
 abbrev pub receiver_text : Option Addr → List ℕ
 receiver_text None = codes "any"
 receiver_text (Some addr) = addr_text addr
 
--- whose route an Update has, and where it leads
+-- the prefix, router-id and next hop of an Update
 abbrev pub route_text : PrefixValue → List ℕ → Addr → List ℕ
 route_text prefix router next_hop = prefix_text prefix ++ codes " router " ++ router_text router ++ codes " next-hop " ++ addr_text next_hop
 
@@ -37,6 +39,15 @@ message_text (messages.RouteRequest prefix) = codes "route-request " ++ prefix_t
 message_text messages.DumpRequest = codes "dump-request"
 message_text (messages.SeqnoRequest prefix router seqno hops) =
     codes "seqno-request " ++ prefix_text prefix ++ codes " router " ++ router_text router ++ codes " seqno " ++ decimal seqno ++ codes " hops " ++ decimal hops
+
+-- a refusal's code, and the offset of the TLV that runs past the body
+abbrev pub refusal_code : Refusal → List ℕ
+refusal_code refusals.Short = codes "P1"
+refusal_code refusals.Magic = codes "P2"
+refusal_code refusals.Version = codes "P3"
+refusal_code refusals.BodyLength = codes "P4"
+refusal_code (refusals.Tlv offset) = codes "P5 " ++ decimal offset
+refusal_code refusals.Memory = codes "P6"
 
 -- a reason's code, and the type of the sub-TLV that isn't understood
 abbrev pub reason_text : Reason → List ℕ

@@ -4,14 +4,11 @@ ghost use Rattle.std.specs.Prelude.{◌≡◌, ◌<◌, vec_len, vec_capacity};
 ghost use Rattle.babel_packet.specs.Contents.{put};
 ghost use Rattle.babel_packet.specs.Acks.{ack_request, ack};
 
+use crate::layout::{ack as ack_fields, ack_request as request_fields};
 use crate::numbers::word;
 use crate::placements::{push_ignored, push_message};
 use crate::tails::tail_reason;
 use crate::{Message, Placed, Reason};
-
-const ACK_REQUEST_LEN: usize = 6;
-
-const ACK_LEN: usize = 2;
 
 #[inline]
 #[tactic(auto, unfolding(crate::specs::Acks::ack_request))]
@@ -19,13 +16,13 @@ pub(crate) fn read_ack_request(payload: &[u8], offset: usize, placed: &mut Vec<P
     requires { vec_len placed.old < vec_capacity placed.old }
     ensures { placed.new.items ≡ put placed.old.items offset (ack_request payload.now) }
 {
-    if payload.len() < ACK_REQUEST_LEN {
+    if payload.len() < request_fields::LEN {
         push_ignored(placed, offset, Reason::Unreadable);
-    } else if let Some(reason) = tail_reason(&payload[ACK_REQUEST_LEN..]) {
+    } else if let Some(reason) = tail_reason(&payload[request_fields::LEN..]) {
         push_ignored(placed, offset, reason);
     } else {
-        let opaque = word(payload, 2);
-        let interval = word(payload, 4);
+        let opaque = word(payload, request_fields::OPAQUE);
+        let interval = word(payload, request_fields::INTERVAL);
         push_message(placed, offset, Message::AckRequest { opaque, interval });
     }
 }
@@ -36,12 +33,12 @@ pub(crate) fn read_ack(payload: &[u8], offset: usize, placed: &mut Vec<Placed>)
     requires { vec_len placed.old < vec_capacity placed.old }
     ensures { placed.new.items ≡ put placed.old.items offset (ack payload.now) }
 {
-    if payload.len() < ACK_LEN {
+    if payload.len() < ack_fields::LEN {
         push_ignored(placed, offset, Reason::Unreadable);
-    } else if let Some(reason) = tail_reason(&payload[ACK_LEN..]) {
+    } else if let Some(reason) = tail_reason(&payload[ack_fields::LEN..]) {
         push_ignored(placed, offset, reason);
     } else {
-        let opaque = word(payload, 0);
+        let opaque = word(payload, ack_fields::OPAQUE);
         push_message(placed, offset, Message::Ack { opaque });
     }
 }

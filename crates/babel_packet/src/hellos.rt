@@ -4,16 +4,12 @@ ghost use Rattle.std.specs.Prelude.{◌≡◌, ◌<◌, vec_len, vec_capacity};
 ghost use Rattle.babel_packet.specs.Contents.{put};
 ghost use Rattle.babel_packet.specs.Hellos.{hello};
 
+use crate::layout::hello as fields;
 use crate::numbers::{has_flag, word};
 use crate::placements::{push_ignored, push_message};
 use crate::tails::tail_reason;
 use crate::{Message, Placed, Reason};
 use babel_value::Seqno;
-
-const HELLO_LEN: usize = 6;
-
-/// The flag of a Hello that was sent to its receiver alone.
-const UNICAST: u16 = 0x8000;
 
 #[inline]
 #[tactic(auto, unfolding(crate::specs::Hellos::hello))]
@@ -21,14 +17,14 @@ pub(crate) fn read_hello(payload: &[u8], offset: usize, placed: &mut Vec<Placed>
     requires { vec_len placed.old < vec_capacity placed.old }
     ensures { placed.new.items ≡ put placed.old.items offset (hello payload.now) }
 {
-    if payload.len() < HELLO_LEN {
+    if payload.len() < fields::LEN {
         push_ignored(placed, offset, Reason::Unreadable);
-    } else if let Some(reason) = tail_reason(&payload[HELLO_LEN..]) {
+    } else if let Some(reason) = tail_reason(&payload[fields::LEN..]) {
         push_ignored(placed, offset, reason);
     } else {
-        let unicast = has_flag(word(payload, 0), UNICAST);
-        let seqno = Seqno(word(payload, 2));
-        let interval = word(payload, 4);
+        let unicast = has_flag(word(payload, fields::FLAGS), fields::UNICAST);
+        let seqno = Seqno(word(payload, fields::SEQNO));
+        let interval = word(payload, fields::INTERVAL);
         push_message(
             placed,
             offset,

@@ -1,37 +1,40 @@
 //! What a Babel datagram means (RFC 8966, section 4), as one call: [`decode`].
 //!
-//! Each module reads one kind of TLV and has its own definition in `specs/`; `decoding` has the walk
-//! over the datagram, and `defaults` what earlier TLVs say of later ones.
+//! Each module reads one kind of TLV and has its own definition in `specs/`. `decoding` walks over the
+//! datagram, `parser_state` keeps what earlier TLVs set for later ones, and `layout` has the offsets,
+//! lengths and numbers of the wire format.
 #![tactic(auto)]
 
 mod acks;
 mod addresses;
+mod compression;
 mod decoding;
-mod defaults;
+mod errors;
 mod hellos;
 mod ihus;
-mod laws;
+pub mod laws;
+pub mod layout;
 mod messages;
 mod next_hops;
 mod numbers;
+mod parser_state;
 mod placements;
 mod prefixes;
-mod refusals;
 mod requests;
 mod router_ids;
 mod tails;
 mod texts;
 mod updates;
 
-pub use addresses::{AE_IPV4, AE_IPV6, AE_LINK_LOCAL, AE_WILDCARD};
-pub use decoding::{
-    ACK, ACK_REQUEST, HEADER_LEN, HELLO, IHU, MAGIC, NEXT_HOP, ROUTE_REQUEST, ROUTER_ID,
-    SEQNO_REQUEST, UPDATE, VERSION, decode,
+pub use compression::compressed_is_read;
+pub use decoding::decode;
+pub use errors::{Refusal, RefusalCode};
+pub use laws::{decoded_are_sendable, fields_are_whole, looks_back, one_more_message};
+pub use layout::addresses::{AE_IPV4, AE_IPV6, AE_LINK_LOCAL, AE_WILDCARD};
+pub use layout::header::{LEN as HEADER_LEN, MAGIC, VERSION};
+pub use layout::kinds::{
+    ACK, ACK_REQUEST, HELLO, IHU, NEXT_HOP, ROUTE_REQUEST, ROUTER_ID, SEQNO_REQUEST, UPDATE,
 };
-pub use laws::{fields_are_whole, looks_back, says_one_more};
 pub use messages::Message;
+pub use parser_state::ParserState;
 pub use placements::{Content, Placed, Reason};
-pub use refusals::Refusal;
-
-#[cfg(test)]
-mod tests;

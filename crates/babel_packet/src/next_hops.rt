@@ -2,47 +2,50 @@
 
 ghost use Rattle.std.specs.Prelude.{◌≡◌, ◌<◌, vec_len, vec_capacity};
 ghost use Rattle.babel_packet.specs.declared.placements.Content.TheVariants.{State};
+ghost use Rattle.babel_packet.specs.Layout as layout;
 ghost use Rattle.babel_packet.specs.Contents.{put};
 ghost use Rattle.babel_packet.specs.Tails.{after_tail};
 ghost use Rattle.babel_packet.specs.NextHops.{next_hop};
-ghost use Rattle.babel_packet.specs.Running.{standing, after};
+ghost use Rattle.babel_packet.specs.Running.{after};
 
-use crate::addresses::{AE_IPV4, AE_IPV6, AE_LINK_LOCAL, ipv4_at, ipv6_at, link_local_at};
-use crate::defaults::Defaults;
+use crate::addresses::{ipv4_at, ipv6_at, link_local_at};
+use crate::layout::addresses::{
+    AE_IPV4, AE_IPV6, AE_LINK_LOCAL, IPV4_LEN, IPV6_LEN, LINK_LOCAL_LEN,
+};
+use crate::layout::next_hop as fields;
+use crate::parser_state::ParserState;
 use crate::placements::{push_ignored, push_state};
 use crate::tails::tail_reason;
 use crate::{Placed, Reason};
-
-const NEXT_HOP_LEN: usize = 2;
 
 #[inline]
 #[tactic(auto, unfolding(crate::specs::NextHops::next_hop, crate::specs::NextHops::next_hop_of, crate::specs::RouterIds::named_router, crate::specs::NextHops::named_hop4, crate::specs::NextHops::named_hop6, crate::specs::LookBack::update_address))]
 pub(crate) fn read_next_hop(
     payload: &[u8],
     offset: usize,
-    defaults: &mut Defaults,
+    state: &mut ParserState,
     placed: &mut Vec<Placed>,
 )
     requires { vec_len placed.old < vec_capacity placed.old }
     ensures placed { placed.new.items ≡ put placed.old.items offset (next_hop payload.now) }
-    ensures defaults { standing defaults.new ≡ after (standing defaults.old) 7 payload.now }
+    ensures state { state.new ≡ after state.old layout.next_hop payload.now }
 {
     let length = payload.len();
-    if length < NEXT_HOP_LEN {
+    if length < fields::LEN {
         return push_ignored(placed, offset, Reason::Unreadable);
     }
-    match payload[0] {
-        AE_IPV4 if length >= NEXT_HOP_LEN + 4 => {
-            defaults.hop4 = Some(ipv4_at(payload, NEXT_HOP_LEN));
-            push_state_after(&payload[NEXT_HOP_LEN + 4..], offset, placed)
+    match payload[fields::AE] {
+        AE_IPV4 if length >= fields::LEN + IPV4_LEN => {
+            state.hop4 = Some(ipv4_at(payload, fields::LEN));
+            push_state_after(&payload[fields::LEN + IPV4_LEN..], offset, placed)
         }
-        AE_IPV6 if length >= NEXT_HOP_LEN + 16 => {
-            defaults.hop6 = Some(ipv6_at(payload, NEXT_HOP_LEN));
-            push_state_after(&payload[NEXT_HOP_LEN + 16..], offset, placed)
+        AE_IPV6 if length >= fields::LEN + IPV6_LEN => {
+            state.hop6 = Some(ipv6_at(payload, fields::LEN));
+            push_state_after(&payload[fields::LEN + IPV6_LEN..], offset, placed)
         }
-        AE_LINK_LOCAL if length >= NEXT_HOP_LEN + 8 => {
-            defaults.hop6 = Some(link_local_at(payload, NEXT_HOP_LEN));
-            push_state_after(&payload[NEXT_HOP_LEN + 8..], offset, placed)
+        AE_LINK_LOCAL if length >= fields::LEN + LINK_LOCAL_LEN => {
+            state.hop6 = Some(link_local_at(payload, fields::LEN));
+            push_state_after(&payload[fields::LEN + LINK_LOCAL_LEN..], offset, placed)
         }
         AE_IPV4 | AE_IPV6 | AE_LINK_LOCAL => push_ignored(placed, offset, Reason::Unreadable),
         _ => push_ignored(placed, offset, Reason::UnknownEncoding),

@@ -5,14 +5,14 @@ ghost use Rattle.babel_packet.specs.Numbers as numbers;
 
 use byteorder::{BigEndian, ByteOrder};
 
-/// The number in the two octets from this place on.
+/// The number in the two octets at this offset.
 #[inline]
 #[tactic(auto, unfolding(crate::specs::Numbers::word))]
-pub(crate) fn word(octets: &[u8], place: usize) -> u16
-    requires { place + 2 ≤ length octets.now }
-    ensures { result ≡ numbers.word octets.now place }
+pub(crate) fn word(octets: &[u8], at: usize) -> u16
+    requires { at + 2 ≤ length octets.now }
+    ensures { result ≡ numbers.word octets.now at }
 {
-    BigEndian::read_u16(&octets[place..])
+    BigEndian::read_u16(&octets[at..])
 }
 
 /// Whether the flag is set among the flags.

@@ -3,8 +3,11 @@
 ghost use Rattle.std.specs.Prelude.{◌≡◌, ◌≤◌, ◌<◌, ◌+◌, ◌-◌, ◌*◌, ◌/◌, ◌%◌, ◌^◌, ℕ, length, map, slice_index, IsTrue};
 ghost use Rattle.std.specs.List.{range_with_len};
 ghost use Rattle.babel_value.specs.Prefixes.{cleared};
+ghost use Rattle.babel_packet.specs.Layout as layout;
 ghost use Rattle.babel_packet.specs.Prefixes as prefixes;
 ghost use Rattle.babel_packet.specs.Prefixes.{octets_of, prefix_octet};
+
+use babel_value::keep_bits;
 
 /// How many octets a prefix of this length takes.
 #[inline]
@@ -15,19 +18,19 @@ pub(crate) fn octets_of(bits: u8) -> usize
     (bits as usize + 7) / 8
 }
 
-/// Whether the length isn't too large for an address of `size` octets, and the octets that aren't
-/// omitted are there from `place` on.
+/// Whether the length isn't greater than an address of `size` octets is wide, and the octets that aren't
+/// omitted are in the payload from offset `at` on.
 #[inline]
 #[tactic(auto, unfolding(crate::specs::Prefixes::is_whole))]
-pub(crate) fn is_whole(size: usize, omitted: u8, bits: u8, place: usize, payload: &[u8]) -> bool
-    requires size { size ≤ 16 }
-    requires place { place ≤ 14 }
-    ensures value { result ≡ prefixes.is_whole size omitted bits place payload.now }
+pub(crate) fn is_whole(size: usize, omitted: u8, bits: u8, at: usize, payload: &[u8]) -> bool
+    requires size { size ≤ layout.ipv6_len }
+    requires at { at ≤ layout.seqno_request_len }
+    ensures value { result ≡ prefixes.is_whole size omitted bits at payload.now }
     ensures short { IsTrue result → bits ≤ 8 * size }
-    ensures there { IsTrue result → place + (octets_of bits - omitted) ≤ length payload.now }
+    ensures there { IsTrue result → at + (octets_of bits - omitted) ≤ length payload.now }
 {
     let written = octets_of(bits).saturating_sub(omitted as usize);
-    bits as usize <= 8 * size && place + written <= payload.len()
+    bits as usize <= 8 * size && at + written <= payload.len()
 }
 
 /// The octets of the prefix's address: the omitted ones from `default`, the others from the payload.
@@ -37,16 +40,16 @@ pub(crate) fn prefix_octets<const N: usize>(
     default: [u8; N],
     omitted: u8,
     bits: u8,
-    place: usize,
+    at: usize,
     payload: &[u8],
 ) -> [u8; N]
     requires short { bits ≤ 8 * N }
-    requires there { place + (octets_of bits - omitted) ≤ length payload.now }
-    requires place { place ≤ 14 }
-    ensures value { result ≡ prefixes.prefix_octets N default.entry omitted bits place payload.now }
+    requires there { at + (octets_of bits - omitted) ≤ length payload.now }
+    requires at { at ≤ layout.seqno_request_len }
+    ensures value { result ≡ prefixes.prefix_octets N default.entry omitted bits at payload.now }
     ensures clear { cleared bits result ≡ result }
 {
-    clear_last(spread(default, omitted, bits, place, payload), bits)
+    clear_last(spread(default, omitted, bits, at, payload), bits)
 }
 
 /// The same, with the bits past the length in the last octet still there.
@@ -55,13 +58,13 @@ fn spread<const N: usize>(
     default: [u8; N],
     omitted: u8,
     bits: u8,
-    place: usize,
+    at: usize,
     payload: &[u8],
 ) -> [u8; N]
     requires short { bits ≤ 8 * N }
-    requires there { place + (octets_of bits - omitted) ≤ length payload.now }
-    requires place { place ≤ 14 }
-    ensures value { result ≡ map (prefix_octet default.entry omitted bits place payload.now) (range_with_len 0 N) }
+    requires there { at + (octets_of bits - omitted) ≤ length payload.now }
+    requires at { at ≤ layout.seqno_request_len }
+    ensures value { result ≡ map (prefix_octet default.entry omitted bits at payload.now) (range_with_len 0 N) }
     ensures zeros { (j : ℕ) → octets_of bits ≤ j → slice_index result j ≡ 0 }
 {
     let full = octets_of(bits);
@@ -72,14 +75,14 @@ fn spread<const N: usize>(
             octets[j] = if j < omitted {
                 default[j]
             } else {
-                payload[place + j - omitted]
+                payload[at + j - omitted]
             };
         }
     }
     octets
 }
 
-/// Clears the bits past the length, where they are in one octet alone.
+/// Clears the bits past the length, which are in one octet alone.
 #[inline]
 fn clear_last<const N: usize>(octets: [u8; N], bits: u8) -> [u8; N]
     requires short { bits ≤ 8 * N }
@@ -93,15 +96,4 @@ fn clear_last<const N: usize>(octets: [u8; N], bits: u8) -> [u8; N]
     let mut octets = octets;
     octets[last] = keep_bits(octets[last], bits % 8);
     octets
-}
-
-/// The octet with the bits past the first `bits` cleared.
-#[inline]
-fn keep_bits(octet: u8, bits: u8) -> u8
-    requires some { 0 < bits }
-    requires part { bits < 8 }
-    ensures { result ≡ octet - octet % 2 ^ (8 - bits) }
-{
-    let dropped = 8 - bits;
-    (octet >> dropped) << dropped
 }

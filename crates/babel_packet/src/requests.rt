@@ -1,8 +1,9 @@
 //! Route Request and Seqno Request (RFC 8966, sections 4.6.10 and 4.6.11).
 
-ghost use Rattle.std.specs.Prelude.{◌≡◌, ◌≤◌, ◌<◌, ◌+◌, ◌*◌, length, slice_range, vec_len, vec_capacity};
+ghost use Rattle.std.specs.Prelude.{◌≡◌, ◌≤◌, ◌<◌, ◌+◌, ◌*◌, length, vec_len, vec_capacity};
 ghost use Rattle.babel_value.specs.declared.addresses.Addr.TheVariants.{V4, V6};
 ghost use Rattle.babel_packet.specs.Numbers.{octet};
+ghost use Rattle.babel_packet.specs.Layout as layout;
 ghost use Rattle.babel_packet.specs.Contents.{put, means, ignored};
 ghost use Rattle.babel_packet.specs.Tails.{after_tail};
 ghost use Rattle.babel_packet.specs.declared.messages.Message.TheVariants as messages;
@@ -10,7 +11,8 @@ ghost use Rattle.babel_packet.specs.declared.placements.Reason.TheVariants.{Wild
 ghost use Rattle.babel_packet.specs.Prefixes.{octets_of as octets_taken};
 ghost use Rattle.babel_packet.specs.Requests.{asked, route_request, seqno_request, seqno_request_for};
 
-use crate::addresses::{AE_IPV4, AE_IPV6, AE_WILDCARD};
+use crate::layout::addresses::{AE_IPV4, AE_IPV6, AE_WILDCARD, IPV4_LEN, IPV6_LEN, ROUTER_ID_LEN};
+use crate::layout::{route_request as route_fields, seqno_request as seqno_fields};
 use crate::numbers::word;
 use crate::placements::{push_ignored, push_message};
 use crate::prefixes::{is_whole, octets_of, prefix_octets};
@@ -18,37 +20,32 @@ use crate::tails::tail_reason;
 use crate::{Message, Placed, Reason};
 use babel_value::{Addr, Prefix, RouterId, Seqno};
 
-/// AE, Plen.
-const ROUTE_REQUEST_LEN: usize = 2;
-/// AE, Plen, seqno, hop count, reserved, router-id.
-const SEQNO_REQUEST_LEN: usize = 14;
-
 #[inline]
 #[tactic(auto, unfolding(crate::specs::Requests::route_request))]
 pub(crate) fn read_route_request(payload: &[u8], offset: usize, placed: &mut Vec<Placed>)
     requires { vec_len placed.old < vec_capacity placed.old }
     ensures { placed.new.items ≡ put placed.old.items offset (route_request payload.now) }
 {
-    if payload.len() < ROUTE_REQUEST_LEN {
+    if payload.len() < route_fields::LEN {
         return push_ignored(placed, offset, Reason::Unreadable);
     }
-    let bits = payload[1];
-    match payload[0] {
+    let bits = payload[route_fields::PLEN];
+    match payload[route_fields::AE] {
         AE_WILDCARD => read_dump_request(payload, offset, placed),
-        AE_IPV4 if is_whole(4, 0, bits, ROUTE_REQUEST_LEN, payload) => {
-            let prefix = asked4(payload, ROUTE_REQUEST_LEN);
+        AE_IPV4 if is_whole(IPV4_LEN, 0, bits, route_fields::LEN, payload) => {
+            let prefix = asked4(payload, route_fields::PLEN, route_fields::LEN);
             push_route_request(
                 prefix,
-                &payload[ROUTE_REQUEST_LEN + octets_of(bits)..],
+                &payload[route_fields::LEN + octets_of(bits)..],
                 offset,
                 placed,
             )
         }
-        AE_IPV6 if is_whole(16, 0, bits, ROUTE_REQUEST_LEN, payload) => {
-            let prefix = asked6(payload, ROUTE_REQUEST_LEN);
+        AE_IPV6 if is_whole(IPV6_LEN, 0, bits, route_fields::LEN, payload) => {
+            let prefix = asked6(payload, route_fields::PLEN, route_fields::LEN);
             push_route_request(
                 prefix,
-                &payload[ROUTE_REQUEST_LEN + octets_of(bits)..],
+                &payload[route_fields::LEN + octets_of(bits)..],
                 offset,
                 placed,
             )
@@ -62,14 +59,14 @@ pub(crate) fn read_route_request(payload: &[u8], offset: usize, placed: &mut Vec
 #[inline]
 #[tactic(auto, unfolding(crate::specs::Requests::route_request))]
 fn read_dump_request(payload: &[u8], offset: usize, placed: &mut Vec<Placed>)
-    requires fields { 2 ≤ length payload.now }
-    requires encoding { octet payload.now 0 ≡ 0 }
+    requires fields { layout.route_request_len ≤ length payload.now }
+    requires encoding { octet payload.now layout.route_request_ae ≡ layout.ae_wildcard }
     requires room { vec_len placed.old < vec_capacity placed.old }
     ensures { placed.new.items ≡ put placed.old.items offset (route_request payload.now) }
 {
-    if let Some(reason) = tail_reason(&payload[ROUTE_REQUEST_LEN..]) {
+    if let Some(reason) = tail_reason(&payload[route_fields::LEN..]) {
         push_ignored(placed, offset, reason);
-    } else if payload[1] == 0 {
+    } else if payload[route_fields::PLEN] == 0 {
         push_message(placed, offset, Message::DumpRequest);
     } else {
         push_ignored(placed, offset, Reason::Wildcard);
@@ -93,27 +90,27 @@ pub(crate) fn read_seqno_request(payload: &[u8], offset: usize, placed: &mut Vec
     requires { vec_len placed.old < vec_capacity placed.old }
     ensures { placed.new.items ≡ put placed.old.items offset (seqno_request payload.now) }
 {
-    if payload.len() < SEQNO_REQUEST_LEN {
+    if payload.len() < seqno_fields::LEN {
         return push_ignored(placed, offset, Reason::Unreadable);
     }
-    let bits = payload[1];
-    match payload[0] {
-        AE_WILDCARD => push_wildcard(&payload[SEQNO_REQUEST_LEN..], offset, placed),
-        AE_IPV4 if is_whole(4, 0, bits, SEQNO_REQUEST_LEN, payload) => {
-            let prefix = asked4(payload, SEQNO_REQUEST_LEN);
+    let bits = payload[seqno_fields::PLEN];
+    match payload[seqno_fields::AE] {
+        AE_WILDCARD => push_wildcard(&payload[seqno_fields::LEN..], offset, placed),
+        AE_IPV4 if is_whole(IPV4_LEN, 0, bits, seqno_fields::LEN, payload) => {
+            let prefix = asked4(payload, seqno_fields::PLEN, seqno_fields::LEN);
             push_seqno_request(
                 prefix,
-                &payload[SEQNO_REQUEST_LEN + octets_of(bits)..],
+                &payload[seqno_fields::LEN + octets_of(bits)..],
                 payload,
                 offset,
                 placed,
             )
         }
-        AE_IPV6 if is_whole(16, 0, bits, SEQNO_REQUEST_LEN, payload) => {
-            let prefix = asked6(payload, SEQNO_REQUEST_LEN);
+        AE_IPV6 if is_whole(IPV6_LEN, 0, bits, seqno_fields::LEN, payload) => {
+            let prefix = asked6(payload, seqno_fields::PLEN, seqno_fields::LEN);
             push_seqno_request(
                 prefix,
-                &payload[SEQNO_REQUEST_LEN + octets_of(bits)..],
+                &payload[seqno_fields::LEN + octets_of(bits)..],
                 payload,
                 offset,
                 placed,
@@ -143,14 +140,14 @@ fn push_seqno_request(
     offset: usize,
     placed: &mut Vec<Placed>,
 )
-    requires fields { 14 ≤ length payload.now }
+    requires fields { layout.seqno_request_len ≤ length payload.now }
     requires room { vec_len placed.old < vec_capacity placed.old }
     ensures { placed.new.items ≡ put placed.old.items offset (after_tail tail.now (seqno_request_for prefix payload.now)) }
 {
-    let mut octets = [0; 8];
-    octets.copy_from_slice(&payload[6..SEQNO_REQUEST_LEN]);
-    let seqno = Seqno(word(payload, 2));
-    let hops = payload[4];
+    let mut octets = [0; ROUTER_ID_LEN];
+    octets.copy_from_slice(&payload[seqno_fields::ROUTER_ID..seqno_fields::LEN]);
+    let seqno = Seqno(word(payload, seqno_fields::SEQNO));
+    let hops = payload[seqno_fields::HOPS];
     if let Some(reason) = tail_reason(tail) {
         return push_ignored(placed, offset, reason);
     }
@@ -172,28 +169,28 @@ fn push_seqno_request(
     );
 }
 
-/// The IPv4 prefix whose octets stand from this place on.
+/// The IPv4 prefix at this offset, of the length in the octet at `plen`.
 #[inline]
-fn asked4(payload: &[u8], place: usize) -> Prefix
-    requires fields { 2 ≤ length payload.now }
-    requires place { place ≤ 14 }
-    requires short { octet payload.now 1 ≤ 32 }
-    requires there { place + octets_taken (octet payload.now 1) ≤ length payload.now }
-    ensures { result ≡ asked 4 V4 place payload.now }
+fn asked4(payload: &[u8], plen: usize, at: usize) -> Prefix
+    requires fields { plen < length payload.now }
+    requires at { at ≤ layout.seqno_request_len }
+    requires short { octet payload.now plen ≤ 8 * layout.ipv4_len }
+    requires there { at + octets_taken (octet payload.now plen) ≤ length payload.now }
+    ensures { result ≡ asked layout.ipv4_len V4 plen at payload.now }
 {
-    let octets = prefix_octets([0; 4], 0, payload[1], place, payload);
-    Prefix::of(Addr::V4(octets), payload[1])
+    let octets = prefix_octets([0; IPV4_LEN], 0, payload[plen], at, payload);
+    Prefix::new_unchecked(Addr::V4(octets), payload[plen])
 }
 
-/// The IPv6 prefix whose octets stand from this place on.
+/// The IPv6 prefix at this offset, of the length in the octet at `plen`.
 #[inline]
-fn asked6(payload: &[u8], place: usize) -> Prefix
-    requires fields { 2 ≤ length payload.now }
-    requires place { place ≤ 14 }
-    requires short { octet payload.now 1 ≤ 128 }
-    requires there { place + octets_taken (octet payload.now 1) ≤ length payload.now }
-    ensures { result ≡ asked 16 V6 place payload.now }
+fn asked6(payload: &[u8], plen: usize, at: usize) -> Prefix
+    requires fields { plen < length payload.now }
+    requires at { at ≤ layout.seqno_request_len }
+    requires short { octet payload.now plen ≤ 8 * layout.ipv6_len }
+    requires there { at + octets_taken (octet payload.now plen) ≤ length payload.now }
+    ensures { result ≡ asked layout.ipv6_len V6 plen at payload.now }
 {
-    let octets = prefix_octets([0; 16], 0, payload[1], place, payload);
-    Prefix::of(Addr::V6(octets), payload[1])
+    let octets = prefix_octets([0; IPV6_LEN], 0, payload[plen], at, payload);
+    Prefix::new_unchecked(Addr::V6(octets), payload[plen])
 }

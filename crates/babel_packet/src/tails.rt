@@ -1,15 +1,13 @@
-//! What a TLV has behind its fields: sub-TLVs (RFC 8966, section 4.4).
+//! Sub-TLVs, which follow the fields of a TLV (RFC 8966, section 4.4).
 
 ghost use Rattle.std.specs.Prelude.{◌≡◌};
 ghost use Rattle.babel_packet.specs.Tails as tails;
 
 use crate::Reason;
+use crate::layout::kinds::MANDATORY;
 use babel_tlv::split;
 
-/// The least sub-TLV type that must be understood (RFC 8966, section 4.4).
-const MANDATORY: u8 = 128;
-
-/// Why a TLV with these octets behind its fields is ignored, if it is.
+/// Why a TLV with these octets after its fields is ignored, if it is.
 #[inline]
 #[tactic(auto, unfolding(crate::specs::Tails::tail_reason))]
 pub(crate) fn tail_reason(tail: &[u8]) -> Option<Reason>

@@ -76,7 +76,7 @@ impl fmt::Display for Message {
     }
 }
 
-/// Whose route an Update has, and where it leads.
+/// The prefix, router-id and next hop of an Update.
 #[derive(Clone, Copy)]
 struct Route {
     prefix: Prefix,
@@ -98,7 +98,7 @@ impl fmt::Display for Route {
     }
 }
 
-/// Whom an IHU is for.
+/// The receiver of an IHU.
 #[derive(Clone, Copy)]
 struct Receiver {
     to: Option<Addr>,
@@ -118,7 +118,7 @@ impl fmt::Display for Receiver {
     }
 }
 
-/// The code, `I1` to `I13`, with the sub-TLV's type behind `I5`.
+/// The code, `I1` to `I13`, with the sub-TLV's type after `I5`.
 impl fmt::Display for Reason {
     ghost use Rattle.std.specs.Prelude.{Some};
     ghost use Rattle.babel_packet.specs.Texts.{reason_text};

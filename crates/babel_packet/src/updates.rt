@@ -1,67 +1,64 @@
-//! Update, and the retractions that it spells (RFC 8966, section 4.6.9).
+//! Update, and the retractions that it encodes (RFC 8966, section 4.6.9).
 
-ghost use Rattle.std.specs.Prelude.{◌≡◌, ◌≤◌, ◌<◌, ◌+◌, ◌*◌, ◌++◌, length, drop, slice_range, replicate, option_map, IsTrue, IfSome, vec_len, vec_capacity};
+ghost use Rattle.std.specs.Prelude.{◌≡◌, ◌≤◌, ◌<◌, ◌+◌, ◌*◌, length, drop, option_map, IsTrue, IfSome, vec_len, vec_capacity};
 ghost use Rattle.babel_value.specs.Prefixes.{cleared};
+ghost use Rattle.babel_packet.specs.Layout as layout;
 ghost use Rattle.babel_packet.specs.Numbers.{octet};
 ghost use Rattle.babel_packet.specs.Contents.{put};
 ghost use Rattle.babel_packet.specs.Tails.{after_tail};
 ghost use Rattle.babel_packet.specs.UpdateFields as fields;
-ghost use Rattle.babel_packet.specs.LookBack.{flagged as flagged_address};
+ghost use Rattle.babel_packet.specs.LookBack.{flagged as flagged_address, router_of_ipv4, router_of_ipv6};
 ghost use Rattle.babel_packet.specs.Updates.{update, update4, update6, update_of, wildcard};
-ghost use Rattle.babel_packet.specs.Running.{standing, after};
+ghost use Rattle.babel_packet.specs.Running.{after};
 
-use crate::addresses::{AE_IPV4, AE_IPV6, AE_WILDCARD};
-use crate::defaults::Defaults;
+use crate::layout::addresses::{AE_IPV4, AE_IPV6, AE_WILDCARD, IPV4_LEN, IPV6_LEN, ROUTER_ID_LEN};
+use crate::layout::update as wire;
 use crate::numbers::{has_flag, word};
+use crate::parser_state::ParserState;
 use crate::placements::{push_ignored, push_message};
 use crate::prefixes::{is_whole, octets_of, prefix_octets};
 use crate::tails::tail_reason;
 use crate::{Message, Placed, Reason};
 use babel_value::{Addr, Metric, Prefix, RouterId, Seqno};
 
-/// AE, flags, Plen, Omitted, interval, seqno, metric.
-const UPDATE_LEN: usize = 10;
-
-/// The flag of an Update whose prefix is the default prefix of those after it.
-const SETS_DEFAULT_PREFIX: u8 = 0x80;
-/// The flag of an Update whose prefix's address has the router-id.
-const SETS_ROUTER_ID: u8 = 0x40;
-
 #[inline]
 #[tactic(auto, unfolding(crate::specs::Updates::update, crate::specs::LookBack::update_address, crate::specs::NextHops::named_hop4, crate::specs::NextHops::named_hop6, crate::specs::RouterIds::named_router))]
 pub(crate) fn read_update(
     payload: &[u8],
     offset: usize,
-    defaults: &mut Defaults,
+    state: &mut ParserState,
     placed: &mut Vec<Placed>,
 )
     requires { vec_len placed.old < vec_capacity placed.old }
-    ensures placed { placed.new.items ≡ put placed.old.items offset (update (standing defaults.old) payload.now) }
-    ensures defaults { standing defaults.new ≡ after (standing defaults.old) 8 payload.now }
+    ensures placed { placed.new.items ≡ put placed.old.items offset (update state.old payload.now) }
+    ensures state { state.new ≡ after state.old layout.update payload.now }
 {
-    if payload.len() < UPDATE_LEN {
+    if payload.len() < wire::LEN {
         return push_ignored(placed, offset, Reason::Unreadable);
     }
-    match payload[0] {
+    match payload[wire::AE] {
         AE_WILDCARD => read_wildcard(payload, offset, placed),
-        AE_IPV4 => read_update4(payload, offset, defaults, placed),
-        AE_IPV6 => read_update6(payload, offset, defaults, placed),
+        AE_IPV4 => read_update4(payload, offset, state, placed),
+        AE_IPV6 => read_update6(payload, offset, state, placed),
         _ => push_ignored(placed, offset, Reason::UnknownEncoding),
     }
 }
 
-/// An Update of every prefix, which only a retraction can be.
+/// An Update of all prefixes, which only a retraction can be.
 #[inline(never)]
 fn read_wildcard(payload: &[u8], offset: usize, placed: &mut Vec<Placed>)
-    requires fields { 10 ≤ length payload.now }
+    requires fields { layout.update_len ≤ length payload.now }
     requires room { vec_len placed.old < vec_capacity placed.old }
-    ensures { placed.new.items ≡ put placed.old.items offset (after_tail (drop 10 payload.now) (wildcard payload.now)) }
+    ensures { placed.new.items ≡ put placed.old.items offset (after_tail (drop layout.update_len payload.now) (wildcard payload.now)) }
 {
-    let metric = Metric(word(payload, 8));
-    if let Some(reason) = tail_reason(&payload[UPDATE_LEN..]) {
+    let metric = Metric(word(payload, wire::METRIC));
+    if let Some(reason) = tail_reason(&payload[wire::LEN..]) {
         push_ignored(placed, offset, reason);
-    } else if metric == Metric::INFINITE && payload[2] == 0 && payload[3] == 0 {
-        let interval = word(payload, 4);
+    } else if metric == Metric::INFINITE
+        && payload[wire::PLEN] == 0
+        && payload[wire::OMITTED] == 0
+    {
+        let interval = word(payload, wire::INTERVAL);
         push_message(placed, offset, Message::RetractAll { interval });
     } else {
         push_ignored(placed, offset, Reason::Wildcard);
@@ -71,29 +68,29 @@ fn read_wildcard(payload: &[u8], offset: usize, placed: &mut Vec<Placed>)
 /// An Update of an IPv4 prefix.
 #[inline]
 #[tactic(auto, unfolding(crate::specs::LookBack::update_address, crate::specs::NextHops::named_hop4, crate::specs::NextHops::named_hop6, crate::specs::RouterIds::named_router))]
-fn read_update4(payload: &[u8], offset: usize, defaults: &mut Defaults, placed: &mut Vec<Placed>)
-    requires fields { 10 ≤ length payload.now }
-    requires encoding { octet payload.now 0 ≡ 1 }
+fn read_update4(payload: &[u8], offset: usize, state: &mut ParserState, placed: &mut Vec<Placed>)
+    requires fields { layout.update_len ≤ length payload.now }
+    requires encoding { octet payload.now layout.update_ae ≡ layout.ae_ipv4 }
     requires room { vec_len placed.old < vec_capacity placed.old }
-    ensures placed { placed.new.items ≡ put placed.old.items offset (update4 (standing defaults.old) payload.now) }
-    ensures defaults { standing defaults.new ≡ after (standing defaults.old) 8 payload.now }
+    ensures placed { placed.new.items ≡ put placed.old.items offset (update4 state.old payload.now) }
+    ensures state { state.new ≡ after state.old layout.update payload.now }
 {
-    if !is_readable(4, payload) {
+    if !is_readable(IPV4_LEN, payload) {
         return push_ignored(placed, offset, Reason::Unreadable);
     }
-    let octets = address(defaults.default4, payload);
-    defaults.default4 = flagged(octets, SETS_DEFAULT_PREFIX, payload).or(defaults.default4);
-    defaults.router = router4(flagged(octets, SETS_ROUTER_ID, payload)).or(defaults.router);
+    let octets = address(state.default4, payload);
+    state.default4 = flagged(octets, wire::SETS_PREFIX, payload).or(state.default4);
+    state.router = router4(flagged(octets, wire::SETS_ROUTER_ID, payload)).or(state.router);
     if let Some(reason) = tail_reason(tail(payload)) {
         return push_ignored(placed, offset, reason);
     }
     match octets {
         Some(octets) => {
-            let prefix = Prefix::of(Addr::V4(octets), payload[2]);
+            let prefix = Prefix::new_unchecked(Addr::V4(octets), payload[wire::PLEN]);
             push_update(
                 prefix,
-                defaults.router,
-                defaults.hop4.map(Addr::V4),
+                state.router,
+                state.hop4.map(Addr::V4),
                 payload,
                 offset,
                 placed,
@@ -106,29 +103,29 @@ fn read_update4(payload: &[u8], offset: usize, defaults: &mut Defaults, placed: 
 /// An Update of an IPv6 prefix.
 #[inline]
 #[tactic(auto, unfolding(crate::specs::LookBack::update_address, crate::specs::NextHops::named_hop4, crate::specs::NextHops::named_hop6, crate::specs::RouterIds::named_router))]
-fn read_update6(payload: &[u8], offset: usize, defaults: &mut Defaults, placed: &mut Vec<Placed>)
-    requires fields { 10 ≤ length payload.now }
-    requires encoding { octet payload.now 0 ≡ 2 }
+fn read_update6(payload: &[u8], offset: usize, state: &mut ParserState, placed: &mut Vec<Placed>)
+    requires fields { layout.update_len ≤ length payload.now }
+    requires encoding { octet payload.now layout.update_ae ≡ layout.ae_ipv6 }
     requires room { vec_len placed.old < vec_capacity placed.old }
-    ensures placed { placed.new.items ≡ put placed.old.items offset (update6 (standing defaults.old) payload.now) }
-    ensures defaults { standing defaults.new ≡ after (standing defaults.old) 8 payload.now }
+    ensures placed { placed.new.items ≡ put placed.old.items offset (update6 state.old payload.now) }
+    ensures state { state.new ≡ after state.old layout.update payload.now }
 {
-    if !is_readable(16, payload) {
+    if !is_readable(IPV6_LEN, payload) {
         return push_ignored(placed, offset, Reason::Unreadable);
     }
-    let octets = address(defaults.default6, payload);
-    defaults.default6 = flagged(octets, SETS_DEFAULT_PREFIX, payload).or(defaults.default6);
-    defaults.router = router6(flagged(octets, SETS_ROUTER_ID, payload)).or(defaults.router);
+    let octets = address(state.default6, payload);
+    state.default6 = flagged(octets, wire::SETS_PREFIX, payload).or(state.default6);
+    state.router = router6(flagged(octets, wire::SETS_ROUTER_ID, payload)).or(state.router);
     if let Some(reason) = tail_reason(tail(payload)) {
         return push_ignored(placed, offset, reason);
     }
     match octets {
         Some(octets) => {
-            let prefix = Prefix::of(Addr::V6(octets), payload[2]);
+            let prefix = Prefix::new_unchecked(Addr::V6(octets), payload[wire::PLEN]);
             push_update(
                 prefix,
-                defaults.router,
-                defaults.hop6.map(Addr::V6),
+                state.router,
+                state.hop6.map(Addr::V6),
                 payload,
                 offset,
                 placed,
@@ -141,77 +138,93 @@ fn read_update6(payload: &[u8], offset: usize, defaults: &mut Defaults, placed: 
 /// Whether Plen isn't too large, and the octets of the prefix are there.
 #[inline]
 fn is_readable(size: usize, payload: &[u8]) -> bool
-    requires size { size ≤ 16 }
-    requires fields { 10 ≤ length payload.now }
+    requires size { size ≤ layout.ipv6_len }
+    requires fields { layout.update_len ≤ length payload.now }
     ensures value { result ≡ fields.is_readable size payload.now }
-    ensures short { IsTrue result → octet payload.now 2 ≤ 8 * size }
-    ensures there { IsTrue result → 10 + fields.written payload.now ≤ length payload.now }
+    ensures short { IsTrue result → octet payload.now layout.update_plen ≤ 8 * size }
+    ensures there { IsTrue result → layout.update_len + fields.written payload.now ≤ length payload.now }
 {
-    is_whole(size, payload[3], payload[2], UPDATE_LEN, payload)
+    is_whole(
+        size,
+        payload[wire::OMITTED],
+        payload[wire::PLEN],
+        wire::LEN,
+        payload,
+    )
 }
 
-/// What stands behind the prefix.
+/// The sub-TLVs, which follow the prefix.
 #[inline]
 fn tail(payload: &[u8]) -> &[u8]
-    requires fields { 10 ≤ length payload.now }
-    requires there { 10 + fields.written payload.now ≤ length payload.now }
-    ensures { result.now ≡ drop (10 + fields.written payload.now) payload.now }
+    requires fields { layout.update_len ≤ length payload.now }
+    requires there { layout.update_len + fields.written payload.now ≤ length payload.now }
+    ensures { result.now ≡ drop (layout.update_len + fields.written payload.now) payload.now }
 {
-    let written = octets_of(payload[2]).saturating_sub(payload[3] as usize);
-    &payload[UPDATE_LEN + written..]
+    let written = octets_of(payload[wire::PLEN]).saturating_sub(payload[wire::OMITTED] as usize);
+    &payload[wire::LEN + written..]
 }
 
-/// The octets of the prefix's address, `None` where some are omitted and there is no default prefix.
+/// The octets of the prefix's address, `None` if some are omitted and there is no default prefix.
 #[inline]
 #[tactic(auto, unfolding(crate::specs::UpdateFields::address))]
 fn address<const N: usize>(default: Option<[u8; N]>, payload: &[u8]) -> Option<[u8; N]>
-    requires fields { 10 ≤ length payload.now }
-    requires short { octet payload.now 2 ≤ 8 * N }
-    requires there { 10 + fields.written payload.now ≤ length payload.now }
+    requires fields { layout.update_len ≤ length payload.now }
+    requires short { octet payload.now layout.update_plen ≤ 8 * N }
+    requires there { layout.update_len + fields.written payload.now ≤ length payload.now }
     ensures value { result ≡ fields.address N default.entry payload.now }
-    ensures clear { IfSome result (λ octets. cleared (octet payload.now 2) octets ≡ octets) }
+    ensures clear { IfSome result (λ octets. cleared (octet payload.now layout.update_plen) octets ≡ octets) }
 {
-    let base = if payload[3] == 0 { [0; N] } else { default? };
-    Some(prefix_octets(base, payload[3], payload[2], UPDATE_LEN, payload))
+    let base = if payload[wire::OMITTED] == 0 {
+        [0; N]
+    } else {
+        default?
+    };
+    Some(prefix_octets(
+        base,
+        payload[wire::OMITTED],
+        payload[wire::PLEN],
+        wire::LEN,
+        payload,
+    ))
 }
 
-/// The address, where the Update has the flag.
+/// The address, if the Update has the flag.
 #[inline]
 fn flagged<const N: usize>(octets: Option<[u8; N]>, flag: u8, payload: &[u8]) -> Option<[u8; N]>
-    requires { 10 ≤ length payload.now }
+    requires { layout.update_len ≤ length payload.now }
     ensures { result ≡ flagged_address flag payload.now octets.entry }
 {
     let octets = octets?;
-    if has_flag(u16::from(payload[1]), u16::from(flag)) {
+    if has_flag(u16::from(payload[wire::FLAGS]), u16::from(flag)) {
         Some(octets)
     } else {
         None
     }
 }
 
-/// The router-id that an IPv4 address has: its octets behind four zeros.
+/// The router-id of an IPv4 address: its octets after four zeros.
 #[inline]
 fn router4(octets: Option<[u8; 4]>) -> Option<[u8; 8]>
-    ensures { result ≡ option_map (λ o. replicate 4 0 ++ o) octets }
+    ensures { result ≡ option_map router_of_ipv4 octets }
 {
     let octets = octets?;
-    let mut router = [0; 8];
-    router[4..].copy_from_slice(octets.as_slice());
+    let mut router = [0; ROUTER_ID_LEN];
+    router[ROUTER_ID_LEN - IPV4_LEN..].copy_from_slice(octets.as_slice());
     Some(router)
 }
 
-/// The router-id that an IPv6 address has: its last 8 octets.
+/// The router-id of an IPv6 address: its last 8 octets.
 #[inline]
 fn router6(octets: Option<[u8; 16]>) -> Option<[u8; 8]>
-    ensures { result ≡ option_map (λ o. slice_range o 8 16) octets }
+    ensures { result ≡ option_map router_of_ipv6 octets }
 {
     let octets = octets?;
-    let mut router = [0; 8];
-    router.copy_from_slice(&octets[8..16]);
+    let mut router = [0; ROUTER_ID_LEN];
+    router.copy_from_slice(&octets[IPV6_LEN - ROUTER_ID_LEN..]);
     Some(router)
 }
 
-/// What the Update says of its prefix, once that is known.
+/// The content of an Update of this prefix.
 #[inline(always)]
 #[tactic(auto, unfolding(crate::specs::Updates::update_of))]
 fn push_update(
@@ -222,12 +235,12 @@ fn push_update(
     offset: usize,
     placed: &mut Vec<Placed>,
 )
-    requires fields { 10 ≤ length payload.now }
+    requires fields { layout.update_len ≤ length payload.now }
     requires room { vec_len placed.old < vec_capacity placed.old }
     ensures { placed.new.items ≡ put placed.old.items offset (update_of prefix router next_hop payload.now) }
 {
-    let interval = word(payload, 4);
-    let metric = Metric(word(payload, 8));
+    let interval = word(payload, wire::INTERVAL);
+    let metric = Metric(word(payload, wire::METRIC));
     if metric == Metric::INFINITE {
         return push_message(placed, offset, Message::Retraction { prefix, interval });
     }
@@ -240,7 +253,7 @@ fn push_update(
     if interval == 0 {
         return push_ignored(placed, offset, Reason::ZeroInterval);
     }
-    let seqno = Seqno(word(payload, 6));
+    let seqno = Seqno(word(payload, wire::SEQNO));
     push_message(
         placed,
         offset,

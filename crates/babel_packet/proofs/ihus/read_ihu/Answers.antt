@@ -1,4 +1,4 @@
--- At the encodings that stand late in the definition's chain, what it says is read off first.
+-- The encodings that come last in the definition are read off first.
 use Rattle.std.proofs.Common.{◌≡◌, ℕ, ◌≤◌, List, length, drop, Some, nat_lt, false, refl, arith}
 use Rattle.std.proofs.lemmas.Bool.{le-ltb}
 use Rattle.std.proofs.lemmas.Slice.{between_to_end}

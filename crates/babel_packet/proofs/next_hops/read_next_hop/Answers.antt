@@ -1,4 +1,4 @@
--- The link-local encoding stands last in the definition's chain: what it says is read off first.
+-- The link-local encoding comes last in the definition, and is read off first.
 use Rattle.std.proofs.Common.{◌≡◌, ℕ, ◌≤◌, List, length, drop, nat_lt, false, refl, arith}
 use Rattle.std.proofs.lemmas.Bool.{le-ltb}
 use Rattle.std.proofs.lemmas.Slice.{between_to_end}

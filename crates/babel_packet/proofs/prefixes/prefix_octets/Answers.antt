@@ -1,5 +1,5 @@
 -- What is cleared is clear.
-use Rattle.babel_value.specs.PrefixLaws.{cleared-cleared}
+use Rattle.babel_value.proofs.PrefixLaws.{cleared-cleared}
 use Rattle.babel_packet.proofs.prefixes.prefix_octets.Goals as goal
 
 pub returns-clause-clear : goal.returns-clause-clear

@@ -1,0 +1,5 @@
+//! Tests of decoding.
+#![tactic(auto)]
+
+#[cfg(test)]
+mod packet_tests;
