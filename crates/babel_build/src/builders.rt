@@ -3,71 +3,80 @@
 ghost use Rattle.std.specs.Prelude.{◌≡◌, List, [], ◌∷◌, ◌++◌, true, drop, IsTrue};
 ghost use Rattle.std.specs.Bool.{OnTrue, OnFalse};
 ghost use Rattle.babel_packet.specs.declared.messages.Message.{Message};
-ghost use Rattle.babel_packet.specs.Sayable.{is_sayable};
-ghost use Rattle.babel_packet.specs.Says.{Means, datagram};
-ghost use Rattle.babel_build.specs.Built.{HasSaid, IsBegun, fits, added};
+ghost use Rattle.babel_packet.specs.Encodable.{is_encodable};
+ghost use Rattle.babel_packet.specs.BodyMeanings.{Means, datagram};
+ghost use Rattle.babel_build.specs.Built.{HasEncoded, IsBegun, fits, added};
 
 use crate::fields::octets_of;
-use crate::laws::plain_says;
-use crate::plain::put_message;
+use crate::messages::put_message;
 use crate::tlvs::Datagram;
 use arrayvec::ArrayVec;
-use babel_packet::{HEADER_LEN, MAGIC, Message, VERSION, says_one_more};
+use babel_packet::{
+    HEADER_LEN, MAGIC, Message, ParserState, VERSION, compressed_is_read, fields_are_whole,
+    one_more_message,
+};
 use babel_tlv::DATAGRAM_LEN;
 use babel_value::Addr;
 use std::marker::Model;
 
-/// A datagram that is being built, of at most 1,024 octets. It takes no memory.
+/// A datagram of at most 1,024 octets that is being built. It allocates nothing.
 ///
 /// A clause sees the address that it will be sent from, and the body so far.
 #[derive(Debug, Drop)]
 pub struct Builder {
     source: Addr,
     octets: Datagram,
+    state: ParserState,
 }
 
 impl Model for Builder {
     ghost use Rattle.std.specs.Prelude.{◌≡◌, ◌≤◌, drop, length};
-    ghost use Rattle.babel_build.specs.Built.{Built, IsBegun};
+    ghost use Rattle.babel_build.specs.Built.{Built, IsBegun, IsKept};
 
     ghost Value = { Built };
 
     ghost view = { λ b. record { source = b.source; body = drop 4 b.octets.items } };
 
-    ghost invariant = { λ b. IsBegun b.octets.items };
+    ghost invariant = { λ b. IsBegun b.octets.items × IsKept b.source (drop 4 b.octets.items) b.state };
 }
 
 impl Builder {
-    /// A datagram without messages, to be sent from this address: the next hop of those of its own
-    /// family that name none (RFC 8966, section 4.6.8).
+    /// A datagram without messages, to be sent from this address. A receiver takes the address as the
+    /// next hop of its family (RFC 8966, section 4.6.8).
     pub fn new(source: Addr) -> Builder
         ensures empty { result ≡ record { source = source; body = [] } }
-        ensures silent { HasSaid result [] }
+        ensures silent { HasEncoded result [] }
     {
-        says_one_more();
+        one_more_message();
         let mut octets = ArrayVec::new();
         octets.push(MAGIC);
         octets.push(VERSION);
         octets.push(0);
         octets.push(0);
-        Builder { source, octets }
+        let state = ParserState::new(source);
+        Builder {
+            source,
+            octets,
+            state,
+        }
     }
 
-    /// Adds the message, unless its TLVs don't fit: then the answer is `false`, and nothing has
-    /// changed.
+    /// Adds the message in few octets (RFC 8966, section 4.5), if its TLVs fit. Otherwise it returns
+    /// `false`, and nothing has changed.
     pub fn add(&mut self, message: &Message) -> bool
         ensures fits { result ≡ fits self.old message.now }
         ensures added { OnTrue result (self.new ≡ added self.old message.now) }
         ensures unchanged { OnFalse result (self.new ≡ self.old) }
-        // What stood said some messages: with this one it says this one behind them.
-        ensures said { (said : List Message) → HasSaid self.old said → IsTrue result → is_sayable message.now ≡ true
-            → HasSaid self.new (said ++ message.now ∷ []) }
-        // Any message fits alone.
+        // A datagram that means some messages means this message after them.
+        ensures decoded { (decoded : List Message) → HasEncoded self.old decoded → IsTrue result → is_encodable message.now ≡ true
+            → HasEncoded self.new (decoded ++ message.now ∷ []) }
+        // Any message fits into an empty datagram.
         ensures alone { self.old.body ≡ [] → IsTrue result }
     {
-        plain_says(message);
+        fields_are_whole(message);
+        compressed_is_read();
         let before = self.octets.len();
-        let fits = put_message(&mut self.octets, message);
+        let fits = put_message(&mut self.octets, &mut self.state, message);
         if !fits {
             self.octets.truncate(before);
         }
@@ -77,10 +86,10 @@ impl Builder {
     /// The datagram: the header with the length of the body, and the body.
     pub fn finish(self) -> ArrayVec<u8, DATAGRAM_LEN>
         ensures octets { result.items ≡ datagram self.body }
-        // What is built means what was added.
-        ensures means { (said : List Message) → HasSaid self said → Means result.items self.source said }
+        // The datagram means the messages that were added.
+        ensures means { (decoded : List Message) → HasEncoded self decoded → Means result.items self.source decoded }
     {
-        says_one_more();
+        one_more_message();
         with_length(self.octets)
     }
 }

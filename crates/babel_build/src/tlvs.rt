@@ -1,53 +1,49 @@
-//! Each TLV, appended to a datagram where it fits (RFC 8966, section 4.6).
+//! Each TLV, appended to a datagram if it fits (RFC 8966, section 4.6).
 
-ghost use Rattle.std.specs.Prelude.{◌≡◌, ◌<◌, ◌≤◌, [], ◌∷◌, ◌++◌, length};
+ghost use Rattle.std.specs.Prelude.{◌≡◌, ◌<◌, ◌≤◌, ◌+◌, [], ◌∷◌, ◌++◌, length};
 ghost use Rattle.std.specs.Bool.{OnTrue, OnFalse};
 ghost use Rattle.babel_tlv.specs.Spelling.{spelled};
 ghost use Rattle.babel_packet.specs.declared.messages.Message.TheVariants as messages;
-ghost use Rattle.babel_packet.specs.Payloads.{router_id_payload, next_hop_payload, two, update_payload, prefix_encoding, prefix_written};
-ghost use Rattle.babel_build.specs.Plain.{tlv_of};
-ghost use Rattle.babel_build.specs.Built.{is_room};
+ghost use Rattle.babel_packet.specs.Payloads.{router_id_payload, next_hop_payload, two, prefix_encoding, prefix_written};
+ghost use Rattle.babel_packet.specs.Compressed.{update_fields as fields_of_update, update_payload};
+ghost use Rattle.babel_build.specs.Built.{is_room, one_tlv};
 
 use crate::fields::{encoded, octets_of, prefix_encoding, reached};
+use crate::states::omitted;
 use arrayvec::ArrayVec;
+use babel_packet::layout::hello::UNICAST;
 use babel_packet::{
-    ACK, ACK_REQUEST, AE_WILDCARD, HELLO, IHU, NEXT_HOP, ROUTE_REQUEST, ROUTER_ID, SEQNO_REQUEST,
-    UPDATE,
+    ACK, ACK_REQUEST, AE_WILDCARD, HELLO, IHU, NEXT_HOP, ParserState, ROUTE_REQUEST, ROUTER_ID,
+    SEQNO_REQUEST, UPDATE,
 };
-use babel_tlv::{DATAGRAM_LEN, put};
+use babel_tlv::{DATAGRAM_LEN, MAX_PAYLOAD_LEN, TLV_HEADER_LEN};
 use babel_value::{Addr, Metric, Prefix, RouterId, Seqno};
 
 /// The datagram that is being built.
 pub(crate) type Datagram = ArrayVec<u8, DATAGRAM_LEN>;
 
-/// The most octets of the fields before an address or a prefix: those of a Seqno Request.
-const MAX_FIELDS_LEN: usize = 14;
-/// The most octets of a payload: those fields, and an IPv6 prefix.
-const MAX_PAYLOAD_LEN: usize = 30;
-
-/// The first octet of the flags of a Hello that is sent to its receiver alone (RFC 8966, section
-/// 4.6.5).
-const UNICAST: u8 = 0x80;
-
 /// Appends a TLV whose payload is the fields and then these octets.
+#[inline(always)]
 fn put_tlv(datagram: &mut Datagram, kind: u8, fields: &[u8], octets: &[u8]) -> bool
     requires kind { 0 < kind }
-    requires fields { length fields.now ≤ MAX_FIELDS_LEN }
-    requires octets { length octets.now ≤ 16 }
+    requires short { length fields.now + length octets.now ≤ MAX_PAYLOAD_LEN }
     ensures fits { result ≡ is_room datagram.old.items (spelled kind (fields.now ++ octets.now)) }
     ensures appended { OnTrue result (datagram.new.items ≡ datagram.old.items ++ spelled kind (fields.now ++ octets.now)) }
     ensures unchanged { OnFalse result (datagram.new ≡ datagram.old) }
 {
-    let mut payload: ArrayVec<u8, MAX_PAYLOAD_LEN> = ArrayVec::new();
-    payload.try_extend_from_slice(fields).unwrap();
-    payload.try_extend_from_slice(octets).unwrap();
-    put(datagram, kind, &payload)
+    let length = fields.len() + octets.len();
+    if datagram.remaining_capacity() < TLV_HEADER_LEN + length {
+        return false;
+    }
+    datagram.push(kind);
+    datagram.push(length as u8);
+    datagram.try_extend_from_slice(fields).is_ok() && datagram.try_extend_from_slice(octets).is_ok()
 }
 
 /// Appends a TLV whose payload is the fields and then the octets of the prefix.
 fn put_prefixed(datagram: &mut Datagram, kind: u8, fields: &[u8], prefix: &Prefix) -> bool
     requires kind { 0 < kind }
-    requires fields { length fields.now ≤ MAX_FIELDS_LEN }
+    requires short { length fields.now + 16 ≤ MAX_PAYLOAD_LEN }
     ensures fits { result ≡ is_room datagram.old.items (spelled kind (fields.now ++ prefix_written prefix.now)) }
     ensures appended { OnTrue result (datagram.new.items ≡ datagram.old.items ++ spelled kind (fields.now ++ prefix_written prefix.now)) }
     ensures unchanged { OnFalse result (datagram.new ≡ datagram.old) }
@@ -58,8 +54,8 @@ fn put_prefixed(datagram: &mut Datagram, kind: u8, fields: &[u8], prefix: &Prefi
 
 /// Acknowledgment Request (RFC 8966, section 4.6.3).
 pub(crate) fn put_ack_request(datagram: &mut Datagram, opaque: u16, interval: u16) -> bool
-    ensures fits { result ≡ is_room datagram.old.items (tlv_of (messages.AckRequest opaque interval)) }
-    ensures appended { OnTrue result (datagram.new.items ≡ datagram.old.items ++ tlv_of (messages.AckRequest opaque interval)) }
+    ensures fits { result ≡ is_room datagram.old.items (one_tlv (messages.AckRequest opaque interval)) }
+    ensures appended { OnTrue result (datagram.new.items ≡ datagram.old.items ++ one_tlv (messages.AckRequest opaque interval)) }
     ensures unchanged { OnFalse result (datagram.new ≡ datagram.old) }
 {
     let [o0, o1] = octets_of(opaque);
@@ -69,8 +65,8 @@ pub(crate) fn put_ack_request(datagram: &mut Datagram, opaque: u16, interval: u1
 
 /// Acknowledgment (RFC 8966, section 4.6.4).
 pub(crate) fn put_ack(datagram: &mut Datagram, opaque: u16) -> bool
-    ensures fits { result ≡ is_room datagram.old.items (tlv_of (messages.Ack opaque)) }
-    ensures appended { OnTrue result (datagram.new.items ≡ datagram.old.items ++ tlv_of (messages.Ack opaque)) }
+    ensures fits { result ≡ is_room datagram.old.items (one_tlv (messages.Ack opaque)) }
+    ensures appended { OnTrue result (datagram.new.items ≡ datagram.old.items ++ one_tlv (messages.Ack opaque)) }
     ensures unchanged { OnFalse result (datagram.new ≡ datagram.old) }
 {
     put_tlv(datagram, ACK, &octets_of(opaque), &[])
@@ -78,14 +74,14 @@ pub(crate) fn put_ack(datagram: &mut Datagram, opaque: u16) -> bool
 
 /// Hello (RFC 8966, section 4.6.5).
 pub(crate) fn put_hello(datagram: &mut Datagram, unicast: bool, seqno: Seqno, interval: u16) -> bool
-    ensures fits { result ≡ is_room datagram.old.items (tlv_of (messages.Hello unicast seqno interval)) }
-    ensures appended { OnTrue result (datagram.new.items ≡ datagram.old.items ++ tlv_of (messages.Hello unicast seqno interval)) }
+    ensures fits { result ≡ is_room datagram.old.items (one_tlv (messages.Hello unicast seqno interval)) }
+    ensures appended { OnTrue result (datagram.new.items ≡ datagram.old.items ++ one_tlv (messages.Hello unicast seqno interval)) }
     ensures unchanged { OnFalse result (datagram.new ≡ datagram.old) }
 {
-    let flags = if unicast { UNICAST } else { 0 };
+    let [f0, f1] = octets_of(if unicast { UNICAST } else { 0 });
     let [s0, s1] = octets_of(seqno.0);
     let [i0, i1] = octets_of(interval);
-    put_tlv(datagram, HELLO, &[flags, 0, s0, s1, i0, i1], &[])
+    put_tlv(datagram, HELLO, &[f0, f1, s0, s1, i0, i1], &[])
 }
 
 /// I Heard You (RFC 8966, section 4.6.6).
@@ -95,8 +91,8 @@ pub(crate) fn put_ihu(
     rxcost: Metric,
     interval: u16,
 ) -> bool
-    ensures fits { result ≡ is_room datagram.old.items (tlv_of (messages.Ihu to rxcost interval)) }
-    ensures appended { OnTrue result (datagram.new.items ≡ datagram.old.items ++ tlv_of (messages.Ihu to rxcost interval)) }
+    ensures fits { result ≡ is_room datagram.old.items (one_tlv (messages.Ihu to rxcost interval)) }
+    ensures appended { OnTrue result (datagram.new.items ≡ datagram.old.items ++ one_tlv (messages.Ihu to rxcost interval)) }
     ensures unchanged { OnFalse result (datagram.new ≡ datagram.old) }
 {
     let (encoding, octets) = match &to {
@@ -127,59 +123,72 @@ pub(crate) fn put_next_hop(datagram: &mut Datagram, next_hop: Addr) -> bool
     put_tlv(datagram, NEXT_HOP, &[encoding, 0], octets)
 }
 
-/// The fields of an Update before its prefix, without flags and omitted octets.
-fn update_fields(encoding: u8, bits: u8, interval: u16, seqno: Seqno, metric: Metric) -> [u8; 10]
-    ensures { result ≡ update_payload encoding bits interval seqno metric [] }
+/// The fields of an Update before its prefix.
+#[inline]
+fn update_fields(
+    encoding: u8,
+    flags: u8,
+    bits: u8,
+    omitted: u8,
+    interval: u16,
+    seqno: Seqno,
+    metric: Metric,
+) -> [u8; 10]
+    ensures { result ≡ fields_of_update encoding flags bits omitted interval seqno metric [] }
 {
     let [i0, i1] = octets_of(interval);
     let [s0, s1] = octets_of(seqno.0);
     let [m0, m1] = octets_of(metric.0);
-    [encoding, 0, bits, 0, i0, i1, s0, s1, m0, m1]
+    [encoding, flags, bits, omitted, i0, i1, s0, s1, m0, m1]
 }
 
-/// Update (RFC 8966, section 4.6.9), which takes its router-id and its next hop from the TLVs before
-/// it.
+/// Update (RFC 8966, section 4.6.9), without the octets of its prefix that the default prefix has.
+#[inline]
 pub(crate) fn put_update(
     datagram: &mut Datagram,
-    prefix: Prefix,
+    state: &ParserState,
+    flags: u8,
+    prefix: &Prefix,
     interval: u16,
     seqno: Seqno,
     metric: Metric,
 ) -> bool
-    ensures fits { result ≡ is_room datagram.old.items
-        (spelled 8 (update_payload (prefix_encoding prefix.addr) prefix.length interval seqno metric (prefix_written prefix))) }
+    ensures fits { result ≡ is_room datagram.old.items (spelled 8 (update_payload state.now flags prefix.now interval seqno metric)) }
     ensures appended { OnTrue result (datagram.new.items ≡ datagram.old.items
-        ++ spelled 8 (update_payload (prefix_encoding prefix.addr) prefix.length interval seqno metric (prefix_written prefix))) }
+        ++ spelled 8 (update_payload state.now flags prefix.now interval seqno metric)) }
     ensures unchanged { OnFalse result (datagram.new ≡ datagram.old) }
 {
-    let encoding = prefix_encoding(&prefix);
-    let fields = update_fields(encoding, prefix.length(), interval, seqno, metric);
-    put_prefixed(datagram, UPDATE, &fields, &prefix)
-}
-
-/// The Update that retracts a prefix (RFC 8966, section 4.6.9).
-pub(crate) fn put_retraction(datagram: &mut Datagram, prefix: Prefix, interval: u16) -> bool
-    ensures fits { result ≡ is_room datagram.old.items (tlv_of (messages.Retraction prefix interval)) }
-    ensures appended { OnTrue result (datagram.new.items ≡ datagram.old.items ++ tlv_of (messages.Retraction prefix interval)) }
-    ensures unchanged { OnFalse result (datagram.new ≡ datagram.old) }
-{
-    put_update(datagram, prefix, interval, Seqno(0), Metric::INFINITE)
+    let addr = prefix.addr();
+    let bits = prefix.length();
+    let octets = reached(&addr, bits);
+    let omitted = omitted(state, &addr, octets);
+    let encoding = prefix_encoding(prefix);
+    let fields = update_fields(
+        encoding,
+        flags,
+        bits,
+        omitted as u8,
+        interval,
+        seqno,
+        metric,
+    );
+    put_tlv(datagram, UPDATE, &fields, &octets[omitted..])
 }
 
 /// The Update that retracts all prefixes (RFC 8966, section 4.6.9).
 pub(crate) fn put_retract_all(datagram: &mut Datagram, interval: u16) -> bool
-    ensures fits { result ≡ is_room datagram.old.items (tlv_of (messages.RetractAll interval)) }
-    ensures appended { OnTrue result (datagram.new.items ≡ datagram.old.items ++ tlv_of (messages.RetractAll interval)) }
+    ensures fits { result ≡ is_room datagram.old.items (one_tlv (messages.RetractAll interval)) }
+    ensures appended { OnTrue result (datagram.new.items ≡ datagram.old.items ++ one_tlv (messages.RetractAll interval)) }
     ensures unchanged { OnFalse result (datagram.new ≡ datagram.old) }
 {
-    let fields = update_fields(AE_WILDCARD, 0, interval, Seqno(0), Metric::INFINITE);
+    let fields = update_fields(AE_WILDCARD, 0, 0, 0, interval, Seqno(0), Metric::INFINITE);
     put_tlv(datagram, UPDATE, &fields, &[])
 }
 
 /// Route Request (RFC 8966, section 4.6.10).
 pub(crate) fn put_route_request(datagram: &mut Datagram, prefix: Prefix) -> bool
-    ensures fits { result ≡ is_room datagram.old.items (tlv_of (messages.RouteRequest prefix)) }
-    ensures appended { OnTrue result (datagram.new.items ≡ datagram.old.items ++ tlv_of (messages.RouteRequest prefix)) }
+    ensures fits { result ≡ is_room datagram.old.items (one_tlv (messages.RouteRequest prefix)) }
+    ensures appended { OnTrue result (datagram.new.items ≡ datagram.old.items ++ one_tlv (messages.RouteRequest prefix)) }
     ensures unchanged { OnFalse result (datagram.new ≡ datagram.old) }
 {
     let fields = [prefix_encoding(&prefix), prefix.length()];
@@ -188,8 +197,8 @@ pub(crate) fn put_route_request(datagram: &mut Datagram, prefix: Prefix) -> bool
 
 /// The Route Request for all routes (RFC 8966, section 4.6.10).
 pub(crate) fn put_dump_request(datagram: &mut Datagram) -> bool
-    ensures fits { result ≡ is_room datagram.old.items (tlv_of messages.DumpRequest) }
-    ensures appended { OnTrue result (datagram.new.items ≡ datagram.old.items ++ tlv_of messages.DumpRequest) }
+    ensures fits { result ≡ is_room datagram.old.items (one_tlv messages.DumpRequest) }
+    ensures appended { OnTrue result (datagram.new.items ≡ datagram.old.items ++ one_tlv messages.DumpRequest) }
     ensures unchanged { OnFalse result (datagram.new ≡ datagram.old) }
 {
     put_tlv(datagram, ROUTE_REQUEST, &[AE_WILDCARD, 0], &[])
@@ -214,8 +223,8 @@ pub(crate) fn put_seqno_request(
     seqno: Seqno,
     hops: u8,
 ) -> bool
-    ensures fits { result ≡ is_room datagram.old.items (tlv_of (messages.SeqnoRequest prefix router seqno hops)) }
-    ensures appended { OnTrue result (datagram.new.items ≡ datagram.old.items ++ tlv_of (messages.SeqnoRequest prefix router seqno hops)) }
+    ensures fits { result ≡ is_room datagram.old.items (one_tlv (messages.SeqnoRequest prefix router seqno hops)) }
+    ensures appended { OnTrue result (datagram.new.items ≡ datagram.old.items ++ one_tlv (messages.SeqnoRequest prefix router seqno hops)) }
     ensures unchanged { OnFalse result (datagram.new ≡ datagram.old) }
 {
     let fields = seqno_request_fields(&prefix, router, seqno, hops);

@@ -1,0 +1,173 @@
+//! The TLVs of a message in few octets (RFC 8966, sections 4.5 and 4.6): an Update leaves out its
+//! router-id, its next hop and the first octets of its prefix if a reader has them from earlier TLVs.
+
+ghost use Rattle.std.specs.Prelude.{◌≡◌, ◌++◌, length, take};
+ghost use Rattle.std.specs.Bool.{OnTrue, OnFalse};
+ghost use Rattle.babel_packet.specs.declared.messages.Message.TheVariants as messages;
+ghost use Rattle.babel_packet.specs.Compressed as compressed;
+ghost use Rattle.babel_packet.specs.Compressed.{router_id_before, next_hop_before, state_with};
+ghost use Rattle.babel_build.specs.Built.{is_room};
+
+use crate::states::{gives_router, next_hop_is_set, router_is_set, set_default, set_origin};
+use crate::tlvs::{
+    Datagram, put_ack, put_ack_request, put_dump_request, put_hello, put_ihu, put_next_hop,
+    put_retract_all, put_route_request, put_router_id, put_seqno_request, put_update,
+};
+use babel_packet::layout::update::{SETS_PREFIX, SETS_ROUTER_ID};
+use babel_packet::{Message, ParserState};
+use babel_value::{Addr, Metric, Prefix, RouterId, Seqno};
+
+/// Appends the TLVs of a message, if they fit. Otherwise some of them may have been appended.
+pub(crate) fn put_message(
+    datagram: &mut Datagram,
+    state: &mut ParserState,
+    message: &Message,
+) -> bool
+    ensures fits { result ≡ is_room datagram.old.items (compressed.compressed state.old message.now) }
+    ensures appended { OnTrue result (datagram.new.items ≡ datagram.old.items ++ compressed.compressed state.old message.now) }
+    ensures state { OnTrue result (state.new ≡ state_with state.old message.now) }
+    ensures kept { OnFalse result (take (length datagram.old.items) datagram.new.items ≡ datagram.old.items) }
+    ensures unchanged { OnFalse result (state.new ≡ state.old) }
+{
+    match *message {
+        Message::AckRequest { opaque, interval } => put_ack_request(datagram, opaque, interval),
+        Message::Ack { opaque } => put_ack(datagram, opaque),
+        Message::Hello {
+            unicast,
+            seqno,
+            interval,
+        } => put_hello(datagram, unicast, seqno, interval),
+        Message::Ihu {
+            to,
+            rxcost,
+            interval,
+        } => put_ihu(datagram, to, rxcost, interval),
+        Message::Update {
+            prefix,
+            router,
+            next_hop,
+            seqno,
+            metric,
+            interval,
+        } => put_finite(
+            datagram, state, prefix, router, next_hop, seqno, metric, interval,
+        ),
+        Message::Retraction { prefix, interval } => {
+            put_retraction(datagram, state, prefix, interval)
+        }
+        Message::RetractAll { interval } => put_retract_all(datagram, interval),
+        Message::RouteRequest { prefix } => put_route_request(datagram, prefix),
+        Message::DumpRequest => put_dump_request(datagram),
+        Message::SeqnoRequest {
+            prefix,
+            router,
+            seqno,
+            hops,
+        } => put_seqno_request(datagram, prefix, router, seqno, hops),
+    }
+}
+
+/// Appends an Update, after a Router-Id and a Next Hop if the reader needs them.
+#[inline]
+fn put_finite(
+    datagram: &mut Datagram,
+    state: &mut ParserState,
+    prefix: Prefix,
+    router: RouterId,
+    next_hop: Addr,
+    seqno: Seqno,
+    metric: Metric,
+    interval: u16,
+) -> bool
+    ensures fits { result ≡ is_room datagram.old.items (compressed.compressed state.old (messages.Update prefix router next_hop seqno metric interval)) }
+    ensures appended { OnTrue result (datagram.new.items
+        ≡ datagram.old.items ++ compressed.compressed state.old (messages.Update prefix router next_hop seqno metric interval)) }
+    ensures state { OnTrue result (state.new
+        ≡ state_with state.old (messages.Update prefix router next_hop seqno metric interval)) }
+    ensures kept { OnFalse result (take (length datagram.old.items) datagram.new.items ≡ datagram.old.items) }
+    ensures unchanged { OnFalse result (state.new ≡ state.old) }
+{
+    let flags = flags_of(state, &prefix, router);
+    let fits = put_needed_router_id(datagram, state, &prefix, router)
+        && put_needed_next_hop(datagram, state, next_hop)
+        && put_update(datagram, state, flags, &prefix, interval, seqno, metric);
+    if fits {
+        set_origin(state, router, next_hop);
+        set_default(state, prefix.addr());
+    }
+    fits
+}
+
+/// The flags of an Update: it sets the default prefix, and the router-id if that differs and the address
+/// of the prefix gives it.
+#[inline]
+fn flags_of(state: &ParserState, prefix: &Prefix, router: RouterId) -> u8
+    ensures { result ≡ compressed.flags_of state.now prefix.now router }
+{
+    if !router_is_set(state, router) && gives_router(&prefix.addr(), router) {
+        return SETS_PREFIX | SETS_ROUTER_ID;
+    }
+    SETS_PREFIX
+}
+
+/// Appends a Router-Id, if the router-id differs and the address of the prefix doesn't give it.
+#[inline]
+fn put_needed_router_id(
+    datagram: &mut Datagram,
+    state: &ParserState,
+    prefix: &Prefix,
+    router: RouterId,
+) -> bool
+    ensures fits { result ≡ is_room datagram.old.items (router_id_before state.now prefix.now router) }
+    ensures appended { OnTrue result (datagram.new.items ≡ datagram.old.items ++ router_id_before state.now prefix.now router) }
+    ensures unchanged { OnFalse result (datagram.new ≡ datagram.old) }
+{
+    let _room = datagram.remaining_capacity();
+    if router_is_set(state, router) || gives_router(&prefix.addr(), router) {
+        return true;
+    }
+    put_router_id(datagram, router)
+}
+
+/// Appends a Next Hop, if the next hop of its family differs.
+#[inline]
+fn put_needed_next_hop(datagram: &mut Datagram, state: &ParserState, next_hop: Addr) -> bool
+    ensures fits { result ≡ is_room datagram.old.items (next_hop_before state.now next_hop) }
+    ensures appended { OnTrue result (datagram.new.items ≡ datagram.old.items ++ next_hop_before state.now next_hop) }
+    ensures unchanged { OnFalse result (datagram.new ≡ datagram.old) }
+{
+    let _room = datagram.remaining_capacity();
+    if next_hop_is_set(state, &next_hop) {
+        return true;
+    }
+    put_next_hop(datagram, next_hop)
+}
+
+/// Appends the Update that retracts a prefix.
+#[inline]
+fn put_retraction(
+    datagram: &mut Datagram,
+    state: &mut ParserState,
+    prefix: Prefix,
+    interval: u16,
+) -> bool
+    ensures fits { result ≡ is_room datagram.old.items (compressed.compressed state.old (messages.Retraction prefix interval)) }
+    ensures appended { OnTrue result (datagram.new.items
+        ≡ datagram.old.items ++ compressed.compressed state.old (messages.Retraction prefix interval)) }
+    ensures state { OnTrue result (state.new ≡ state_with state.old (messages.Retraction prefix interval)) }
+    ensures unchanged { OnFalse result ((datagram.new ≡ datagram.old) × (state.new ≡ state.old)) }
+{
+    let fits = put_update(
+        datagram,
+        state,
+        SETS_PREFIX,
+        &prefix,
+        interval,
+        Seqno(0),
+        Metric::INFINITE,
+    );
+    if fits {
+        set_default(state, prefix.addr());
+    }
+    fits
+}

@@ -1,0 +1,5 @@
+//! Tests of building datagrams.
+#![tactic(auto)]
+
+#[cfg(test)]
+mod build_tests;
