@@ -1,3 +1,6 @@
 pub mod PlaceLemmas
 pub mod PeerCmp
 pub mod TickLemmas
+pub mod DueLemmas
+pub mod LookUpLemmas
+pub mod SilenceLemmas

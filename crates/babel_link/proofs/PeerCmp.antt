@@ -1,4 +1,4 @@
--- What `cmp` answers at peers is the stated order.
+-- `cmp` of two peers is the stated order.
 use Rattle.std.proofs.Common.{◌≡◌, refl, ap}
 use Rattle.std.specs.Ordering.{ordering_then, nat_cmp}
 use Rattle.babel_value.specs.declared.addresses.Addr.{Addr}

@@ -14,14 +14,14 @@ use Rattle.babel_value.specs.declared.keys.Peer.{Peer}
 use Rattle.babel_value.specs.Orders.{peer_cmp}
 use Rattle.babel_link.specs.declared.links.Link.{Link}
 use Rattle.babel_link.specs.Neighbours.{Links, comes_before}
-use Rattle.babel_value.specs.OrderLaws.{peer_total}
+use Rattle.babel_value.proofs.OrderLaws.{peer_total}
 use Rattle.babel_link.specs.Places.{IsPlaceOf, IsGapFor}
 
 true_from_T : (b : Bool) → T b → b ≡ true
 true_from_T true t = refl
 true_from_T false t = absurd t
 
-less : (r : Ordering) → is_lt r ≡ true → r ≡ Less
+pub less : (r : Ordering) → is_lt r ≡ true → r ≡ Less
 less Less e = refl
 less Equal e = cc
 less Greater e = cc
@@ -159,7 +159,7 @@ count_above peer (e ∷ es) above =
     let first : peer_cmp e.0 peer ≡ Greater = turned peer_total e.0 peer Less (less _ (first_so (is_lt (peer_cmp peer e.0)) _ above)) in
     count_cons peer e es Greater first ∙ omega (arith, count_above peer es (second_so (is_lt (peer_cmp peer e.0)) _ above))
 
--- As many entries come before one as its place says.
+-- The place of an entry is the number of entries before it.
 pub count_before : (es : Links) → is_sorted peer_cmp es ≡ true → (i : ℕ) (d : Peer × Link) → i < length es → count_by (comes_before (get_or es i d).0) es ≡ i
 count_before [] sorted i d within = absurd (omega arith)
 count_before (e ∷ es) sorted zero d within =

@@ -35,16 +35,16 @@ module _ (now : ℕ) (es : Links) (i : ℕ) (e : Peer × Link) (within : i < len
   unfolding gone_of
   gone_of-gone goes = rw (drop-read, goes) refl
 
-  -- An entry that stays is written behind the others that stay.
+  -- An entry that stays is written after the others that stay.
   pub stays_more : (kept : ℕ) (link : Link) (whole : Links) → kept ≤ i → ticked_link now e.1 ≡ Some link → take kept es ++ tick_of now (drop i es) ≡ whole → take (kept + 1) (set es kept (e.0, link)) ++ tick_of now (drop (i + 1) (set es kept (e.0, link))) ≡ whole
-  stays_more kept link whole behind stays so_far =
+  stays_more kept link whole late stays so_far =
       let y : Peer × Link = (e.0, link) in
       rw (take_more_set es kept y (omega arith), drop-set-lt (i + 1) es kept y (omega arith), append_assoc)
       (ap (λ rest. take kept es ++ rest) (sym (tick_of-kept link stays)) ∙ so_far)
 
   -- It adds nothing to what is gone.
   pub goes_same : (kept : ℕ) (link : Link) (gone whole : List Peer) → kept ≤ i → ticked_link now e.1 ≡ Some link → gone ++ gone_of now (drop i es) ≡ whole → gone ++ gone_of now (drop (i + 1) (set es kept (e.0, link))) ≡ whole
-  goes_same kept link gone whole behind stays so_far =
+  goes_same kept link gone whole late stays so_far =
       rw (drop-set-lt (i + 1) es kept (e.0, link) (omega arith)) (ap (λ rest. gone ++ rest) (sym (gone_of-kept link stays)) ∙ so_far)
 
   -- An entry that goes leaves what stays, and is the next that is gone.
@@ -81,7 +81,7 @@ both true b p q = q
 both false b p q = cc
 
 module _ (now : ℕ) where
-  below-tick_of : (p : Peer) (es : Links) → below_all peer_cmp p es ≡ true → below_all peer_cmp p (tick_of now es) ≡ true
+  pub below-tick_of : (p : Peer) (es : Links) → below_all peer_cmp p es ≡ true → below_all peer_cmp p (tick_of now es) ≡ true
   unfolding tick_of
   below-tick_of p [] below = refl
   below-tick_of p (e ∷ es) below =

@@ -5,7 +5,7 @@ use Rattle.babel_value.specs.Seqnos.{ahead, next_seqno}
 use Rattle.babel_link.specs.declared.marks.Heard.{Heard}
 use Rattle.babel_link.specs.declared.marks.Heard.TheVariants.{Kept, Flush}
 
--- A mark for each expected Hello, newest first: true where it came, false where it was missed. And the seqno of the Hello that is expected next (RFC 8966, section 3.2.4 and appendix A.1).
+-- A mark for each expected Hello, newest first: true if it came, false if it was missed. And the seqno of the Hello that is expected next (RFC 8966, section 3.2.4 and appendix A.1).
 pub record MarksValue : Type 0 where
   pub marks : List Bool
   pub expected : ℕ
@@ -22,7 +22,7 @@ first_marks n = record { marks = true ∷ []; expected = next_seqno n }
 abbrev pub is_far : ℕ → MarksValue → Bool
 is_far n m = nat_lt 16 (ahead m.expected n) && nat_lt 16 (ahead n m.expected)
 
--- The marks before the mark of Hello n, where it isn't far away. Where it's ahead of the expected one, those between were missed; where it's behind, marks were made for Hellos that weren't due, and they go (RFC 8966, appendix A.1).
+-- The marks before the mark of Hello n, if it isn't far away. If it's ahead of the expected one, those between were missed. If it's late, marks were made for Hellos that weren't due, and they go (RFC 8966, appendix A.1).
 abbrev pub marks_before : ℕ → MarksValue → List Bool
 marks_before n m =
     if nat_le (ahead m.expected n) 16 then replicate (ahead m.expected n) false ++ m.marks
@@ -34,7 +34,7 @@ heard_marks n m =
     if is_far n m then first_marks n
     else record { marks = newest (true ∷ marks_before n m); expected = next_seqno n }
 
--- What a later Hello with seqno n says of the neighbour: a Hello that is far away flushes it (RFC 8966, appendix A.1).
+-- What a later Hello with seqno n means for the neighbour: a Hello that is far away flushes it (RFC 8966, appendix A.1).
 unfoldable pub heard_verdict : ℕ → MarksValue → Heard
 heard_verdict n m = if is_far n m then Flush else Kept
 

@@ -5,4 +5,3 @@ pub mod WordLaws
 pub mod Links
 pub mod Neighbours
 pub mod Places
-pub mod Examples

@@ -1,13 +1,13 @@
 -- What is known of one neighbour, and how Hellos, IHUs and time change it (RFC 8966, sections 3.2.4, 3.4.1 and 3.4.2).
-use Rattle.std.specs.Prelude.{ℕ, Bool, true, false, ◌||◌, nat_le, ◌==◌, Option, Some, None, if◌then◌else◌}
+use Rattle.std.specs.Prelude.{◌≡◌, ◌<◌, ℕ, Bool, true, false, ◌||◌, nat_le, ◌==◌, Option, Some, None, is_some, IsTrue, IsFalse, if◌then◌else◌}
 use Rattle.std.specs.Option.{option_map, option_map_or, option_and_then}
 use Rattle.babel_link.specs.declared.links.Timer.{Timer}
 use Rattle.babel_link.specs.declared.links.History.{History}
 use Rattle.babel_link.specs.declared.links.Link.{Link}
 use Rattle.babel_link.specs.declared.marks.Heard.{Heard}
 use Rattle.babel_link.specs.declared.marks.Heard.TheVariants.{Kept}
-use Rattle.babel_value.specs.Moments.{later}
-use Rattle.babel_link.specs.Moments.{hello_patience, ihu_patience}
+use Rattle.babel_value.specs.Moments.{later, hold_time}
+use Rattle.babel_link.specs.Moments.{hello_patience}
 use Rattle.babel_link.specs.Histories.{is_far, first_marks, heard_marks, heard_verdict, missed_marks, is_up, has_received}
 
 -- A neighbour of which nothing is known: no Hello of either kind, no IHU (RFC 8966, section 3.2.4).
@@ -23,7 +23,7 @@ with_history unicast history link = if unicast then record link { unicast = hist
 
 -- ---- a Hello (RFC 8966, section 3.4.1)
 
--- The timer after a Hello: an interval of 0 says nothing of the next Hello (RFC 8966, section 4.6.5 and appendix A.1).
+-- The timer after a Hello: one with interval 0 leaves it (RFC 8966, section 4.6.5 and appendix A.1).
 abbrev pub hello_timer : ℕ → ℕ → Option Timer → Option Timer
 hello_timer now interval timer =
     if interval == 0 then timer else Some (record { interval = interval; due = later now (hello_patience interval) })
@@ -41,7 +41,7 @@ abbrev pub next_history : ℕ → ℕ → ℕ → Option History → History
 next_history now n interval None = first_history now n interval
 next_history now n interval (Some h) = later_history now n interval h
 
--- What a Hello with seqno n says of the neighbour: the first one of a kind keeps it (RFC 8966, appendix A.1).
+-- What a Hello with seqno n means for the neighbour: the first one of a kind keeps it (RFC 8966, appendix A.1).
 unfoldable pub link_verdict : Bool → ℕ → Link → Heard
 link_verdict unicast n link = option_map_or (λ h. heard_verdict n h.marks) (history_of unicast link) Kept
 
@@ -49,7 +49,7 @@ link_verdict unicast n link = option_map_or (λ h. heard_verdict n h.marks) (his
 abbrev pub is_flushed_by : Bool → ℕ → Link → Bool
 is_flushed_by unicast n link = option_map_or (λ h. is_far n h.marks) (history_of unicast link) false
 
--- The link after a Hello. A neighbour that it flushes is made anew by it (RFC 8966, section 3.4.1 and appendix A.1).
+-- The link after a Hello. It makes a neighbour that it flushes again (RFC 8966, section 3.4.1 and appendix A.1).
 unfoldable pub hello_link : ℕ → Bool → ℕ → ℕ → Link → Link
 hello_link now unicast n interval link =
     with_history unicast (Some (next_history now n interval (history_of unicast link)))
@@ -60,15 +60,15 @@ hello_link now unicast n interval link =
 -- The link after an IHU: its rxcost there is the txcost here (RFC 8966, section 3.4.2).
 unfoldable pub ihu_link : ℕ → ℕ → ℕ → Link → Link
 ihu_link now rxcost interval link =
-    record link { txcost = rxcost; txcost_due = Some (later now (ihu_patience interval)) }
+    record link { txcost = rxcost; txcost_due = Some (later now (hold_time interval)) }
 
 -- ---- a tick (RFC 8966, sections 3.4.1 and 3.4.2, appendix A.1)
 
--- The timer set anew by a deadline that fired: from now on, and by the whole interval (RFC 8966, appendix A.1).
+-- The timer that a fired deadline sets again: from now on, and by the whole interval (RFC 8966, appendix A.1).
 abbrev pub again : ℕ → Timer → Timer
 again now timer = record { interval = timer.interval; due = later now timer.interval }
 
--- A history whose deadline is due, after it fired: the expected Hello was missed (RFC 8966, appendix A.1). None where no deadline is due.
+-- A history whose deadline is due, after it fired: the expected Hello was missed (RFC 8966, appendix A.1). None if no deadline is due.
 unfoldable pub fired_history : ℕ → History → Option History
 fired_history now h =
     option_and_then
@@ -83,22 +83,44 @@ is_heard history = option_map_or (λ h. has_received h.marks.marks) history fals
 unfoldable pub unless_silent : Link → Option Link
 unless_silent link = if is_heard link.multicast || is_heard link.unicast then Some link else None
 
--- The link after a tick took one kind's deadline. None: the neighbour is flushed, which is tested where the deadline fired (RFC 8966, appendix A.1).
+-- The link after a tick handled one kind's deadline. None: the neighbour is flushed, which is tested if the deadline fired (RFC 8966, appendix A.1).
 unfoldable pub fired_link : ℕ → Bool → Link → Option Link
 fired_link now unicast link =
     option_map_or (λ h. unless_silent (with_history unicast (Some h) link))
     (option_and_then (fired_history now) (history_of unicast link)) (Some link)
 
--- The link after a tick took the deadline of the txcost (RFC 8966, section 3.4.2).
+-- The txcost is too old (RFC 8966, section 3.4.2).
+abbrev pub is_txcost_due : ℕ → Link → Bool
+is_txcost_due now link = option_map_or (λ due. nat_le due now) link.txcost_due false
+
+-- The link after a tick handled the deadline of the txcost (RFC 8966, section 3.4.2).
 unfoldable pub expired_link : ℕ → Link → Link
 expired_link now link =
-    if option_map_or (λ due. nat_le due now) link.txcost_due false
+    if is_txcost_due now link
     then record link { txcost = 65535; txcost_due = None } else link
 
 -- The link after a tick: first the multicast Hellos, then the unicast ones, then the txcost (profile). None: the neighbour is flushed.
 unfoldable pub ticked_link : ℕ → Link → Option Link
 ticked_link now link =
     option_map (expired_link now) (option_and_then (fired_link now true) (fired_link now false link))
+
+-- A deadline of Hellos is due: the history fires (RFC 8966, appendix A.1).
+abbrev pub is_hello_due : ℕ → Option History → Bool
+is_hello_due now history = is_some (option_and_then (fired_history now) history)
+
+-- The history after its deadline fired, if that is due (RFC 8966, appendix A.1).
+abbrev pub after_deadline : ℕ → Option History → Option History
+after_deadline now history = if is_hello_due now history then option_and_then (fired_history now) history else history
+
+-- A deadline of Hellos is due, and after it no Hello of either kind is remembered (RFC 8966, appendix A.1).
+abbrev pub FallsSilent : ℕ → Link → Type 0
+FallsSilent now link =
+    IsTrue (is_hello_due now link.multicast || is_hello_due now link.unicast)
+    × IsFalse (is_heard (after_deadline now link.multicast) || is_heard (after_deadline now link.unicast))
+
+-- No deadline of the link is due before the moment: a tick leaves the link as it is (profile).
+abbrev pub IsQuietUntil : ℕ → Link → Type 0
+IsQuietUntil moment link = (now : ℕ) → now < moment → ticked_link now link ≡ Some link
 
 -- ---- costs (RFC 8966, appendix A.2.1)
 
@@ -110,6 +132,6 @@ is_up_history history = option_map_or (λ h. is_up h.marks.marks) history false
 unfoldable pub link_rxcost : ℕ → Link → ℕ
 link_rxcost nominal link = if is_up_history link.multicast || is_up_history link.unicast then nominal else 65535
 
--- The cost of the link: infinity where receiving costs that, else the cost of sending (RFC 8966, appendix A.2.1).
+-- The cost of the link: infinity if receiving costs that, else the cost of sending (RFC 8966, appendix A.2.1).
 unfoldable pub link_cost : ℕ → Link → ℕ
 link_cost nominal link = if link_rxcost nominal link == 65535 then 65535 else link.txcost

@@ -1,5 +1,5 @@
 -- The neighbours: a map from peers to links, as the list of its entries in the order of the peers (RFC 8966, section 3.2.4).
-use Rattle.std.specs.Prelude.{ℕ, Bool, true, ◌&&◌, List, [], ◌∷◌, map, filter, Option, is_none, IsTrue}
+use Rattle.std.specs.Prelude.{◌≡◌, ◌≢◌, ℕ, Bool, true, ◌&&◌, List, [], ◌∷◌, map, filter, Option, is_none, IsTrue, All}
 use Rattle.std.specs.List.{filter_map, list_all}
 use Rattle.std.specs.Option.{option_map, option_map_or, unwrap_or}
 use Rattle.std.specs.Ordering.{is_lt}
@@ -8,12 +8,12 @@ use Rattle.babel_value.specs.declared.keys.Peer.{Peer}
 use Rattle.babel_value.specs.Orders.{peer_cmp}
 use Rattle.babel_link.specs.declared.links.Link.{Link}
 use Rattle.babel_link.specs.declared.marks.Heard.{Heard}
-use Rattle.babel_link.specs.Links.{new_link, hello_link, link_verdict, ihu_link, ticked_link, link_rxcost, link_cost}
+use Rattle.babel_link.specs.Links.{new_link, hello_link, link_verdict, ihu_link, ticked_link, IsQuietUntil, link_rxcost, link_cost}
 
 abbrev pub Links : Type 0
 Links = List (Peer × Link)
 
--- What is known of the peer: nothing, where it's no neighbour (RFC 8966, section 3.2.4).
+-- What is known of the peer: nothing, if it's no neighbour (RFC 8966, section 3.2.4).
 abbrev pub link_of : Peer → Links → Link
 link_of peer links = unwrap_or (find peer_cmp peer links) new_link
 
@@ -22,11 +22,11 @@ unfoldable pub hello_of : ℕ → Peer → Bool → ℕ → ℕ → Links → Li
 hello_of now peer unicast n interval links =
     put peer_cmp peer (hello_link now unicast n interval (link_of peer links)) links
 
--- What a Hello with seqno n says of the peer: the neighbour is flushed, and so its route entries go (profile), or it's kept.
+-- What a Hello with seqno n means for the peer: the neighbour is flushed, and so its route entries go (profile), or it's kept.
 unfoldable pub hello_verdict : Peer → Bool → ℕ → Links → Heard
 hello_verdict peer unicast n links = link_verdict unicast n (link_of peer links)
 
--- The neighbours after an IHU: nothing changes where its sender is none (RFC 8966, section 3.4.2).
+-- The neighbours after an IHU: nothing changes if its sender is none (RFC 8966, section 3.4.2).
 unfoldable pub ihu_of : ℕ → Peer → ℕ → ℕ → Links → Links
 ihu_of now peer rxcost interval links =
     option_map_or (λ link. put peer_cmp peer (ihu_link now rxcost interval link) links) (find peer_cmp peer links) links
@@ -48,7 +48,11 @@ peers_of links = map (λ e. e.0) links
 unfoldable pub gone_of : ℕ → Links → List Peer
 gone_of now links = peers_of (filter (is_gone now) links)
 
--- The costs of a peer's link, infinite where it's no neighbour (RFC 8966, appendix A.2.1).
+-- No deadline of a neighbour is due before the moment (profile).
+abbrev pub AreQuietUntil : ℕ → Links → Type 0
+AreQuietUntil moment links = All (λ e. IsQuietUntil moment e.1) links
+
+-- The costs of a peer's link, infinite if it's no neighbour (RFC 8966, appendix A.2.1).
 unfoldable pub rxcost_of : Peer → ℕ → Links → ℕ
 rxcost_of peer nominal links = option_map_or (link_rxcost nominal) (find peer_cmp peer links) 65535
 
@@ -67,3 +71,7 @@ comes_before peer e = is_lt (peer_cmp e.0 peer)
 -- A change of the neighbours that leaves them in the order of the peers (profile).
 abbrev pub KeepsOrder : (Links → Links) → Type 0
 KeepsOrder change = (links : Links) → IsTrue (is_sorted peer_cmp links) → IsTrue (is_sorted peer_cmp (change links))
+
+-- No other neighbour than this one differs (profile).
+abbrev pub ChangesOnly : Peer → Links → Links → Type 0
+ChangesOnly peer old new = (q : Peer) → q ≢ peer → find peer_cmp q new ≡ find peer_cmp q old

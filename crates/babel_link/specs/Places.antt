@@ -1,4 +1,4 @@
--- Where a peer stands, or would stand, among the neighbours (profile).
+-- The place of a peer among the neighbours, or the gap for it (profile).
 use Rattle.std.specs.Prelude.{◌≡◌, ℕ, ◌<◌, ◌≤◌, Some, None, length, insert, slice_set, slice_index_or}
 use Rattle.std.specs.FinMap.{find, put}
 use Rattle.babel_value.specs.declared.keys.Peer.{Peer}

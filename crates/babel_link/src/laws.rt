@@ -1,12 +1,13 @@
-//! Laws of the neighbours and examples worked by hand, each the contract of a function that does
-//! nothing.
+//! Laws of the neighbours, each the contract of a function that does nothing.
 
-ghost use Rattle.std.specs.Prelude.{◌≡◌, ℕ, Bool, true, false, [], ◌∷◌, IsTrue};
+ghost use Rattle.std.specs.Prelude.{◌≡◌, ◌<◌, ◌↔◌, ℕ, Bool, [], Some, IsNone, IsTrue, if◌then◌else◌};
+ghost use Rattle.std.specs.FinMap.{find, is_sorted};
+ghost use Rattle.std.specs.Option.{option_map, option_and_then};
+ghost use Rattle.babel_value.specs.Orders.{peer_cmp};
 ghost use Rattle.babel_value.specs.declared.keys.Peer.{Peer};
-ghost use Rattle.babel_link.specs.declared.marks.Heard.TheVariants.{Kept, Flush};
-ghost use Rattle.babel_link.specs.Histories.{heard_marks, heard_verdict, is_up};
-ghost use Rattle.babel_link.specs.Neighbours.{KeepsOrder, hello_of, ihu_of, tick_of, cost_of};
-ghost use Rattle.babel_link.specs.Examples.{three_hellos, five_marks, marks_with, one_of_sixteen, neighbour, after_hello, only_multicast, after_ihu};
+ghost use Rattle.babel_link.specs.declared.links.Link.{Link};
+ghost use Rattle.babel_link.specs.Links.{hello_link, ihu_link, ticked_link, is_txcost_due, FallsSilent};
+ghost use Rattle.babel_link.specs.Neighbours.{Links, KeepsOrder, ChangesOnly, AreQuietUntil, link_of, gone_of, hello_of, ihu_of, tick_of};
 
 /// Each change leaves the neighbours in the order of the peers.
 pub fn neighbours_stay_in_order()
@@ -15,31 +16,26 @@ pub fn neighbours_stay_in_order()
     ensures tick { (now : ℕ) → KeepsOrder (tick_of now) }
 {}
 
-/// The numbers of the Hellos 65534, 0 and 2 go round the circle; then one that is 16 past the
-/// expected one is kept, and one that is 17 past it flushes.
-#[tactic(auto, unfolding(crate::specs::Histories::heard_marks, crate::specs::Histories::heard_verdict, crate::specs::Histories::is_up))]
-pub fn worked_marks()
-    ensures three { three_hellos ≡ marks_with five_marks 3 }
-    ensures up { IsTrue (is_up five_marks) }
-    ensures near { heard_verdict 19 three_hellos ≡ Kept }
-    ensures near_marks { heard_marks 19 three_hellos ≡ marks_with one_of_sixteen 20 }
-    ensures down { is_up one_of_sixteen ≡ false }
-    ensures far { heard_verdict 20 three_hellos ≡ Flush }
-    ensures far_marks { heard_marks 20 three_hellos ≡ marks_with (true ∷ []) 21 }
+/// A Hello and an IHU change their own neighbour alone, and a tick each neighbour by itself.
+pub fn neighbours_by_their_peers()
+    ensures hello { (now : ℕ) (peer : Peer) (unicast : Bool) (n interval : ℕ) (links : Links)
+        → find peer_cmp peer (hello_of now peer unicast n interval links) ≡ Some (hello_link now unicast n interval (link_of peer links)) }
+    ensures hello_alone { (now : ℕ) (peer : Peer) (unicast : Bool) (n interval : ℕ) (links : Links)
+        → ChangesOnly peer links (hello_of now peer unicast n interval links) }
+    ensures ihu { (now : ℕ) (peer : Peer) (rxcost interval : ℕ) (links : Links)
+        → find peer_cmp peer (ihu_of now peer rxcost interval links) ≡ option_map (ihu_link now rxcost interval) (find peer_cmp peer links) }
+    ensures ihu_alone { (now : ℕ) (peer : Peer) (rxcost interval : ℕ) (links : Links)
+        → ChangesOnly peer links (ihu_of now peer rxcost interval links) }
+    ensures tick { (now : ℕ) (peer : Peer) (links : Links) → IsTrue (is_sorted peer_cmp links)
+        → find peer_cmp peer (tick_of now links) ≡ option_and_then (ticked_link now) (find peer_cmp peer links) }
 {}
 
-/// A Hello with interval 401 at moment 0 is missed from 601 on, and the next one 401 later.
-#[tactic(auto, unfolding(crate::specs::Histories::missed_marks, crate::specs::Histories::has_received, crate::specs::Links::hello_link, crate::specs::Links::fired_history, crate::specs::Links::fired_link, crate::specs::Links::unless_silent, crate::specs::Links::expired_link, crate::specs::Links::ticked_link, crate::specs::Neighbours::hello_of, crate::specs::Neighbours::tick_of))]
-pub fn worked_deadline()
-    ensures made { after_hello ≡ only_multicast (true ∷ []) 8 601 }
-    ensures before { tick_of 600 after_hello ≡ after_hello }
-    ensures due { tick_of 601 after_hello ≡ only_multicast (false ∷ true ∷ []) 9 1002 }
-{}
-
-/// An IHU of rxcost 96 with interval 1200 at moment 0 stands until 4199.
-#[tactic(auto, unfolding(crate::specs::Histories::heard_marks, crate::specs::Histories::is_up, crate::specs::Links::later_history, crate::specs::Links::hello_link, crate::specs::Links::ihu_link, crate::specs::Links::fired_history, crate::specs::Links::fired_link, crate::specs::Links::expired_link, crate::specs::Links::ticked_link, crate::specs::Links::link_rxcost, crate::specs::Links::link_cost, crate::specs::Neighbours::hello_of, crate::specs::Neighbours::ihu_of, crate::specs::Neighbours::tick_of, crate::specs::Neighbours::cost_of))]
-pub fn worked_ihu()
-    ensures now { cost_of neighbour 100 after_ihu ≡ 96 }
-    ensures stands { cost_of neighbour 100 (tick_of 4199 after_ihu) ≡ 96 }
-    ensures due { cost_of neighbour 100 (tick_of 4200 after_ihu) ≡ 65535 }
+/// What a tick makes of one neighbour. It goes if and only if a deadline of Hellos is due and then no Hello
+/// is remembered. Its txcost is infinite from the tick at which that is due.
+pub fn neighbours_fall_silent()
+    ensures gone { (now : ℕ) (link : Link) → IsNone (ticked_link now link) ↔ FallsSilent now link }
+    ensures txcost { (now : ℕ) (link after : Link) → ticked_link now link ≡ Some after
+        → after.txcost ≡ (if is_txcost_due now link then 65535 else link.txcost) }
+    ensures nothing_due { (now moment : ℕ) (links : Links) → AreQuietUntil moment links → now < moment
+        → (tick_of now links ≡ links) × (gone_of now links ≡ []) }
 {}

@@ -1,11 +1,12 @@
 //! The links of a Babel speaker (RFC 8966): which neighbours it hears, and what their links cost.
 //!
-//! A neighbour is made by a Hello. It has a history of the multicast and one of the unicast Hellos
-//! that came or were missed, and the cost that its last IHU told. Moments are centiseconds, handed
-//! in by the caller in any order. Nothing here knows of datagrams, routes or sockets, and only
+//! A Hello makes a neighbour. The neighbour has a history of the multicast and one of the unicast Hellos
+//! that came or were missed, and the cost that its last IHU advertised. Moments are centiseconds, given
+//! by the caller in any order. Nothing here knows of datagrams, routes or sockets, and only
 //! `Neighbours::new` takes memory.
 #![tactic(auto)]
 
+mod errors;
 mod laws;
 mod links;
 mod marks;
@@ -13,11 +14,10 @@ mod neighbours;
 mod peers;
 mod words;
 
-pub use laws::{neighbours_stay_in_order, worked_deadline, worked_ihu, worked_marks};
+pub use babel_value::Memory;
+pub use errors::Full;
+pub use laws::{neighbours_by_their_peers, neighbours_fall_silent, neighbours_stay_in_order};
 pub use links::{History, Link, Timer};
 pub use marks::{Heard, Marks};
-pub use neighbours::{Full, MAX_NEIGHBOURS, Memory, Neighbours};
+pub use neighbours::{MAX_NEIGHBOURS, Neighbours};
 pub use peers::Peers;
-
-#[cfg(test)]
-mod tests;

@@ -1,9 +1,10 @@
 //! What is known of one neighbour (RFC 8966, section 3.2.4).
 
-ghost use Rattle.std.specs.Prelude.{◌≡◌, Some, None};
-ghost use Rattle.babel_link.specs.Links.{new_link, history_of, with_history, hello_timer, first_history, later_history, fired_history, link_verdict, hello_link, ihu_link, unless_silent, fired_link, expired_link, ticked_link, link_rxcost, link_cost, is_heard, is_up_history};
-ghost use Rattle.babel_value.specs.Moments.{later};
-ghost use Rattle.babel_link.specs.Moments.{hello_patience, ihu_patience};
+ghost use Rattle.std.specs.Prelude.{◌≡◌, ◌<◌, ℕ, false, Some, None};
+ghost use Rattle.std.specs.Option.{option_and_then, option_map_or};
+ghost use Rattle.babel_link.specs.Links.{new_link, history_of, with_history, hello_timer, first_history, later_history, fired_history, link_verdict, hello_link, ihu_link, unless_silent, fired_link, expired_link, ticked_link, link_rxcost, link_cost, is_heard, is_up_history, is_txcost_due, IsQuietUntil};
+ghost use Rattle.babel_value.specs.Moments.{later, hold_time};
+ghost use Rattle.babel_link.specs.Moments.{hello_patience};
 ghost use Rattle.babel_link.specs.Histories.{heard_verdict};
 
 use crate::{Heard, Marks};
@@ -12,7 +13,7 @@ use babel_value::{Metric, Seqno};
 /// When the next Hello is missed.
 #[derive(Clone, Copy, Debug)]
 pub struct Timer {
-    /// The interval that the sender told, in centiseconds. It is not 0.
+    /// The interval that the sender advertised, in centiseconds. It is not 0.
     pub interval: u16,
     /// The moment from which the Hello is missed.
     pub due: u64,
@@ -34,7 +35,7 @@ pub struct Link {
     pub multicast: Option<History>,
     /// The unicast Hellos, once there was one.
     pub unicast: Option<History>,
-    /// The cost of sending: the rxcost that the neighbour's last IHU told.
+    /// The cost of sending: the rxcost that the neighbour's last IHU advertised.
     pub txcost: Metric,
     /// The moment from which that is too old.
     pub txcost_due: Option<u64>,
@@ -69,7 +70,7 @@ impl History {
         }
     }
 
-    /// Takes a later Hello.
+    /// Handles a later Hello.
     #[tactic(auto, unfolding(crate::specs::Links::later_history, crate::specs::Histories::heard_verdict))]
     fn hello(&mut self, now: u64, seqno: Seqno, interval: u16) -> Heard
         ensures verdict { result ≡ heard_verdict seqno self.old.marks }
@@ -98,6 +99,19 @@ impl History {
         let due = later_by(now, u64::from(timer.interval));
         let timer = Some(Timer { due, ..timer });
         Some(History { marks, timer })
+    }
+}
+
+/// The moment from which the next Hello of the history is missed; the greatest one if it is not known.
+fn hello_due(history: Option<History>) -> u64
+    ensures { (now : ℕ) → now < result → option_and_then (fired_history now) history ≡ None }
+{
+    match history {
+        Some(history) => match history.timer {
+            Some(timer) => timer.due,
+            None => u64::MAX,
+        },
+        None => u64::MAX,
     }
 }
 
@@ -161,7 +175,7 @@ impl Link {
         }
     }
 
-    /// Takes a Hello. One that flushes the neighbour makes it anew.
+    /// Handles a Hello. One that flushes the neighbour makes it again.
     #[tactic(auto, unfolding(crate::specs::Links::hello_link, crate::specs::Links::link_verdict, crate::specs::Histories::heard_verdict))]
     pub(crate) fn hello(&mut self, now: u64, unicast: bool, seqno: Seqno, interval: u16) -> Heard
         ensures verdict { result ≡ link_verdict unicast seqno self.old }
@@ -180,7 +194,7 @@ impl Link {
         heard
     }
 
-    /// Takes an IHU.
+    /// Handles an IHU.
     #[tactic(auto, unfolding(crate::specs::Links::ihu_link))]
     pub(crate) fn ihu(&mut self, now: u64, rxcost: Metric, interval: u16)
         ensures { self.new ≡ ihu_link now rxcost interval self.old }
@@ -201,7 +215,7 @@ impl Link {
         }
     }
 
-    /// The link after one kind's deadline was taken; `None` where that flushes the neighbour.
+    /// The link after one kind's deadline was handled; `None` if that flushes the neighbour.
     #[tactic(auto, unfolding(crate::specs::Links::fired_link))]
     fn fired(self, now: u64, unicast: bool) -> Option<Link>
         ensures { result ≡ fired_link now unicast self }
@@ -215,7 +229,7 @@ impl Link {
         }
     }
 
-    /// The link after the deadline of the txcost was taken.
+    /// The link after the deadline of the txcost was handled.
     #[tactic(auto, unfolding(crate::specs::Links::expired_link))]
     fn expired(self, now: u64) -> Link
         ensures { result ≡ expired_link now self }
@@ -230,7 +244,7 @@ impl Link {
         }
     }
 
-    /// The link after a tick; `None` where that flushes the neighbour.
+    /// The link after a tick; `None` if that flushes the neighbour.
     #[tactic(auto, unfolding(crate::specs::Links::ticked_link))]
     pub(crate) fn ticked(self, now: u64) -> Option<Link>
         ensures { result ≡ ticked_link now self }
@@ -238,6 +252,25 @@ impl Link {
         let link = self.fired(now, false)?;
         let link = link.fired(now, true)?;
         Some(link.expired(now))
+    }
+
+    /// The moment from which the txcost is too old; the greatest one if there is none.
+    fn txcost_due(&self) -> u64
+        ensures { (now : ℕ) → now < result → is_txcost_due now self.now ≡ false }
+    {
+        match self.txcost_due {
+            Some(due) => due,
+            None => u64::MAX,
+        }
+    }
+
+    /// A moment before which no deadline is due.
+    pub(crate) fn due(&self) -> u64
+        ensures { IsQuietUntil result self.now }
+    {
+        hello_due(self.multicast)
+            .min(hello_due(self.unicast))
+            .min(self.txcost_due())
     }
 
     /// The cost of receiving from the neighbour.

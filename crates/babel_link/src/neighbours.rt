@@ -1,38 +1,29 @@
 //! The table of neighbours (RFC 8966, section 3.2.4).
 
-ghost use Rattle.std.specs.Prelude.{◌≡◌, ◌+◌, ◌<◌, ◌≤◌, ◌↔◌, [], IsTrue, IsErr, IfOk, IfErr, OnOk, OnErr, IsNone, length, IfSome, is_some, count_by, insert, slice_get};
+ghost use Rattle.std.specs.Prelude.{◌≡◌, ◌+◌, ◌<◌, ◌≤◌, ◌↔◌, [], IsTrue, IsFalse, IsErr, IfOk, IfErr, OnOk, OnErr, IsNone, length, IfSome, is_some, count_by, insert, slice_get};
 ghost use Rattle.std.specs.FinMap.{find, put, is_sorted};
 ghost use Rattle.std.specs.Option.{option_map};
 ghost use Rattle.std.specs.Vec.{vec_len, vec_capacity};
 ghost use Rattle.babel_value.specs.Orders.{peer_cmp};
-ghost use Rattle.babel_link.specs.Neighbours.{link_of, hello_of, hello_verdict, ihu_of, tick_of, gone_of, rxcost_of, cost_of, are_ascending, comes_before, peers_of};
+ghost use Rattle.babel_link.specs.Neighbours.{link_of, hello_of, hello_verdict, ihu_of, tick_of, gone_of, rxcost_of, cost_of, are_ascending, comes_before, peers_of, AreQuietUntil};
 ghost use Rattle.babel_link.specs.Places.{IsPlaceOf, IsGapFor};
 
-use crate::{Heard, Link, Peers};
+use crate::{Full, Heard, Link, Memory, Peers};
 use arrayvec::ArrayVec;
 use babel_value::{Metric, Peer, Seqno};
 use std::alloc::Global;
 use std::marker::Model;
-use thiserror::Error;
 
 /// How many neighbours there is room for.
 pub const MAX_NEIGHBOURS: usize = 64;
-
-/// Memory ran out.
-#[derive(Clone, Copy, Debug, PartialEq, Eq, Error)]
-#[error("out of memory")]
-pub struct Memory;
-
-/// There is no room for another neighbour.
-#[derive(Clone, Copy, Debug, PartialEq, Eq, Error)]
-#[error("too many neighbours")]
-pub struct Full;
 
 /// The neighbours of a speaker, at most 64. A clause sees the list of the peers with what is known
 /// of each, in the order of the peers.
 #[derive(Debug, Drop)]
 pub struct Neighbours {
     links: Vec<(Peer, Link)>,
+    /// Before this moment no deadline is due.
+    due: u64,
 }
 
 impl Model for Neighbours {
@@ -40,13 +31,13 @@ impl Model for Neighbours {
     ghost use Rattle.std.specs.FinMap.{is_sorted};
     ghost use Rattle.std.specs.Vec.{vec_len, vec_capacity};
     ghost use Rattle.babel_value.specs.Orders.{peer_cmp};
-    ghost use Rattle.babel_link.specs.Neighbours.{Links};
+    ghost use Rattle.babel_link.specs.Neighbours.{Links, AreQuietUntil};
 
     ghost Value = { Links };
 
     ghost view = { λ n. n.links.items };
 
-    ghost invariant = { λ n. (vec_len n.links ≤ 64) × (64 ≤ vec_capacity n.links) × IsTrue (is_sorted peer_cmp n.links.items) };
+    ghost invariant = { λ n. (vec_len n.links ≤ 64) × (64 ≤ vec_capacity n.links) × IsTrue (is_sorted peer_cmp n.links.items) × AreQuietUntil n.due n.links.items };
 }
 
 /// Inserts into a vector that has room, which takes no memory.
@@ -60,20 +51,23 @@ fn insert_reserved<T: Drop>(items: &mut Vec<T>, place: usize, item: T)
     items.insert(place, item).unwrap()
 }
 
-/// Takes the deadlines of the neighbours, in one pass.
-fn tick_links(links: &mut Vec<(Peer, Link)>, now: u64, gone: &mut ArrayVec<Peer, 64>)
+/// Handles the deadlines of the neighbours, in one pass. Returns a moment before which none is due again.
+fn tick_links(links: &mut Vec<(Peer, Link)>, now: u64, gone: &mut ArrayVec<Peer, 64>) -> u64
     requires { vec_len links.old ≤ 64 }
     ensures links { links.new.items ≡ tick_of now links.old.items }
     ensures gone { gone.new.items ≡ gone_of now links.old.items }
     ensures len { vec_len links.new ≤ vec_len links.old }
     ensures capacity { vec_capacity links.new ≡ vec_capacity links.old }
+    ensures due { AreQuietUntil result links.new.items }
 {
     gone.clear();
     let mut kept = 0;
+    let mut due = u64::MAX;
     for place in 0..links.len() {
         let (peer, link) = links[place];
         match link.ticked(now) {
             Some(link) => {
+                due = due.min(link.due());
                 links[kept] = (peer, link);
                 kept += 1;
             }
@@ -81,6 +75,7 @@ fn tick_links(links: &mut Vec<(Peer, Link)>, now: u64, gone: &mut ArrayVec<Peer,
         }
     }
     links.truncate(kept);
+    due
 }
 
 impl Neighbours {
@@ -89,12 +84,15 @@ impl Neighbours {
         ensures { IfOk result (λ neighbours. neighbours ≡ []) }
     {
         match Vec::with_capacity(alloc, MAX_NEIGHBOURS) {
-            Ok(links) => Ok(Neighbours { links }),
+            Ok(links) => Ok(Neighbours {
+                links,
+                due: u64::MAX,
+            }),
             Err(_) => Err(Memory),
         }
     }
 
-    /// Where the peer's entry is, or where it would go.
+    /// Where the peer's entry is, or where it would be inserted.
     fn search(&self, peer: Peer) -> Result<usize, usize>
         ensures found { IfOk result (IsPlaceOf peer self.now) }
         ensures absent { IfErr result (IsGapFor peer self.now) }
@@ -102,34 +100,38 @@ impl Neighbours {
         self.links.binary_search_by_key(&peer, |entry| entry.0)
     }
 
-    /// What is known of the peer.
-    fn get(&self, peer: Peer) -> Option<Link>
+    /// What is known of the peer, by the place that a search for it found.
+    fn link_at(&self, peer: Peer, place: Result<usize, usize>) -> Option<Link>
+        requires found { IfOk place (IsPlaceOf peer self.now) }
+        requires absent { IfErr place (IsGapFor peer self.now) }
         ensures { result ≡ find peer_cmp peer self.now }
     {
-        match self.search(peer) {
+        // The peer is in the contract alone.
+        let _ = peer;
+        match place {
             Ok(place) => Some(self.links[place].1),
             Err(_) => None,
         }
     }
 
-    /// What is known of the peer: nothing, where it is no neighbour.
-    fn link(&self, peer: Peer) -> Link
-        ensures { result ≡ link_of peer self.now }
+    /// What is known of the peer.
+    fn get(&self, peer: Peer) -> Option<Link>
+        ensures { result ≡ find peer_cmp peer self.now }
     {
-        match self.get(peer) {
-            Some(link) => link,
-            None => Link::new(),
-        }
+        self.link_at(peer, self.search(peer))
     }
 
-    /// Writes what is known of the peer.
-    fn put(&mut self, peer: Peer, link: Link)
+    /// Writes what is known of the peer, at the place that a search for it found.
+    fn put(&mut self, peer: Peer, place: Result<usize, usize>, link: Link)
+        requires found { IfOk place (IsPlaceOf peer self.old) }
+        requires absent { IfErr place (IsGapFor peer self.old) }
         requires room { IsNone (find peer_cmp peer self.old) → length self.old < 64 }
         ensures { self.new ≡ put peer_cmp peer link self.old }
     {
         // The proof's plan for the write below needs these types named first.
         let _ = (link.multicast, link.txcost_due);
-        match self.search(peer) {
+        self.due = self.due.min(link.due());
+        match place {
             Ok(place) => {
                 self.links[place].1 = link;
             }
@@ -137,9 +139,9 @@ impl Neighbours {
         }
     }
 
-    /// Takes a Hello with this interval in centiseconds (RFC 8966, section 3.4.1). The first one of
-    /// a peer makes it a neighbour, and is refused where there are 64 others. `Flush` says that the
-    /// neighbour seems to have restarted: it is made anew, and its route entries are to be removed.
+    /// Handles a Hello with this interval in centiseconds (RFC 8966, section 3.4.1). The first one of a
+    /// peer makes it a neighbour, and is refused if there are 64 others. `Flush` means that the neighbour
+    /// seems to have restarted: it is made again, and its route entries are to be removed.
     #[tactic(auto, unfolding(crate::specs::Neighbours::hello_of, crate::specs::Neighbours::hello_verdict))]
     pub fn hello(
         &mut self,
@@ -154,43 +156,56 @@ impl Neighbours {
         ensures ok { OnOk result (self.new ≡ hello_of now peer unicast seqno interval self.old) }
         ensures err { OnErr result (self.new ≡ self.old) }
     {
-        if !self.known(peer) && self.links.len() == MAX_NEIGHBOURS {
+        let place = self.search(peer);
+        let known = self.link_at(peer, place);
+        if known.is_none() && self.links.len() == MAX_NEIGHBOURS {
             return Err(Full);
         }
-        let mut link = self.link(peer);
+        let mut link = match known {
+            Some(link) => link,
+            None => Link::new(),
+        };
         let heard = link.hello(now, unicast, seqno, interval);
-        self.put(peer, link);
+        self.put(peer, place, link);
         Ok(heard)
     }
 
-    /// Takes an IHU, which says what receiving from us costs the neighbour (RFC 8966, section 3.4.2).
-    /// The interval is in centiseconds. `false` where the peer is no neighbour.
+    /// Handles an IHU, which advertises what receiving from us costs the neighbour (RFC 8966, section 3.4.2).
+    /// The interval is in centiseconds. Returns `false` if the peer is no neighbour.
     #[tactic(auto, unfolding(crate::specs::Neighbours::ihu_of))]
     pub fn ihu(&mut self, now: u64, peer: Peer, rxcost: Metric, interval: u16) -> bool
         ensures known { result ≡ is_some (find peer_cmp peer self.old) }
         ensures links { self.new ≡ ihu_of now peer rxcost interval self.old }
     {
-        let Some(mut link) = self.get(peer) else {
+        let place = self.search(peer);
+        let Some(mut link) = self.link_at(peer, place) else {
             return false;
         };
         link.ihu(now, rxcost, interval);
-        self.put(peer, link);
+        self.put(peer, place, link);
         true
     }
 
-    /// Takes the deadlines that are due (RFC 8966, sections 3.4.1 and 3.4.2): an expected Hello is
+    /// Handles the deadlines that are due (RFC 8966, sections 3.4.1 and 3.4.2): an expected Hello is
     /// missed, a txcost is too old. A neighbour of which no Hello is remembered any more is flushed:
-    /// `gone` is emptied, and then has the flushed neighbours in ascending order.
-    pub fn tick(&mut self, now: u64, gone: &mut ArrayVec<Peer, 64>)
+    /// `gone` is emptied, and then has the flushed neighbours in ascending order. Returns `false` if no
+    /// deadline is due; then it looks at no neighbour.
+    pub fn tick(&mut self, now: u64, gone: &mut ArrayVec<Peer, 64>) -> bool
         ensures links { self.new ≡ tick_of now self.old }
         ensures gone { gone.new.items ≡ gone_of now self.old }
         ensures ascending { IsTrue (are_ascending gone.new.items) }
+        ensures quiet { IsFalse result → (self.new ≡ self.old) × (gone.new.items ≡ []) }
     {
-        tick_links(&mut self.links, now, gone);
+        if now < self.due {
+            gone.clear();
+            return false;
+        }
+        self.due = tick_links(&mut self.links, now, gone);
+        true
     }
 
     /// The cost of receiving from the peer over an interface of this nominal cost (RFC 8966,
-    /// appendix A.2.1). It is infinite where the peer is no neighbour.
+    /// appendix A.2.1). It is infinite if the peer is no neighbour.
     #[tactic(auto, unfolding(crate::specs::Neighbours::rxcost_of))]
     pub fn rxcost(&self, peer: Peer, nominal: Metric) -> Metric
         ensures { result ≡ rxcost_of peer nominal self.now }
@@ -202,7 +217,7 @@ impl Neighbours {
     }
 
     /// The cost of the link to the peer, over an interface of this nominal cost (RFC 8966, appendix
-    /// A.2.1). It is infinite where the peer is no neighbour.
+    /// A.2.1). It is infinite if the peer is no neighbour.
     #[tactic(auto, unfolding(crate::specs::Neighbours::cost_of))]
     pub fn cost(&self, peer: Peer, nominal: Metric) -> Metric
         ensures { result ≡ cost_of peer nominal self.now }
@@ -220,7 +235,7 @@ impl Neighbours {
         self.get(peer).is_some()
     }
 
-    /// The neighbour that exactly `place` others come before.
+    /// The neighbour with exactly `place` lesser ones.
     pub fn at(&self, place: usize) -> Option<Peer>
         ensures value { result ≡ option_map (λ e. e.0) (slice_get self.now place) }
         ensures lesser { IfSome result (λ peer. count_by (comes_before peer) self.now ≡ place) }

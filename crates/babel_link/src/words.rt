@@ -42,7 +42,7 @@ impl Word {
         Word { bits: 1, count: 1 }
     }
 
-    /// Adds a mark. The oldest goes where there is no room.
+    /// Adds a mark. The oldest goes if there is no room.
     pub(crate) fn push(&mut self, mark: bool)
         ensures { self.new ≡ newest (mark ∷ self.old) }
     {
@@ -80,17 +80,17 @@ impl Word {
         }
     }
 
-    /// Adds the mark of a Hello that came. Where it is near the expected one, `ahead` were missed
-    /// before it; else it is `behind`, and as many of the newest marks go.
+    /// Adds the mark of a Hello that came. If `ahead` is near, as many were missed before it. Else it is
+    /// `late`, and as many of the newest marks go.
     #[tactic(auto, using(crate::specs::WordLaws::newest_newest))]
-    pub(crate) fn hear(&mut self, ahead: u16, behind: u16)
+    pub(crate) fn hear(&mut self, ahead: u16, late: u16)
         ensures { self.new
-            ≡ newest (true ∷ (if nat_le ahead 16 then replicate ahead false ++ self.old else drop behind self.old)) }
+            ≡ newest (true ∷ (if nat_le ahead 16 then replicate ahead false ++ self.old else drop late self.old)) }
     {
         if ahead <= NEAR {
             self.push_missed(ahead);
         } else {
-            self.forget(behind);
+            self.forget(late);
         }
         self.push(true);
     }

@@ -1,7 +1,8 @@
--- One more neighbour is written behind those that stay, or added to those that are gone.
-use Rattle.std.proofs.Common.{◌≡◌, ◌<◌, Some, None, length, sym, ◌∙◌, arith}
+-- One more neighbour is written after those that stay, or added to those that are gone.
+use Rattle.std.proofs.Common.{◌≡◌, ◌<◌, Some, None, length, sym, ◌∙◌, take, arith}
 use Rattle.babel_link.specs.Links.{ticked_link}
 use Rattle.babel_link.proofs.TickLemmas.{stays_more, goes_same, stays_same, goes_more, stays_all, goes_all}
+use Rattle.babel_link.proofs.DueLemmas.{quiet_earlier, are_quiet_earlier, quiet_kept}
 use Rattle.babel_link.proofs.neighbours.tick_links.Goals as goal
 use Rattle.babel_link.proofs.neighbours.tick_links.Goals.{in-Some, in-None}
 
@@ -17,22 +18,24 @@ loop-place-preserved c =
           let link = w.in-Some.link in
           let stays : ticked_link now e.1 ≡ Some link = sym c.ticked.ensures ∙ w.in-Some.is in
           record {
-            stays = rw (w.links-is, w.kept-is) (stays_more now items c.loop-place.place e within c.index.ensures c.loop-place.kept link _ c.loop-place.invariant.behind stays c.loop-place.invariant.stays);
-            goes = rw (w.links-is, w.gone-is) (goes_same now items c.loop-place.place e within c.index.ensures c.loop-place.kept link _ _ c.loop-place.invariant.behind stays c.loop-place.invariant.goes);
-            behind = omega arith;
+            stays = rw (w.links-is, w.kept-is) (stays_more now items c.loop-place.place e within c.index.ensures c.loop-place.kept link _ c.loop-place.invariant.late stays c.loop-place.invariant.stays);
+            goes = rw (w.links-is, w.gone-is) (goes_same now items c.loop-place.place e within c.index.ensures c.loop-place.kept link _ _ c.loop-place.invariant.late stays c.loop-place.invariant.goes);
+            late = omega arith;
             same_len = rw w.links-is c.loop-place.invariant.same_len;
             few = rw w.gone-is (omega arith);
             capacity = rw w.links-is c.loop-place.invariant.capacity;
+            quiet = rw (w.links-is, w.kept-is, w.due-is) (quiet_kept w.min-due.result items c.loop-place.kept e.0 link (omega arith) (quiet_earlier w.due.result w.min-due.result link (omega arith) w.due.ensures) (are_quiet_earlier c.loop-place.due w.min-due.result (take c.loop-place.kept items) (omega arith) c.loop-place.invariant.quiet));
           }
       | in-None w ↦
           let goes : ticked_link now e.1 ≡ None = sym c.ticked.ensures ∙ w.in-None.is in
           record {
             stays = rw (w.links-is, w.kept-is) (stays_same now items c.loop-place.place e within c.index.ensures _ _ goes c.loop-place.invariant.stays);
             goes = rw (w.links-is, w.gone-is, w.push.ensures.items) (goes_more now items c.loop-place.place e within c.index.ensures _ _ goes c.loop-place.invariant.goes);
-            behind = omega arith;
+            late = omega arith;
             same_len = rw w.links-is c.loop-place.invariant.same_len;
             few = rw w.gone-is (omega arith);
             capacity = rw w.links-is c.loop-place.invariant.capacity;
+            quiet = rw (w.links-is, w.kept-is, w.due-is) c.loop-place.invariant.quiet;
           }
     ]
 
@@ -45,3 +48,6 @@ pub returns-clause-gone : goal.returns-clause-gone
 returns-clause-gone c =
     let ok = c.loop-place.links.ok.0 in
     goes_all c.args.now c.loop-place.links.items c.loop-place.place (omega arith) _ _ c.loop-place.invariant.goes
+
+pub returns-clause-due : goal.returns-clause-due
+returns-clause-due c = rw c.truncate.ensures.items c.loop-place.invariant.quiet

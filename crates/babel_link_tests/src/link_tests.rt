@@ -1,7 +1,7 @@
-//! What no clause says: rows worked by hand, through the public calls.
+//! Examples worked by hand, through the public calls.
 
-use super::*;
 use arrayvec::ArrayVec;
+use babel_link::*;
 use babel_value::{Addr, Metric, Peer, Seqno};
 use std::test::Fail;
 
@@ -55,25 +55,6 @@ fn deadlines_of_ihus(rt: HostRuntime) -> Result<(), Fail> {
 }
 
 #[test]
-fn sums_stop_at_the_greatest_moment(rt: HostRuntime) -> Result<(), Fail> {
-    let mut neighbours = Neighbours::new(rt.alloc())?;
-    let mut gone = ArrayVec::<Peer, 64>::new();
-    for seqno in [7, 8] {
-        neighbours.hello(u64::MAX - 1, peer(1), false, Seqno(seqno), 400)?;
-    }
-    neighbours.ihu(u64::MAX - 1, peer(1), Metric(96), 1200);
-    neighbours.tick(u64::MAX - 1, &mut gone);
-    assert_eq!(rt; neighbours.cost(peer(1), NOMINAL), Metric(96));
-    // Due at each tick from then on: 0 1 1, then 0 0 1 1.
-    neighbours.tick(u64::MAX, &mut gone);
-    assert_eq!(rt; neighbours.cost(peer(1), NOMINAL), Metric::INFINITE);
-    assert_eq!(rt; neighbours.rxcost(peer(1), NOMINAL), NOMINAL);
-    neighbours.tick(u64::MAX, &mut gone);
-    assert_eq!(rt; neighbours.rxcost(peer(1), NOMINAL), Metric::INFINITE);
-    Ok(())
-}
-
-#[test]
 fn a_flush_clears_both_histories(rt: HostRuntime) -> Result<(), Fail> {
     let mut neighbours = Neighbours::new(rt.alloc())?;
     for seqno in [7, 8] {
@@ -91,7 +72,7 @@ fn a_flush_clears_both_histories(rt: HostRuntime) -> Result<(), Fail> {
         Heard::Flush
     );
     assert_eq!(rt; neighbours.rxcost(peer(1), NOMINAL), Metric::INFINITE);
-    // Its multicast history begins anew too, wherever the number is.
+    // Its multicast history begins again too, whatever the number is.
     assert_eq!(rt;
         neighbours.hello(0, peer(1), false, Seqno(1000), 0)?,
         Heard::Kept
@@ -155,10 +136,10 @@ fn no_room_for_a_65th(rt: HostRuntime) -> Result<(), Fail> {
     Ok(())
 }
 
-/// Run by `rt try --test --fail-alloc N` for each N, as well as by itself: what is refused its memory
-/// says so, and is made when it asks again.
+/// `tests/refused-memory` runs it with each allocation refused in turn: the first call fails, and the next
+/// one succeeds.
 #[test]
-fn neighbours_refused_their_memory(rt: HostRuntime) -> Result<(), Fail> {
+fn neighbours_without_memory(rt: HostRuntime) -> Result<(), Fail> {
     let neighbours = match Neighbours::new(rt.alloc()) {
         Ok(neighbours) => neighbours,
         Err(fault) => {
