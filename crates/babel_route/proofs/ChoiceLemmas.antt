@@ -7,14 +7,14 @@ use Rattle.std.specs.declared.cmp.Ordering.{Ordering}
 use Rattle.std.specs.Ordering.{is_lt}
 use Rattle.babel_value.specs.declared.keys.Peer.{Peer}
 use Rattle.babel_value.specs.Prefixes.{PrefixValue}
-use Rattle.babel_route.specs.declared.ranks.Rank.{Rank}
-use Rattle.babel_route.specs.declared.choices.Candidate.{Candidate}
+use Rattle.babel_route.specs.declared.routes.choices.Rank.{Rank}
+use Rattle.babel_route.specs.declared.routes.choices.Candidate.{Candidate}
 use Rattle.babel_route.specs.Routes.{Route, RouteEntries}
-use Rattle.babel_route.specs.Firsts.{first_from, first_of}
+use Rattle.babel_table.specs.Firsts.{first_from, first_of}
 use Rattle.babel_route.specs.Selections.{rank_of, rank_cmp, preference, routes_of, has_entry, selection_of}
 use Rattle.babel_route.proofs.RoomLemmas.{some_route}
 
--- the rank is answered for a candidate alone
+-- a candidate alone has a rank
 pub ranked_candidate : (passes : Bool) (rank found : Rank) → cond passes (Some rank) None ≡ Some found → (passes ≡ true) × (found ≡ rank)
 ranked_candidate true rank found is = (refl, sym (same_Some rank found is))
 ranked_candidate false rank found is = absurd (none-some found is)

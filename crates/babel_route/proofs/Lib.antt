@@ -1,12 +1,8 @@
 pub mod BeyondLemmas
-pub mod BoundLemmas
 pub mod ChoiceLemmas
-pub mod DigitLemmas
-pub mod FirstLemmas
-pub mod InsertionLemmas
-pub mod PlaceLemmas
+pub mod CurrentLemmas
 pub mod RetractionLemmas
 pub mod RoomLemmas
 pub mod RunLemmas
-pub mod SelectionLookups
-pub mod StandLemmas
+pub mod ListLemmas
+pub mod DueLemmas

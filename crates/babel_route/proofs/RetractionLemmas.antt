@@ -1,4 +1,4 @@
--- A retraction of all that a neighbour told changes nothing where it told nothing.
+-- A retraction of all that a neighbour advertised changes nothing if it advertised nothing.
 use Rattle.std.proofs.Common.{◌≡◌, ℕ, Bool, true, false, ◌||◌, [], ◌∷◌, if◌then◌else◌, refl, sym, ap}
 use Rattle.std.proofs.lemmas.Bool.{false≢true}
 use Rattle.babel_value.specs.declared.keys.Peer.{Peer}

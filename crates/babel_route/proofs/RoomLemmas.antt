@@ -11,16 +11,16 @@ use Rattle.std.specs.FinMap.{find, put, is_sorted}
 use Rattle.std.specs.FinMap.Entries.{length-put}
 use Rattle.babel_value.specs.Prefixes.{PrefixValue}
 use Rattle.babel_value.specs.Orders.{prefix_cmp}
-use Rattle.babel_value.specs.OrderLaws.{prefix_total, prefix_exact}
-use Rattle.babel_route.specs.declared.route_keys.RouteKey.{RouteKey}
-use Rattle.babel_route.specs.declared.entries.Entry.{Entry}
-use Rattle.babel_route.specs.declared.entries.Selection.{Selection}
-use Rattle.babel_route.specs.Entries.{without, with_value, revised_entries}
-use Rattle.babel_route.specs.Places.{are_greater}
+use Rattle.babel_value.proofs.OrderLaws.{prefix_total, prefix_exact}
+use Rattle.babel_route.specs.declared.routes.entries.RouteKey.{RouteKey}
+use Rattle.babel_route.specs.declared.routes.entries.Entry.{Entry}
+use Rattle.babel_route.specs.declared.routes.entries.Selection.{Selection}
+use Rattle.babel_table.specs.Entries.{without, with_value, revised_entries}
+use Rattle.babel_table.specs.Places.{are_greater}
 use Rattle.babel_route.specs.RouteKeys.{route_cmp, route_total}
 use Rattle.babel_route.specs.Routes.{Route, RouteEntries}
 use Rattle.babel_route.specs.Selections.{is_of, routes_of, has_entry, orphans, Selections}
-use Rattle.babel_route.proofs.PlaceLemmas.{holds, others_greater, tail_sorted, head_greater, tail_greater, sorted_put}
+use Rattle.babel_table.proofs.PlaceLemmas.{holds, others_greater, tail_sorted, head_greater, tail_greater, sorted_put}
 
 -- ---- orphans, but for prefixes that were seen
 

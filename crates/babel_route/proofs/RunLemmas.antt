@@ -1,4 +1,4 @@
--- In the route table the routes of a prefix stand side by side, in front of those of greater prefixes.
+-- In the route table the routes of a prefix are next to each other, before those of greater prefixes.
 use Rattle.std.proofs.Common.{◌≡◌, ℕ, zero, suc, ◌+◌, true, false, cond, not, List, [], ◌∷◌, ◌++◌, take, drop, slice_get, Some, refl, sym, ap, ◌∙◌, add-one}
 use Rattle.std.specs.List.{list_all, take_while}
 use Rattle.std.proofs.lemmas.Bool.{and_parts}
@@ -12,13 +12,13 @@ use Rattle.std.specs.Ordering.{is_lt, is_gt, is_eq}
 use Rattle.std.specs.FinMap.{is_sorted}
 use Rattle.babel_value.specs.Prefixes.{PrefixValue}
 use Rattle.babel_value.specs.Orders.{prefix_cmp}
-use Rattle.babel_value.specs.OrderLaws.{prefix_total}
+use Rattle.babel_value.proofs.OrderLaws.{prefix_total}
 use Rattle.babel_route.specs.RouteKeys.{route_cmp}
 use Rattle.babel_route.specs.Routes.{Route, RouteEntries}
 use Rattle.babel_route.specs.Selections.{is_of, routes_of}
 use Rattle.babel_route.specs.PrefixBounds.{is_before, route_not_after}
-use Rattle.babel_route.specs.Places.{are_greater}
-use Rattle.babel_route.proofs.PlaceLemmas.{turned, turned_back, head_greater, tail_greater, others_greater, tail_sorted}
+use Rattle.babel_table.specs.Places.{are_greater}
+use Rattle.babel_table.proofs.PlaceLemmas.{turned, turned_back, head_greater, tail_greater, others_greater, tail_sorted}
 
 -- a route of a lesser prefix isn't of this one
 not_equal : (r : Ordering) → is_lt r ≡ true → is_eq r ≡ false
@@ -82,8 +82,8 @@ sorted_drop (e ∷ es) zero sorted = sorted
 sorted_drop (e ∷ es) (suc i) sorted = sorted_drop es i (tail_sorted route_cmp e es sorted)
 
 pub walk_from_first : (p : PrefixValue) (es : RouteEntries) (i : ℕ) → is_sorted route_cmp es ≡ true → list_all (λ e. is_before p e.0.prefix) (take i es) ≡ true → list_all (λ e. not (is_before p e.0.prefix)) (drop i es) ≡ true → take_while (is_of p) (drop i es) ≡ routes_of p es
-walk_from_first p es i sorted before behind =
-    run_of p (drop i es) (sorted_drop es i sorted) behind
+walk_from_first p es i sorted before following =
+    run_of p (drop i es) (sorted_drop es i sorted) following
     ∙ ap (λ fs. fs ++ routes_of p (drop i es)) (sym (none_before p (take i es) before))
     ∙ sym (filter-append (is_of p) (take i es) (drop i es))
     ∙ ap (routes_of p) (take-append-drop i es)

@@ -3,7 +3,7 @@ use Rattle.std.specs.Prelude.{Bool, true, ◌||◌, not, nat_lt, Option, Some, N
 use Rattle.babel_value.specs.declared.distances.Distance.{Distance}
 use Rattle.babel_value.specs.Distances.{is_better}
 
--- Whether an update is better than the pair of its source: always where there is none.
+-- Whether an update is better than the pair of its source: always if there is none.
 abbrev pub improves_on : Option Distance → Distance → Bool
 improves_on None update = true
 improves_on (Some pair) update = is_better update pair

@@ -1,15 +1,9 @@
-pub mod Entries
-pub mod Insertions
-pub mod Places
-pub mod Digits
 pub mod Distances
 pub mod Sources
 pub mod SourceLaws
 pub mod RouteKeys
 pub mod Routes
-pub mod Firsts
 pub mod Selections
 pub mod PrefixBounds
 pub mod RouteLaws
-pub mod Example
-pub mod RouteExample
+pub mod PrefixLists

@@ -1,4 +1,4 @@
--- Bounds on prefixes: what is below one stands in front, in a list in the order of its keys (profile).
+-- Bounds on prefixes: what is below one comes first, in a list in the order of its keys (profile).
 use Rattle.std.specs.Prelude.{◌≡◌, Bool, true, false, not, Option, Some, None}
 use Rattle.std.proofs.Common.{refl, sym, ap, ◌∙◌}
 use Rattle.std.specs.declared.cmp.Ordering.{Ordering}
@@ -7,8 +7,8 @@ use Rattle.std.specs.Ordering.{is_lt, is_gt, ordering_then, ordering_reverse}
 use Rattle.std.proofs.lemmas.Cmp.{upto}
 use Rattle.babel_value.specs.Prefixes.{PrefixValue}
 use Rattle.babel_value.specs.Orders.{prefix_cmp, peer_cmp}
-use Rattle.babel_value.specs.OrderLaws.{prefix_total}
-use Rattle.babel_route.specs.declared.route_keys.RouteKey.{RouteKey}
+use Rattle.babel_value.proofs.OrderLaws.{prefix_total}
+use Rattle.babel_route.specs.declared.routes.entries.RouteKey.{RouteKey}
 use Rattle.babel_route.specs.RouteKeys.{route_cmp}
 use Rattle.babel_route.specs.Selections.{is_beyond}
 
@@ -16,7 +16,7 @@ use Rattle.babel_route.specs.Selections.{is_beyond}
 abbrev pub is_before : PrefixValue → PrefixValue → Bool
 is_before bound prefix = is_lt (prefix_cmp prefix bound)
 
--- The prefix isn't greater than this one; none is, where there is none.
+-- The prefix isn't greater than this one; none is, if there is none.
 abbrev pub is_through : Option PrefixValue → PrefixValue → Bool
 is_through after prefix = not (is_beyond after prefix)
 

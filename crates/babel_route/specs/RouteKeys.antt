@@ -8,8 +8,8 @@ use Rattle.std.proofs.lemmas.Map.Lookups.{exact_pairs}
 use Rattle.babel_value.specs.declared.keys.Peer.{Peer}
 use Rattle.babel_value.specs.Prefixes.{PrefixValue}
 use Rattle.babel_value.specs.Orders.{prefix_cmp, peer_cmp}
-use Rattle.babel_value.specs.OrderLaws.{prefix_total, peer_total, prefix_exact, peer_exact}
-use Rattle.babel_route.specs.declared.route_keys.RouteKey.{RouteKey}
+use Rattle.babel_value.proofs.OrderLaws.{prefix_total, peer_total, prefix_exact, peer_exact}
+use Rattle.babel_route.specs.declared.routes.entries.RouteKey.{RouteKey}
 
 abbrev pub route_cmp : RouteKey → RouteKey → Ordering
 route_cmp a b = ordering_then (prefix_cmp a.prefix b.prefix) (peer_cmp a.peer b.peer)

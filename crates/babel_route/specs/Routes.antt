@@ -1,5 +1,5 @@
 -- The route table (RFC 8966, section 3.2.6): what updates, retractions and time make of its entries.
-use Rattle.std.specs.Prelude.{ℕ, Bool, ◌*◌, ◌/◌, List, Option, Some, None, nat_le, nat_lt, if◌then◌else◌}
+use Rattle.std.specs.Prelude.{ℕ, Bool, List, Option, Some, None, nat_le, nat_lt, if◌then◌else◌}
 use Rattle.std.specs.List.{list_any}
 use Rattle.std.specs.Option.{option_map_or}
 use Rattle.std.specs.Ordering.{eq_by_cmp}
@@ -7,15 +7,15 @@ use Rattle.std.specs.FinMap.{find, put}
 use Rattle.babel_value.specs.declared.addresses.Addr.{Addr}
 use Rattle.babel_value.specs.declared.distances.Distance.{Distance}
 use Rattle.babel_value.specs.declared.keys.Peer.{Peer}
-use Rattle.babel_value.specs.Moments.{later}
+use Rattle.babel_value.specs.Moments.{later, hold_time}
 use Rattle.babel_value.specs.Orders.{peer_cmp}
 use Rattle.babel_value.specs.Prefixes.{PrefixValue}
-use Rattle.babel_route.specs.declared.route_keys.RouteKey.{RouteKey}
-use Rattle.babel_route.specs.declared.entries.Entry.{Entry}
-use Rattle.babel_route.specs.Entries.{revised_entries}
+use Rattle.babel_route.specs.declared.routes.entries.RouteKey.{RouteKey}
+use Rattle.babel_route.specs.declared.routes.entries.Entry.{Entry}
+use Rattle.babel_table.specs.Entries.{revised_entries}
 use Rattle.babel_route.specs.RouteKeys.{route_cmp}
 
--- A route: what a neighbour told of a prefix.
+-- A route: a neighbour's entry for a prefix.
 abbrev pub Route : Type 0
 Route = RouteKey × Entry
 
@@ -25,10 +25,6 @@ RouteEntries = List Route
 
 abbrev pub key_of : PrefixValue → Peer → RouteKey
 key_of prefix peer = record { prefix = prefix; peer = peer }
-
--- How long an entry is kept after an update that told this interval: 3.5 times it, rounded down (RFC 8966, section 3.5.4 and appendix B).
-abbrev pub hold_time : ℕ → ℕ
-hold_time interval = interval * 7 / 2
 
 -- ---- an update (RFC 8966, section 3.5.3)
 
@@ -42,14 +38,14 @@ entry_of_update now router distance next_hop interval = record {
   deadline = later now (hold_time interval);
 }
 
--- The entries after a neighbour's update: it replaces what that neighbour told of the prefix, feasible or not (profile).
+-- The entries after a neighbour's update: it replaces that neighbour's entry for the prefix, feasible or not (profile).
 abbrev pub updated : ℕ → PrefixValue → Peer → List ℕ → Distance → Addr → ℕ → RouteEntries → RouteEntries
 updated now prefix peer router distance next_hop interval es =
     put route_cmp (key_of prefix peer) (entry_of_update now router distance next_hop interval) es
 
 -- ---- retractions (RFC 8966, section 3.5.3)
 
--- A retracted entry has an infinite metric. All else stays, and its hold time begins anew (profile).
+-- A retracted entry has an infinite metric. All else stays, and its hold time begins again (profile).
 abbrev pub retracted_entry : ℕ → Entry → Entry
 retracted_entry now e =
     record e { distance = record e.distance { metric = 65535 }; deadline = later now (hold_time e.interval) }
@@ -67,7 +63,7 @@ is_from peer key = eq_by_cmp peer_cmp key.peer peer
 abbrev pub has_routes_from : Peer → RouteEntries → Bool
 has_routes_from peer = list_any (λ e. is_from peer e.0)
 
--- What a retraction of all that a neighbour told leaves of an entry (RFC 8966, section 4.6.9).
+-- An entry after a retraction of all routes of a neighbour (RFC 8966, section 4.6.9).
 abbrev pub retracted_from : ℕ → Peer → RouteKey → Entry → Option Entry
 retracted_from now peer key e = Some (if is_from peer key then retracted_entry now e else e)
 
@@ -76,7 +72,7 @@ retracted_all now peer = revised_entries (retracted_from now peer)
 
 -- ---- a neighbour that is flushed, and time
 
--- What is left of an entry where the neighbour is flushed: nothing of that neighbour's (profile).
+-- An entry after the flush of a neighbour: those of that neighbour are removed (profile).
 abbrev pub kept_without : Peer → RouteKey → Entry → Option Entry
 kept_without peer key e = if is_from peer key then None else Some e
 

@@ -10,13 +10,13 @@ use Rattle.babel_value.specs.declared.keys.Source.{Source}
 use Rattle.babel_value.specs.Metrics.{metric_sum}
 use Rattle.babel_value.specs.Orders.{prefix_cmp, peer_cmp}
 use Rattle.babel_value.specs.Prefixes.{PrefixValue}
-use Rattle.babel_route.specs.declared.ranks.Rank.{Rank}
-use Rattle.babel_route.specs.declared.entries.Selection.{Selection}
+use Rattle.babel_route.specs.declared.routes.choices.Rank.{Rank}
+use Rattle.babel_route.specs.declared.routes.entries.Selection.{Selection}
 use Rattle.babel_route.specs.Distances.{is_feasible}
-use Rattle.babel_route.specs.Entries.{with_value}
+use Rattle.babel_table.specs.Entries.{with_value}
 use Rattle.babel_route.specs.Sources.{Sources, pair_of}
 use Rattle.babel_route.specs.Routes.{Route, RouteEntries}
-use Rattle.babel_route.specs.Firsts.{first_of}
+use Rattle.babel_table.specs.Firsts.{first_of, IsFirstOf}
 
 -- ---- candidates
 
@@ -43,7 +43,7 @@ route_metric cost route = metric_sum route.1.distance.metric (cost route.0.peer)
 abbrev pub is_candidate : Sources → (Peer → ℕ) → Route → Bool
 is_candidate sources cost route = is_feasible_route sources route && nat_lt (route_metric cost route) 65535
 
--- The candidates of a prefix: none, where the prefix is the speaker's own (profile).
+-- The candidates of a prefix: none, if the prefix is the speaker's own (profile).
 abbrev pub candidates : Sources → (Peer → ℕ) → PrefixValue → Bool → RouteEntries → RouteEntries
 candidates sources cost prefix local es = if local then [] else filter (is_candidate sources cost) (routes_of prefix es)
 
@@ -94,7 +94,7 @@ pub record RoutesValue : Type 0 where
 abbrev pub selection_at : PrefixValue → RoutesValue → Option Selection
 selection_at prefix routes = find prefix_cmp prefix routes.selections
 
--- The choice at a prefix, by the selection that stands there now.
+-- The choice at a prefix, by the selection that is there now.
 abbrev pub choice_at : Sources → (Peer → ℕ) → PrefixValue → Bool → RoutesValue → Option Selection
 choice_at sources cost prefix local routes =
     choice sources cost prefix local (selection_at prefix routes) routes.entries
@@ -104,9 +104,15 @@ abbrev pub reselected : Sources → (Peer → ℕ) → PrefixValue → Bool → 
 reselected sources cost prefix local routes =
     record routes { selections = with_value prefix_cmp prefix (choice_at sources cost prefix local routes) routes.selections }
 
+-- After a reselection of the prefix its selection is the candidate that no other comes before; none, if there is no candidate.
+abbrev pub SelectsTheFirst : Sources → (Peer → ℕ) → PrefixValue → Bool → RoutesValue → RoutesValue → Type 0
+SelectsTheFirst sources cost prefix local old new =
+    (first : Option Route) × (selection_at prefix new ≡ option_map selection_of first)
+    × IsFirstOf (preference cost (peer_before (selection_at prefix old))) (candidates sources cost prefix local old.entries) first
+
 -- The selection of the prefix is the one that a reselection would leave.
-abbrev pub Stands : Sources → (Peer → ℕ) → PrefixValue → Bool → RoutesValue → Type 0
-Stands sources cost prefix local routes =
+abbrev pub IsCurrent : Sources → (Peer → ℕ) → PrefixValue → Bool → RoutesValue → Type 0
+IsCurrent sources cost prefix local routes =
     selection_at prefix routes ≡ choice_at sources cost prefix local routes
 
 -- ---- the prefixes, and room

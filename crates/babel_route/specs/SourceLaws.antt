@@ -1,5 +1,6 @@
--- What becomes of each source's pair (RFC 8966, sections 3.2.5 and 3.7.3), in words of look-ups.
-use Rattle.std.specs.Prelude.{◌≡◌, ℕ, true, Some, option_and_then, if◌then◌else◌}
+-- Laws of each source's pair (RFC 8966, sections 3.2.5 and 3.7.3), by look-ups.
+use Rattle.std.specs.Prelude.{◌≡◌, ℕ, Bool, true, Some, nat_lt, option_and_then, if◌then◌else◌}
+use Rattle.std.specs.List.{list_all}
 use Rattle.std.specs.Ordering.{eq_by_cmp}
 use Rattle.std.specs.FinMap.{find, is_sorted}
 use Rattle.babel_value.specs.declared.keys.Source.{Source}
@@ -20,3 +21,10 @@ abbrev pub CollectsWhatIsDue : Type 0
 CollectsWhatIsDue =
     (now : ℕ) (source : Source) (sources : Sources) → is_sorted source_cmp sources ≡ true →
     find source_cmp source (collected now sources) ≡ option_and_then (collected_entry now source) (find source_cmp source sources)
+
+-- A collection changes nothing as long as no entry is due.
+abbrev pub are_later : ℕ → Sources → Bool
+are_later now = list_all (λ e. nat_lt now e.1.due)
+
+abbrev pub CollectsNothingEarly : Type 0
+CollectsNothingEarly = (now : ℕ) (sources : Sources) → are_later now sources ≡ true → collected now sources ≡ sources

@@ -5,30 +5,30 @@ use Rattle.babel_value.specs.declared.keys.Source.{Source}
 use Rattle.babel_value.specs.declared.distances.Distance.{Distance}
 use Rattle.babel_value.specs.Moments.{later}
 use Rattle.babel_value.specs.Orders.{source_cmp}
-use Rattle.babel_route.specs.declared.held.Held.{Held}
-use Rattle.babel_route.specs.Entries.{revised_entries}
+use Rattle.babel_route.specs.declared.sources.SourceEntry.{SourceEntry}
+use Rattle.babel_table.specs.Entries.{revised_entries}
 use Rattle.babel_route.specs.Distances.{better_pair}
 
 -- The entries, in the order of their sources.
 abbrev pub Sources : Type 0
-Sources = List (Source × Held)
+Sources = List (Source × SourceEntry)
 
 -- The pair of a source, if it has one: its feasibility distance.
 abbrev pub pair_of : Source → Sources → Option Distance
-pair_of source sources = option_map (λ held. held.distance) (find source_cmp source sources)
+pair_of source sources = option_map (λ source_entry. source_entry.distance) (find source_cmp source sources)
 
 -- The entry that a distance sent now leaves at its source (RFC 8966, section 3.7.3): the better pair, and its time of
--- collection set anew, 18,000 centiseconds from now (RFC 8966, appendix B: 3 minutes).
-abbrev pub held_after : ℕ → Option Distance → Distance → Held
-held_after now pair sent = record { distance = better_pair pair sent; due = later now 18000 }
+-- collection set again, 18,000 centiseconds from now (RFC 8966, appendix B: 3 minutes).
+abbrev pub source_entry_after : ℕ → Option Distance → Distance → SourceEntry
+source_entry_after now pair sent = record { distance = better_pair pair sent; due = later now 18000 }
 
 -- The table after a distance was sent for a source.
 abbrev pub lowered : ℕ → Source → Distance → Sources → Sources
-lowered now source sent sources = put source_cmp source (held_after now (pair_of source sources) sent) sources
+lowered now source sent sources = put source_cmp source (source_entry_after now (pair_of source sources) sent) sources
 
--- What a collection leaves of an entry (RFC 8966, section 3.2.5): nothing, where its time has come.
-abbrev pub collected_entry : ℕ → Source → Held → Option Held
-collected_entry now source held = if nat_le held.due now then None else Some held
+-- What a collection leaves of an entry (RFC 8966, section 3.2.5): nothing, if its time has come.
+abbrev pub collected_entry : ℕ → Source → SourceEntry → Option SourceEntry
+collected_entry now source source_entry = if nat_le source_entry.due now then None else Some source_entry
 
 -- The table after a collection.
 abbrev pub collected : ℕ → Sources → Sources

@@ -1,41 +1,37 @@
 //! Laws of the tables, each the contract of a function that does nothing.
 
-ghost use Rattle.std.specs.Prelude.{◌≡◌, ℕ, List, Some, IsTrue, slice_get};
-ghost use Rattle.std.specs.FinMap.{is_sorted};
-ghost use Rattle.babel_route.specs.Entries.{lesser_keys};
-ghost use Rattle.babel_route.specs.SourceLaws.{LowersOneSource, CollectsWhatIsDue};
-ghost use Rattle.babel_route.specs.RouteLaws.{UpdatesOneRoute, RetractsOneRoute, ChangesEachRoute, ChoosesTheFirst, ChoosesACandidate, ReselectsOnePrefix, AllStand};
+ghost use Rattle.babel_route.specs.SourceLaws.{LowersOneSource, CollectsWhatIsDue, CollectsNothingEarly};
+ghost use Rattle.babel_route.specs.RouteLaws.{UpdatesOneRoute, RetractsOneRoute, ChangesEachRoute, ExpiresNothingEarly, ChoosesTheFirst, ChoosesACandidate, ReselectsOnePrefix, AreAllCurrent, KeepsWhatIsCurrent};
 
-use crate::Key;
-
-/// In a list of entries in order, the entry at a place is the one whose key has exactly that many
-/// lesser ones.
-pub fn places_count_lesser_keys<K: Key, V: Copy>()
-    ensures { (es : List (K × V)) (place : ℕ) (entry : K × V) → IsTrue (is_sorted K.order es) → slice_get es place ≡ Some entry → lesser_keys K.order entry.0 es ≡ place }
-{}
-
-/// What a call of `lower`, and a collection, make of the pair of each source.
+/// The pair of each source after a call of `lower`, and after a collection.
 pub fn pairs_of_sources()
     ensures lowers { LowersOneSource }
     ensures collects { CollectsWhatIsDue }
 {}
 
-/// What updates, retractions, flushes and expiry make of each route.
+/// Each route after updates, retractions, flushes and expiry.
 pub fn routes_by_their_keys()
     ensures updates { UpdatesOneRoute }
     ensures retracts { RetractsOneRoute }
     ensures changes { ChangesEachRoute }
 {}
 
-/// What is chosen: the candidate that no other comes before, which is an entry of the table.
+/// The choice is the candidate that no other comes before, which is an entry of the table.
 pub fn choices_are_first()
     ensures first { ChoosesTheFirst }
     ensures candidate { ChoosesACandidate }
 {}
 
-/// What reselections leave: after each prefix was reselected, the selection of each is that of the
-/// definition.
-pub fn selections_stand()
+/// A reselection changes the selection of its prefix alone. After each prefix was reselected, all
+/// selections are current. If all are current, reselections change nothing.
+pub fn selections_are_current()
     ensures one { ReselectsOnePrefix }
-    ensures all { AllStand }
+    ensures all { AreAllCurrent }
+    ensures settled { KeepsWhatIsCurrent }
+{}
+
+/// As long as nothing is due, collections and the expiry of deadlines change nothing.
+pub fn nothing_changes_early()
+    ensures collections { CollectsNothingEarly }
+    ensures expiries { ExpiresNothingEarly }
 {}

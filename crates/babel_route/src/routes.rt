@@ -1,28 +1,37 @@
 //! The route table and route selection (RFC 8966, sections 3.2.6, 3.5 and 3.6).
 
-ghost use Rattle.std.specs.Prelude.{◌≡◌, ◌↔◌, ◌≤◌, ◌<◌, [], length, slice_get, option_map, IfOk, OnOk, OnErr, IsErr, IsNone, IsTrue, is_some, map};
+ghost use Rattle.std.specs.Prelude.{◌≡◌, ◌↔◌, ◌≤◌, ◌<◌, [], length, slice_get, option_map, IfOk, OnOk, OnErr, IsErr, IsNone, IsTrue, IsFalse, is_some, map};
 ghost use Rattle.std.specs.List.{filter};
 ghost use Rattle.std.specs.FinMap.{find, is_sorted};
 ghost use Rattle.babel_value.specs.Orders.{prefix_cmp};
 ghost use Rattle.babel_route.specs.RouteKeys.{route_cmp};
 ghost use Rattle.babel_route.specs.Routes.{key_of, updated, retracted, retracted_all, has_routes_from, forgotten, expired};
-ghost use Rattle.babel_route.specs.Selections.{routes_of, choice, choice_at, reselected, selection_at, places_taken, prefix_after, is_beyond};
-ghost use Rattle.babel_route.specs.Firsts.{first_of, lesser_of};
+ghost use Rattle.babel_route.specs.Selections.{routes_of, choice, choice_at, reselected, selection_at, SelectsTheFirst, places_taken, prefixes_of, prefix_after, is_beyond};
+ghost use Rattle.babel_route.specs.PrefixLists.{gathered};
+ghost use Rattle.babel_table.specs.Firsts.{first_of, lesser_of};
 
-use crate::all_routes::AllRoutes;
-use crate::bounds::{Through, places_below};
-use crate::choices::choose;
-use crate::prefix_routes::PrefixRoutes;
-use crate::revisions::{Expiry, Flush, Retraction, hold_time};
-use crate::room::is_crowded;
-use crate::table::{find_in, set};
-use crate::walk::revise_all;
-use crate::{
-    Costs, Entry, Full, Held, Memory, RouteKey, Selection, SortedTable, SourcesOver, Table,
-};
-use babel_value::{Addr, Distance, Peer, Prefix, RouterId, Source};
+mod bounds;
+mod choices;
+mod entries;
+mod prefixes;
+mod revisions;
+mod room;
+mod walks;
+
+use crate::{SourceEntry, SourcesOver};
+use babel_table::{Full, Memory, SortedTable, Table, find_in, least_due, places_below, set};
+use babel_value::{Addr, Distance, Peer, Prefix, RouterId, Source, hold_time};
+use bounds::Through;
+pub use choices::Costs;
+use choices::choose;
+pub use entries::{Entry, RouteKey, Selection};
+use prefixes::{add_routes, add_selections};
+pub use prefixes::{PREFIX_PLACES, PrefixList, PrefixListOver};
+use revisions::{Expiry, Flush, Retraction};
+use room::is_crowded;
 use std::alloc::Global;
 use std::marker::Model;
+pub use walks::{AllRoutes, AllSelections, PrefixRoutes};
 
 /// How many entries a route table has room for.
 pub const ROUTE_PLACES: usize = 256;
@@ -33,6 +42,8 @@ pub const ROUTE_PLACES: usize = 256;
 pub struct RoutesOver<E: Table<RouteKey, Entry>, S: Table<Prefix, Selection>> {
     entries: E,
     selections: S,
+    /// No route is due before this moment.
+    due: u64,
 }
 
 /// The table that the entries are kept in.
@@ -46,13 +57,14 @@ pub type Routes = RoutesOver<RouteTable, SelectionTable>;
 
 impl<E: Table<RouteKey, Entry>, S: Table<Prefix, Selection>> Model for RoutesOver<E, S> {
     ghost use Rattle.std.specs.Prelude.{◌≡◌, ◌≤◌};
+    ghost use Rattle.babel_table.specs.Dues.{AreDueFrom};
     ghost use Rattle.babel_route.specs.Selections.{RoutesValue, places_taken};
 
     ghost Value = { RoutesValue };
 
     ghost view = { λ r. record { entries = E.entries r.entries; selections = S.entries r.selections } };
 
-    ghost invariant = { λ r. (E.room r.entries ≡ 256) × (S.room r.selections ≡ 256) × (places_taken (record { entries = E.entries r.entries; selections = S.entries r.selections }) ≤ 256) };
+    ghost invariant = { λ r. (E.room r.entries ≡ 256) × (S.room r.selections ≡ 256) × (places_taken (record { entries = E.entries r.entries; selections = S.entries r.selections }) ≤ 256) × AreDueFrom (λ e. e.deadline) r.due (E.entries r.entries) };
 }
 
 impl<E: Table<RouteKey, Entry>, S: Table<Prefix, Selection>> RoutesOver<E, S> {
@@ -65,12 +77,13 @@ impl<E: Table<RouteKey, Entry>, S: Table<Prefix, Selection>> RoutesOver<E, S> {
         Ok(RoutesOver {
             entries,
             selections,
+            due: u64::MAX,
         })
     }
 
     /// Takes a neighbour's finite update for a prefix, feasible or not (RFC 8966, section 3.5.3); the
-    /// metric in the distance is the advertised one, the interval in centiseconds. It replaces what this
-    /// neighbour told of the prefix. `Full` exactly where the neighbour told nothing of the prefix and
+    /// metric in the distance is the advertised one, the interval in centiseconds. It replaces the
+    /// neighbour's route to the prefix. `Full` if and only if the neighbour has no route to the prefix and
     /// all places are taken: one for each entry, and one for each prefix that has a selection but no
     /// entry.
     pub fn update(
@@ -96,15 +109,16 @@ impl<E: Table<RouteKey, Entry>, S: Table<Prefix, Selection>> RoutesOver<E, S> {
             interval,
             deadline,
         };
-        if is_crowded(&self.entries, &self.selections) && find_in(&self.entries, &key).is_none() {
+        if find_in(&self.entries, &key).is_none() && is_crowded(&self.entries, &self.selections) {
             return Err(Full);
         }
+        self.due = self.due.min(deadline);
         set(&mut self.entries, key, Some(entry));
         Ok(())
     }
 
     /// Takes a neighbour's retraction of a prefix: the entry's metric becomes infinite, all else of it
-    /// stays, and its hold time begins anew. False where there is no entry.
+    /// stays, and its hold time begins again. False if there is no entry.
     pub fn retract(&mut self, now: u64, prefix: &Prefix, peer: &Peer) -> bool
         ensures found { result ≡ is_some (find route_cmp (key_of prefix.now peer.now) self.old.entries) }
         ensures routes { self.new ≡ record self.old { entries = retracted now prefix.now peer.now self.old.entries } }
@@ -115,39 +129,50 @@ impl<E: Table<RouteKey, Entry>, S: Table<Prefix, Selection>> RoutesOver<E, S> {
         };
         match find_in(&self.entries, &key) {
             Some(entry) => {
-                set(&mut self.entries, key, Some(entry.retracted(now)));
+                let retracted = entry.retracted(now);
+                self.due = self.due.min(retracted.deadline);
+                set(&mut self.entries, key, Some(retracted));
                 true
             }
             None => false,
         }
     }
 
-    /// Takes a neighbour's retraction of all that it told (RFC 8966, section 4.6.9). False where there
-    /// is no entry of it.
+    /// Takes a neighbour's retraction of all its routes (RFC 8966, section 4.6.9). False if it has no
+    /// entry.
     pub fn retract_all(&mut self, now: u64, peer: &Peer) -> bool
         ensures found { result ≡ has_routes_from peer.now self.old.entries }
         ensures routes { self.new ≡ record self.old { entries = retracted_all now peer.now self.old.entries } }
     {
         let found = has_routes_from(&self.entries, peer);
         if found {
-            revise_all(&mut self.entries, &Retraction { now, peer: *peer });
+            self.entries.revise(&Retraction { now, peer: *peer });
+            self.due = least_due(&self.entries);
         }
         found
     }
 
-    /// Removes what the neighbour told, as a flush of the neighbour asks.
+    /// Removes all routes of the neighbour, as a flush of the neighbour asks.
     pub fn forget(&mut self, peer: &Peer)
         ensures { self.new ≡ record self.old { entries = forgotten peer.now self.old.entries } }
     {
-        revise_all(&mut self.entries, &Flush { peer: *peer });
+        self.entries.revise(&Flush { peer: *peer });
+        self.due = least_due(&self.entries);
     }
 
     /// Takes the deadlines that are due, each once: a route with a finite metric is retracted and its
-    /// hold time begins anew, one with an infinite metric goes (RFC 8966, section 3.5.4).
-    pub fn expire(&mut self, now: u64)
-        ensures { self.new ≡ record self.old { entries = expired now self.old.entries } }
+    /// hold time begins again, one with an infinite metric goes (RFC 8966, section 3.5.4). Returns `false`
+    /// if no deadline is due; then it looks at no route.
+    pub fn expire(&mut self, now: u64) -> bool
+        ensures routes { self.new ≡ record self.old { entries = expired now self.old.entries } }
+        ensures quiet { IsFalse result → self.new ≡ self.old }
     {
-        revise_all(&mut self.entries, &Expiry { now });
+        if now < self.due {
+            return false;
+        }
+        self.entries.revise(&Expiry { now });
+        self.due = least_due(&self.entries);
+        true
     }
 
     /// How many entries there are.
@@ -169,7 +194,7 @@ impl<E: Table<RouteKey, Entry>, S: Table<Prefix, Selection>> RoutesOver<E, S> {
             .map(|route| (route.0.prefix, route.0.peer, route.1))
     }
 
-    /// What the neighbour told of the prefix.
+    /// The neighbour's entry for the prefix.
     pub fn entry(&self, prefix: &Prefix, peer: &Peer) -> Option<Entry>
         ensures { result ≡ find route_cmp (key_of prefix.now peer.now) self.now.entries }
     {
@@ -187,6 +212,27 @@ impl<E: Table<RouteKey, Entry>, S: Table<Prefix, Selection>> RoutesOver<E, S> {
         AllRoutes::new(&self.entries)
     }
 
+    /// All selections, in the order of their prefixes.
+    pub fn selections(&self) -> AllSelections<'_, S>
+        ensures selections { result ≡ self.now.selections }
+        ensures few { length self.now.selections ≤ ROUTE_PLACES }
+    {
+        let _count = self.selections.len();
+        AllSelections::new(&self.selections)
+    }
+
+    /// Lists the prefixes that have an entry or a selection, in ascending order, each once. It is one
+    /// merge of the entries and the selections.
+    pub fn list_prefixes<T: Table<Prefix, bool>>(&self, list: &mut PrefixListOver<T>)
+        ensures { list.new ≡ gathered (prefixes_of self.now) [] }
+    {
+        let most = self.entries.len() + self.selections.len();
+        prove!(most <= PREFIX_PLACES);
+        list.clear();
+        add_routes(list, &self.entries);
+        add_selections(list, &self.selections);
+    }
+
     /// The routes of the prefix, in the order of the neighbours.
     pub fn routes_of(&self, prefix: &Prefix) -> PrefixRoutes<'_, E>
         ensures { result ≡ routes_of prefix.now self.now.entries }
@@ -201,12 +247,33 @@ impl<E: Table<RouteKey, Entry>, S: Table<Prefix, Selection>> RoutesOver<E, S> {
         find_in(&self.selections, prefix).map(|selection| (selection.peer, selection.entry))
     }
 
-    /// Selects the route of the prefix anew (RFC 8966, section 3.6): the candidate of the least metric,
-    /// among equals the one selected before, then that of the least neighbour; none where the prefix is
+    /// Selects the route of the prefix again (RFC 8966, section 3.6): the candidate of the least metric,
+    /// among equals the one selected before, then that of the least neighbour; none if the prefix is
     /// the speaker's own. A candidate is feasible against the source table now, and its metric by the
-    /// neighbour's cost now is finite. The answer is the entry that the last reselection of the prefix
-    /// selected, as it was then, and the one that is selected now.
-    pub fn reselect<T: Table<Source, Held>, C: Costs>(
+    /// neighbour's cost now is finite. The result is the selection that the last reselection of the
+    /// prefix left, and the one that this leaves.
+    pub fn select<T: Table<Source, SourceEntry>, C: Costs>(
+        &mut self,
+        prefix: &Prefix,
+        local: bool,
+        sources: &SourcesOver<T>,
+        costs: &C,
+    ) -> (Option<Selection>, Option<Selection>)
+        ensures before { result.0 ≡ selection_at prefix.now self.old }
+        ensures after { result.1 ≡ choice_at sources.now (C.cost_of costs.now) prefix.now local self.old }
+        ensures selected { result.1 ≡ selection_at prefix.now self.new }
+        ensures first { SelectsTheFirst sources.now (C.cost_of costs.now) prefix.now local self.old self.new }
+        ensures routes { self.new ≡ reselected sources.now (C.cost_of costs.now) prefix.now local self.old }
+    {
+        let before = find_in(&self.selections, prefix);
+        let after = choose(&self.entries, prefix, local, &before, sources, costs);
+        set(&mut self.selections, *prefix, after);
+        (copy_of(&before), copy_of(&after))
+    }
+
+    /// The same. The result is the entry that the last reselection of the prefix selected, as it was
+    /// then, and the one that is selected now.
+    pub fn reselect<T: Table<Source, SourceEntry>, C: Costs>(
         &mut self,
         prefix: &Prefix,
         local: bool,
@@ -215,11 +282,10 @@ impl<E: Table<RouteKey, Entry>, S: Table<Prefix, Selection>> RoutesOver<E, S> {
     ) -> (Option<Entry>, Option<Entry>)
         ensures before { result.0 ≡ option_map (λ s. s.entry) (selection_at prefix.now self.old) }
         ensures after { result.1 ≡ option_map (λ s. s.entry) (choice_at sources.now (C.cost_of costs.now) prefix.now local self.old) }
+        ensures first { SelectsTheFirst sources.now (C.cost_of costs.now) prefix.now local self.old self.new }
         ensures routes { self.new ≡ reselected sources.now (C.cost_of costs.now) prefix.now local self.old }
     {
-        let before = find_in(&self.selections, prefix);
-        let after = choose(&self.entries, prefix, local, &before, sources, costs);
-        set(&mut self.selections, *prefix, after);
+        let (before, after) = self.select(prefix, local, sources, costs);
         (entry_of(&before), entry_of(&after))
     }
 
@@ -234,6 +300,12 @@ impl<E: Table<RouteKey, Entry>, S: Table<Prefix, Selection>> RoutesOver<E, S> {
         let selection = selected_prefix_after(&self.selections, &bound);
         lesser_prefix(route, selection)
     }
+}
+
+fn copy_of(selection: &Option<Selection>) -> Option<Selection>
+    ensures { result ≡ selection.now }
+{
+    *selection
 }
 
 fn entry_of(selection: &Option<Selection>) -> Option<Entry>
@@ -270,7 +342,7 @@ fn selected_prefix_after<S: Table<Prefix, Selection>>(
     }
 }
 
-/// The lesser of the prefixes that are there.
+/// The lesser of the prefixes, of those that there are.
 fn lesser_prefix(one: Option<Prefix>, other: Option<Prefix>) -> Option<Prefix>
     ensures { result ≡ lesser_of prefix_cmp one other }
 {
@@ -283,7 +355,7 @@ fn lesser_prefix(one: Option<Prefix>, other: Option<Prefix>) -> Option<Prefix>
     }
 }
 
-/// Whether the neighbour told of any prefix.
+/// Whether the neighbour has an entry for any prefix.
 fn has_routes_from<E: Table<RouteKey, Entry>>(entries: &E, peer: &Peer) -> bool
     ensures { result ≡ has_routes_from peer.now (E.entries entries.now) }
 {

@@ -1,15 +1,16 @@
 //! The source table (RFC 8966, section 3.2.5).
 
-ghost use Rattle.std.specs.Prelude.{◌≡◌, ◌+◌, ◌≤◌, ◌↔◌, [], length, slice_get, option_map, IfOk, OnOk, OnErr, IsErr, IsNone, IsTrue};
+ghost use Rattle.std.specs.Prelude.{◌≡◌, ◌+◌, ◌≤◌, ◌↔◌, [], length, slice_get, option_map, IfOk, OnOk, OnErr, IsErr, IsNone, IsTrue, IsFalse};
 ghost use Rattle.std.specs.FinMap.{find, is_sorted};
 ghost use Rattle.babel_value.specs.Orders.{source_cmp};
-ghost use Rattle.babel_route.specs.Digits.{binary_digits};
+ghost use Rattle.babel_table.specs.Digits.{binary_digits};
 ghost use Rattle.babel_route.specs.Distances.{is_feasible, improves_on, better_pair};
 ghost use Rattle.babel_route.specs.Sources.{pair_of, lowered, collected, collected_entry};
 
-use crate::table::find_in;
-use crate::walk::{Revision, revise_all};
-use crate::{Full, Held, Memory, SortedTable, Steps, Table};
+use babel_table::{
+    Change, Due, Full, Memory, Revised, Revision, SortedTable, Sought, Steps, Table, find_in,
+    least_due,
+};
 use babel_value::{Distance, Source};
 use std::alloc::Global;
 use std::marker::Model;
@@ -22,51 +23,80 @@ pub const SOURCE_PLACES: usize = 512;
 /// centiseconds (RFC 8966, appendix B: 3 minutes).
 pub const COLLECTION_TIME: u64 = 18_000;
 
+/// What a source table keeps of a source: its feasibility distance, and when it may be collected.
+#[derive(Clone, Copy, Debug, PartialEq, Eq)]
+pub struct SourceEntry {
+    /// The best distance of an update that was sent for the source.
+    pub distance: Distance,
+    /// The moment, in centiseconds, from which on the entry may be collected.
+    pub due: u64,
+}
+
 /// The source table: for each source its feasibility distance, in a table of the type `T`.
 #[derive(Drop)]
-pub struct SourcesOver<T: Table<Source, Held>> {
+pub struct SourcesOver<T: Table<Source, SourceEntry>> {
     table: T,
+    /// No entry is due before this moment.
+    due: u64,
+}
+
+impl Due for SourceEntry {
+    ghost due_of = { λ source_entry. source_entry.due };
+
+    fn due(&self) -> u64 {
+        self.due
+    }
 }
 
 /// The table that the source table is kept in.
-pub type SourceTable = SortedTable<Source, Held>;
+pub type SourceTable = SortedTable<Source, SourceEntry>;
 
 /// The source table of a speaker.
 pub type Sources = SourcesOver<SourceTable>;
 
-impl<T: Table<Source, Held>> Model for SourcesOver<T> {
+impl<T: Table<Source, SourceEntry>> Model for SourcesOver<T> {
     ghost use Rattle.std.specs.Prelude.{◌≡◌};
+    ghost use Rattle.babel_table.specs.Dues.{AreDueFrom};
     ghost use Rattle.babel_route.specs.Sources.{Sources};
 
     ghost Value = { Sources };
 
     ghost view = { λ s. T.entries s.table };
 
-    ghost invariant = { λ s. T.room s.table ≡ 512 };
+    ghost invariant = { λ s. (T.room s.table ≡ 512) × AreDueFrom (λ e. e.due) s.due (T.entries s.table) };
 }
 
-impl<T: Table<Source, Held>> SourcesOver<T> {
+impl<T: Table<Source, SourceEntry>> SourcesOver<T> {
     /// An empty source table, with its whole room.
     pub fn new(alloc: Global) -> Result<SourcesOver<T>, Memory>
         ensures { IfOk result (λ sources. sources ≡ []) }
     {
         let table = T::with_room(alloc, SOURCE_PLACES)?;
-        Ok(SourcesOver { table })
+        Ok(SourcesOver {
+            table,
+            due: u64::MAX,
+        })
     }
 
     /// The pair of a source, with the steps of the look-up counted.
-    pub fn look_up<L: Ledger>(&self, source: &Source, steps: &mut Steps<L>) -> Option<Distance>
-        ensures value { result ≡ pair_of source.now self.now }
+    pub fn look_up<L: Ledger, S: Sought<L, Source>>(
+        &self,
+        source: &S,
+        steps: &mut Steps<L>,
+    ) -> Option<Distance>
+        ensures value { result ≡ pair_of (S.key source.now) self.now }
         ensures cost { steps.new ≤ steps.old + T.most_steps (length self.now) }
     {
-        self.table.get(source, steps).map(|held| held.distance)
+        self.table
+            .get(source, steps)
+            .map(|source_entry| source_entry.distance)
     }
 
     /// The pair of a source.
     pub fn pair(&self, source: &Source) -> Option<Distance>
         ensures { result ≡ pair_of source.now self.now }
     {
-        find_in(&self.table, source).map(|held| held.distance)
+        find_in(&self.table, source).map(|source_entry| source_entry.distance)
     }
 
     /// How many sources have an entry.
@@ -92,39 +122,49 @@ impl<T: Table<Source, Held>> SourcesOver<T> {
     pub fn feasible(&self, source: Source, update: Distance) -> bool
         ensures { result ≡ is_feasible (pair_of source self.now) update }
     {
-        let metric = update.metric;
-        let improves = improves(self.pair(&source), update);
-        !metric.is_finite() || improves
+        if !update.metric.is_finite() {
+            return true;
+        }
+        improves(self.pair(&source), update)
     }
 
     /// Records that an update for the source is sent now with this distance (RFC 8966, section
     /// 3.7.3): the source's pair becomes the better of the two, and its time of collection is set
-    /// anew. `Full` exactly where the source has no entry and the table is full.
+    /// again. `Full` if and only if the source has no entry and the table is full.
     pub fn lower(&mut self, now: u64, source: Source, sent: Distance) -> Result<(), Full>
         ensures full { IsErr result ↔ (IsNone (find source_cmp source self.old) × (length self.old ≡ SOURCE_PLACES)) }
         ensures ok { OnOk result (self.new ≡ lowered now source sent self.old) }
         ensures err { OnErr result (self.new ≡ self.old) }
     {
-        let held = Held {
-            distance: better_of(self.pair(&source), sent),
-            due: now.saturating_add(COLLECTION_TIME),
-        };
-        self.table.put(source, held)
+        let due = now.saturating_add(COLLECTION_TIME);
+        self.due = self.due.min(due);
+        self.table.change(source, &Sending { sent, due })
     }
 
-    /// Removes each entry whose time of collection has come (RFC 8966, section 3.2.5).
-    pub fn collect(&mut self, now: u64)
-        ensures { self.new ≡ collected now self.old }
+    /// Removes each entry whose time of collection has come (RFC 8966, section 3.2.5). Returns `false` if
+    /// none is due; then it looks at no entry.
+    pub fn collect(&mut self, now: u64) -> bool
+        ensures sources { self.new ≡ collected now self.old }
+        ensures quiet { IsFalse result → self.new ≡ self.old }
     {
-        revise_all(&mut self.table, &Collection { now });
+        if now < self.due {
+            return false;
+        }
+        self.table.revise(&Collection { now });
+        self.due = least_due(&self.table);
+        true
     }
 }
 
 impl SourcesOver<SourceTable> {
-    /// The pair of a source. The look-up takes at most as many steps as the number of entries has
-    /// binary digits.
-    pub fn get<L: Ledger>(&self, source: &Source, steps: &mut Steps<L>) -> Option<Distance>
-        ensures value { result ≡ pair_of source.now self.now }
+    /// The pair of a source, usually given as a `&Source`. The look-up takes at most as many steps as
+    /// the number of entries has binary digits.
+    pub fn get<L: Ledger, S: Sought<L, Source>>(
+        &self,
+        source: &S,
+        steps: &mut Steps<L>,
+    ) -> Option<Distance>
+        ensures value { result ≡ pair_of (S.key source.now) self.now }
         ensures cost { steps.new ≤ steps.old + binary_digits (length self.now) }
     {
         self.look_up(source, steps)
@@ -154,20 +194,50 @@ fn better_of(pair: Option<Distance>, sent: Distance) -> Distance
     }
 }
 
+/// The distance of an entry, if there is one.
+fn distance_of(entry: Option<SourceEntry>) -> Option<Distance>
+    ensures { result ≡ option_map (λ e. e.distance) entry }
+{
+    match entry {
+        Some(entry) => Some(entry.distance),
+        None => None,
+    }
+}
+
+/// A distance that is sent, and the moment from which on its source may be collected.
+#[derive(Drop)]
+struct Sending {
+    sent: Distance,
+    due: u64,
+}
+
+impl Change<SourceEntry> for Sending {
+    ghost changed = { λ sending entry. record { distance = better_pair (option_map (λ e. e.distance) entry) sending.sent; due = sending.due } };
+
+    fn changed(&self, entry: Option<SourceEntry>) -> SourceEntry
+        ensures { result ≡ record { distance = better_pair (option_map (λ e. e.distance) entry) self.now.sent; due = self.now.due } }
+    {
+        SourceEntry {
+            distance: better_of(distance_of(entry), self.sent),
+            due: self.due,
+        }
+    }
+}
+
 /// The collection at a moment.
 #[derive(Drop)]
 struct Collection {
     now: u64,
 }
 
-impl Revision<Source, Held> for Collection {
+impl Revision<Source, SourceEntry> for Collection {
     ghost revised = { λ collection. collected_entry collection.now };
 
-    fn revise(&self, _source: &Source, held: &Held) -> Option<Held> {
-        if self.now >= held.due {
-            None
+    fn revise(&self, _source: &Source, source_entry: &SourceEntry) -> Revised<SourceEntry> {
+        if self.now >= source_entry.due {
+            Revised::Removed
         } else {
-            Some(*held)
+            Revised::Kept
         }
     }
 }

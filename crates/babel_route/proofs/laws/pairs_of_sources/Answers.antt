@@ -4,9 +4,9 @@ use Rattle.std.specs.Ordering.{eq_by_cmp}
 use Rattle.std.specs.FinMap.{find}
 use Rattle.std.specs.FinMap.Entries.{find-put}
 use Rattle.babel_value.specs.Orders.{source_cmp}
-use Rattle.babel_value.specs.OrderLaws.{source_total, source_exact}
-use Rattle.babel_route.specs.Sources.{pair_of, held_after, collected_entry}
-use Rattle.babel_route.proofs.PlaceLemmas.{find_revised}
+use Rattle.babel_value.proofs.OrderLaws.{source_total, source_exact}
+use Rattle.babel_route.specs.Sources.{pair_of, source_entry_after, collected_entry}
+use Rattle.babel_table.proofs.PlaceLemmas.{find_revised}
 use Rattle.babel_route.proofs.laws.pairs_of_sources.Goals as goal
 
 either : {A B : Type 0} (f : A → B) (b : Bool) (x : A) (o : Option A) → option_map f (cond b (Some x) o) ≡ cond b (Some (f x)) (option_map f o)
@@ -15,8 +15,8 @@ either f false x o = refl
 
 pub returns-clause-lowers : goal.returns-clause-lowers
 returns-clause-lowers c = λ now source other sent sources.
-    ap (option_map (λ held. held.distance)) (find-put source_cmp source_total other source (held_after now (pair_of source sources) sent) sources)
-    ∙ either (λ held. held.distance) (eq_by_cmp source_cmp other source) (held_after now (pair_of source sources) sent) (find source_cmp other sources)
+    ap (option_map (λ source_entry. source_entry.distance)) (find-put source_cmp source_total other source (source_entry_after now (pair_of source sources) sent) sources)
+    ∙ either (λ source_entry. source_entry.distance) (eq_by_cmp source_cmp other source) (source_entry_after now (pair_of source sources) sent) (find source_cmp other sources)
 
 pub returns-clause-collects : goal.returns-clause-collects
 returns-clause-collects c = λ now source sources sorted. find_revised source_cmp source_total source_exact (collected_entry now) source sources sorted

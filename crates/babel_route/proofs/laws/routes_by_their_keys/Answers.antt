@@ -4,19 +4,19 @@ use Rattle.std.specs.Option.{option_map_or}
 use Rattle.std.specs.Ordering.{is_eq}
 use Rattle.std.specs.FinMap.{find, put}
 use Rattle.std.specs.FinMap.Entries.{find-put}
-use Rattle.babel_route.specs.declared.route_keys.RouteKey.{RouteKey}
-use Rattle.babel_route.specs.declared.entries.Entry.{Entry}
+use Rattle.babel_route.specs.declared.routes.entries.RouteKey.{RouteKey}
+use Rattle.babel_route.specs.declared.routes.entries.Entry.{Entry}
 use Rattle.babel_route.specs.RouteKeys.{route_cmp, route_total, route_exact}
 use Rattle.babel_route.specs.Routes.{RouteEntries, key_of, entry_of_update, retracted_entry, retracted_from, kept_without, expired_entry}
-use Rattle.babel_route.proofs.PlaceLemmas.{find_revised}
-use Rattle.babel_route.proofs.SelectionLookups.{equal}
+use Rattle.babel_table.proofs.PlaceLemmas.{find_revised}
+use Rattle.babel_table.proofs.LookupLemmas.{equal}
 use Rattle.babel_route.proofs.laws.routes_by_their_keys.Goals as goal
 
 pub returns-clause-updates : goal.returns-clause-updates
 returns-clause-updates c = λ now prefix peer router distance next_hop interval key es.
     find-put route_cmp route_total key (key_of prefix peer) (entry_of_update now router distance next_hop interval) es
 
-retracts : (now : ℕ) (at key : RouteKey) (es : RouteEntries) (held : Option Entry) → find route_cmp at es ≡ held → (b : Bool) → is_eq (route_cmp key at) ≡ b → find route_cmp key (option_map_or (λ e. put route_cmp at (retracted_entry now e) es) held es) ≡ (if b then option_map (retracted_entry now) (find route_cmp key es) else find route_cmp key es)
+retracts : (now : ℕ) (at key : RouteKey) (es : RouteEntries) (source_entry : Option Entry) → find route_cmp at es ≡ source_entry → (b : Bool) → is_eq (route_cmp key at) ≡ b → find route_cmp key (option_map_or (λ e. put route_cmp at (retracted_entry now e) es) source_entry es) ≡ (if b then option_map (retracted_entry now) (find route_cmp key es) else find route_cmp key es)
 retracts now at key es None is true here =
     let none : find route_cmp key es ≡ None = subst (λ k. find route_cmp k es ≡ None) (sym (route_exact key at (equal (route_cmp key at) here))) is in
     none ∙ ap (option_map (retracted_entry now)) (sym none)

@@ -1,11 +1,13 @@
 -- An entry that is retracted has a place already.
-use Rattle.std.proofs.Common.{◌∙◌, sym, subst, IsNone, true≢false}
+use Rattle.std.proofs.Common.{◌∙◌, arith, sym, subst, IsNone, true≢false}
 use Rattle.babel_route.specs.Routes.{key_of}
 use Rattle.babel_route.proofs.RoomLemmas.{put_within}
+use Rattle.babel_route.proofs.DueLemmas.{put_due}
 use Rattle.babel_route.proofs.routes.RoutesOver.retract.Goals as goal
 
 pub invariant_of-self : goal.invariant_of-self
 invariant_of-self g c =
     let old = c.self.inside in
     let kept = c.self.invariant in
-    (c.set.ensures.room ∙ kept.0, kept.1, put_within (key_of c.args.prefix.now c.args.peer.now) c.retracted.result (g.E.Table.entries old.entries) (g.E.Table.entries c.set.new.table) (g.S.Table.entries old.selections) (g.met.E.Table.ordered old.entries) c.set.ensures.entries (λ none. absurd (true≢false (subst IsNone (sym c.in-Some.ensures) none))) kept.2)
+    let quiet = put_due c.min-self-inside.result old.due (key_of c.args.prefix.now c.args.peer.now) c.retracted-retracted.result (g.E.Table.entries old.entries) (g.E.Table.entries c.set.new.table) (omega (arith, c.min-self-inside.ensures)) (omega (arith, c.min-self-inside.ensures)) c.set.ensures.entries kept.3 in
+    (c.set.ensures.room ∙ kept.0, kept.1, put_within (key_of c.args.prefix.now c.args.peer.now) c.retracted-retracted.result (g.E.Table.entries old.entries) (g.E.Table.entries c.set.new.table) (g.S.Table.entries old.selections) (g.met.E.Table.ordered old.entries) c.set.ensures.entries (λ none. absurd (true≢false (subst IsNone (sym c.in-Some.ensures) none))) kept.2, quiet)

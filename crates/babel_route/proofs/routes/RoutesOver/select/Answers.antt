@@ -1,0 +1,41 @@
+-- A selection takes no place, since its prefix has an entry.
+use Rattle.std.specs.FinMap.{find}
+use Rattle.std.proofs.Common.{◌∙◌, sym, ap, subst, length, ◌<◌}
+use Rattle.babel_value.specs.Orders.{prefix_cmp}
+use Rattle.babel_table.specs.Entries.{with_value}
+use Rattle.babel_route.specs.Selections.{RoutesValue, Selections, choice, reselected}
+use Rattle.babel_route.proofs.CurrentLemmas.{selects_first, selected_here}
+use Rattle.babel_route.proofs.RoomLemmas.{selection_fits_new, selected_within}
+use Rattle.babel_route.proofs.routes.RoutesOver.select.Goals as goal
+
+pub set-requires : goal.set-requires
+set-requires g c =
+    let old = c.self.inside in
+    let kept = c.self.invariant in
+    record { room = λ some none. subst (λ room. length (g.S.Table.entries old.selections) < room) (sym kept.1) (selection_fits_new c.args.prefix.now (g.E.Table.entries old.entries) (g.S.Table.entries old.selections) (g.met.S.Table.ordered old.selections) (c.choose-after.ensures.known some) none kept.2) }
+
+pub invariant_of-self : goal.invariant_of-self
+invariant_of-self g c =
+    let old = c.self.inside in
+    let kept = c.self.invariant in
+    (kept.0, c.set.ensures.room ∙ kept.1, selected_within c.args.prefix.now c.choose-after.result (g.E.Table.entries old.entries) (g.S.Table.entries old.selections) (g.S.Table.entries c.set.new.table) c.choose-after.ensures.known c.set.ensures.entries kept.2, kept.3)
+
+pub returns-clause-first : goal.returns-clause-first
+returns-clause-first g c =
+    let sources = c.args.sources.now in
+    let cost = g.C.Costs.cost_of c.args.costs.now in
+    let prefix = c.args.prefix.now in
+    let local = c.args.local in
+    let es = g.E.Table.entries c.self.inside.entries in
+    let ss = g.S.Table.entries c.self.inside.selections in
+    let new : RoutesValue = record { entries = es; selections = g.S.Table.entries c.set.new.table } in
+    let chosen = c.choose-after.ensures.choice ∙ ap (λ before. choice sources cost prefix local before es) c.find_in-before.ensures in
+    let selections = c.set.ensures.entries ∙ ap (λ value. with_value prefix_cmp prefix value ss) chosen in
+    selects_first sources cost prefix local c.args.self.now new
+    (ap (λ (xs : Selections). record { entries = es; selections = xs }) selections ∙ ap (reselected sources cost prefix local) c.self.view_is)
+
+pub returns-clause-selected : goal.returns-clause-selected
+returns-clause-selected g c =
+    let prefix = c.args.prefix.now in
+    c.copy_of-2.ensures
+    ∙ sym (ap (find prefix_cmp prefix) c.set.ensures.entries ∙ selected_here prefix c.choose-after.result (g.S.Table.entries c.self.inside.selections))

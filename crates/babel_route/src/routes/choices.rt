@@ -1,0 +1,152 @@
+//! The choice among the candidates of a prefix (RFC 8966, section 3.6).
+
+ghost use Rattle.std.specs.Prelude.{◌≡◌, ℕ, true, Option, IsSome, Some, None, option_map, if◌then◌else◌};
+ghost use Rattle.std.specs.List.{filter};
+ghost use Rattle.std.specs.Option.{option_map_or};
+ghost use Rattle.std.specs.Ordering.{is_lt};
+ghost use Rattle.babel_value.specs.declared.keys.Peer.{Peer};
+ghost use Rattle.babel_table.specs.Firsts.{first_of};
+ghost use Rattle.babel_route.specs.Selections.{routes_of, has_entry, choice, peer_before, is_candidate, is_change, is_feasible_route, route_metric, rank_of, rank_cmp, preference, selection_of};
+
+use super::walks::PrefixRoutes;
+use crate::{Entry, RouteKey, Selection, SourceEntry, SourcesOver};
+use babel_table::Table;
+use babel_value::{Metric, Peer, Prefix, Source};
+
+/// The costs of the links to the neighbours now (RFC 8966, section 3.4.3).
+pub trait Costs {
+    ghost cost_of: { Self → Peer → ℕ };
+
+    /// The cost of the link to the neighbour.
+    fn cost(&self, peer: &Peer) -> Metric
+        ensures { result ≡ cost_of self.now peer.now };
+}
+
+/// The criteria between the candidates of a prefix, the first field first: the least rank is selected.
+#[derive(Clone, Copy, Debug, PartialEq, Eq, PartialOrd, Ord)]
+pub struct Rank {
+    /// The metric by the neighbour's present cost.
+    pub metric: Metric,
+    /// Whether the neighbour is another than the one selected before.
+    pub is_change: bool,
+    /// The neighbour.
+    pub peer: Peer,
+}
+
+/// A candidate with its rank.
+#[derive(Clone, Copy)]
+struct Candidate {
+    rank: Rank,
+    route: (RouteKey, Entry),
+}
+
+/// The selection of the prefix after this one: the candidate that no other comes before, and none if
+/// the prefix is the speaker's own.
+pub(crate) fn choose<E: Table<RouteKey, Entry>, T: Table<Source, SourceEntry>, C: Costs>(
+    entries: &E,
+    prefix: &Prefix,
+    local: bool,
+    before: &Option<Selection>,
+    sources: &SourcesOver<T>,
+    costs: &C,
+) -> Option<Selection>
+    ensures choice { result ≡ choice sources.now (C.cost_of costs.now) prefix.now local before.now (E.entries entries.now) }
+    ensures known { IsSome result → has_entry (E.entries entries.now) prefix.now ≡ true }
+{
+    if local {
+        return None;
+    }
+    let peer = peer_of(before);
+    first_candidate(entries, prefix, peer, sources, costs)
+}
+
+fn peer_of(selection: &Option<Selection>) -> Option<Peer>
+    ensures { result ≡ peer_before selection.now }
+{
+    match selection {
+        Some(selection) => Some(selection.peer),
+        None => None,
+    }
+}
+
+/// The candidate of the prefix that no other comes before, if this neighbour was selected before.
+fn first_candidate<E: Table<RouteKey, Entry>, T: Table<Source, SourceEntry>, C: Costs>(
+    entries: &E,
+    prefix: &Prefix,
+    before: Option<Peer>,
+    sources: &SourcesOver<T>,
+    costs: &C,
+) -> Option<Selection>
+    ensures { result ≡ option_map selection_of (first_of (preference (C.cost_of costs.now) before) (filter (is_candidate sources.now (C.cost_of costs.now)) (routes_of prefix.now (E.entries entries.now)))) }
+{
+    let mut first: Option<Candidate> = None;
+    for route in PrefixRoutes::new(entries, *prefix) {
+        if let Some(rank) = candidate_rank(&route, before, sources, costs) {
+            first = Some(first_of_two(first, Candidate { rank, route }));
+        }
+    }
+    match first {
+        Some(first) => Some(Selection {
+            peer: first.route.0.peer,
+            entry: first.route.1,
+        }),
+        None => None,
+    }
+}
+
+/// The candidate found before, unless the new one comes before it.
+fn first_of_two(found: Option<Candidate>, new: Candidate) -> Candidate
+    ensures { result ≡ option_map_or (λ old. if is_lt (rank_cmp new.rank old.rank) then new else old) found new }
+{
+    match found {
+        Some(old) if !new.rank.cmp(&old.rank).is_lt() => old,
+        _ => new,
+    }
+}
+
+/// The rank of a route that is a candidate: it is feasible and its metric is finite.
+fn candidate_rank<T: Table<Source, SourceEntry>, C: Costs>(
+    route: &(RouteKey, Entry),
+    before: Option<Peer>,
+    sources: &SourcesOver<T>,
+    costs: &C,
+) -> Option<Rank>
+    ensures { result ≡ (if is_candidate sources.now (C.cost_of costs.now) route.now then Some (rank_of (C.cost_of costs.now) before route.now) else None) }
+{
+    let peer = route.0.peer;
+    let metric = route.1.distance.metric.add(costs.cost(&peer));
+    if metric.is_finite() && is_feasible(route, sources) {
+        let is_change = is_change(before, peer);
+        Some(Rank {
+            metric,
+            is_change,
+            peer,
+        })
+    } else {
+        None
+    }
+}
+
+/// Whether the route is feasible against the source table (RFC 8966, section 3.5.1).
+fn is_feasible<T: Table<Source, SourceEntry>>(
+    route: &(RouteKey, Entry),
+    sources: &SourcesOver<T>,
+) -> bool
+    ensures { result ≡ is_feasible_route sources.now route.now }
+{
+    let source = Source {
+        prefix: route.0.prefix,
+        router: route.1.router,
+    };
+    sources.feasible(source, route.1.distance)
+}
+
+/// Whether the neighbour is another than the one selected before.
+fn is_change(before: Option<Peer>, peer: Peer) -> bool
+    ensures { result ≡ is_change before peer }
+{
+    match before {
+        Some(before) => !peer.cmp(&before).is_eq(),
+        None => true,
+    }
+}

@@ -1,0 +1,69 @@
+//! How many places of a route table are taken.
+
+ghost use Rattle.std.specs.Prelude.{◌≡◌, ◌+◌, ◌≤◌, false, not, length, slice_get, nat_le};
+ghost use Rattle.std.specs.Option.{option_map_or};
+ghost use Rattle.babel_route.specs.Selections.{has_entry, orphans};
+
+use super::ROUTE_PLACES;
+use super::walks::PrefixRoutes;
+use crate::{Entry, RouteKey, Selection};
+use babel_table::Table;
+use babel_value::Prefix;
+
+/// Whether all places are taken: one for each entry, and one for each prefix that has a selection but
+/// no entry. Those prefixes are counted only if there may be too many.
+pub(crate) fn is_crowded<E: Table<RouteKey, Entry>, S: Table<Prefix, Selection>>(
+    entries: &E,
+    selections: &S,
+) -> bool
+    requires entries { E.room entries.now ≡ 256 }
+    requires selections { S.room selections.now ≡ 256 }
+    ensures { result ≡ nat_le 256 (length (E.entries entries.now) + orphans (E.entries entries.now) (S.entries selections.now)) }
+{
+    if entries.len() + selections.len() < ROUTE_PLACES {
+        return false;
+    }
+    entries.len() + count_orphans(entries, selections) >= ROUTE_PLACES
+}
+
+/// How many prefixes have a selection but no entry.
+fn count_orphans<E: Table<RouteKey, Entry>, S: Table<Prefix, Selection>>(
+    entries: &E,
+    selections: &S,
+) -> usize
+    requires { S.room selections.now ≡ 256 }
+    ensures count { result ≡ orphans (E.entries entries.now) (S.entries selections.now) }
+    ensures within { result ≤ 256 }
+{
+    let mut count = 0;
+    for place in 0..selections.len() {
+        if is_orphan(entries, selections, place) {
+            count += 1;
+        }
+    }
+    count
+}
+
+/// Whether there is a selection at the index, and its prefix has no entry.
+fn is_orphan<E: Table<RouteKey, Entry>, S: Table<Prefix, Selection>>(
+    entries: &E,
+    selections: &S,
+    place: usize,
+) -> bool
+    ensures { result ≡ option_map_or (λ s. not (has_entry (E.entries entries.now) s.0)) (slice_get (S.entries selections.now) place) false }
+{
+    match selections.at(place) {
+        Some(selection) => !has_entry(entries, selection.0),
+        None => false,
+    }
+}
+
+/// Whether the prefix has an entry.
+fn has_entry<E: Table<RouteKey, Entry>>(entries: &E, prefix: Prefix) -> bool
+    ensures { result ≡ has_entry (E.entries entries.now) prefix }
+{
+    match PrefixRoutes::new(entries, prefix).next() {
+        Some(_) => true,
+        None => false,
+    }
+}

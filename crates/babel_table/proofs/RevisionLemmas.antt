@@ -1,0 +1,117 @@
+-- What a revision leaves of the order of the keys, and a step of its pass.
+use Rattle.std.proofs.Common.{◌≡◌, ℕ, zero, suc, ◌+◌, ◌<◌, ◌≤◌, Bool, true, false, cond, ◌&&◌, List, [], ◌∷◌, ◌++◌, length, get_or, set, take, drop, slice_get, option_map, option_and_then, is_none, Option, Some, None, refl, sym, ap, subst, ◌∙◌, arith, add-one, append_assoc}
+use Rattle.std.specs.List.{cons_option}
+use Rattle.std.proofs.Math.Seq.{drop-cons}
+use Rattle.std.proofs.lemmas.List.{drop-set-lt, take_more_set, drop_all, append-nil}
+use Rattle.std.proofs.lemmas.Bool.{and_parts, and_from, true≢false}
+use Rattle.std.proofs.lemmas.Option.{same_Some, none-some}
+use Rattle.std.specs.declared.cmp.Ordering.{Ordering}
+use Rattle.std.specs.declared.cmp.Ordering.TheVariants.{Less, Equal, Greater}
+use Rattle.std.specs.Ordering.{is_lt, is_eq, eq_by_cmp}
+use Rattle.std.specs.Cmp.{IsTotalOrder}
+use Rattle.std.specs.FinMap.{find, put, is_sorted, IsAntisymmetric}
+use Rattle.std.specs.FinMap.Entries.{below_all, same_entries}
+use Rattle.babel_table.specs.Entries.{revised_entries}
+use Rattle.babel_table.specs.Insertions.{in_order, are_distinct, sorted_in_order}
+use Rattle.babel_table.proofs.PlaceLemmas.{holds, so, find_revised}
+use Rattle.babel_table.proofs.InsertionLemmas.{find_in_order}
+
+-- Writing an item over itself changes nothing.
+pub set_same : {A : Type 0} (es : List A) (i : ℕ) (e : A) → slice_get es i ≡ Some e → set es i e ≡ es
+set_same [] i e at = absurd (none-some e at)
+set_same (f ∷ es) zero e at = ap (λ x. x ∷ es) (sym (same_Some f e at))
+set_same (f ∷ es) (suc i) e at = ap (λ xs. f ∷ xs) (set_same es i e at)
+
+module _ {K V : Type 0} (f : K → V → Option V) (es : List (K × V)) (i : ℕ) (e : K × V) (within : i < length es) (read : e ≡ get_or es i e) where
+  drop-read : drop i es ≡ e ∷ drop (i + 1) es
+  drop-read = rw add-one (drop-cons es i e within ∙ ap (λ (x : K × V). x ∷ drop (suc i) es) (sym read))
+
+  pub revised-stays : (v : V) → f e.0 e.1 ≡ Some v → revised_entries f (drop i es) ≡ (e.0, v) ∷ revised_entries f (drop (i + 1) es)
+  revised-stays v stays = rw (drop-read, stays) refl
+
+  pub revised-goes : f e.0 e.1 ≡ None → revised_entries f (drop i es) ≡ revised_entries f (drop (i + 1) es)
+  revised-goes goes = rw (drop-read, goes) refl
+
+  -- An entry that stays is written after the others that stay.
+  pub stays_more : (kept : ℕ) (v : V) (whole : List (K × V)) → kept ≤ i → f e.0 e.1 ≡ Some v → take kept es ++ revised_entries f (drop i es) ≡ whole → take (kept + 1) (set es kept (e.0, v)) ++ revised_entries f (drop (i + 1) (set es kept (e.0, v))) ≡ whole
+  stays_more kept v whole late stays so_far =
+      let y : K × V = (e.0, v) in
+      rw (take_more_set es kept y (omega arith), drop-set-lt (i + 1) es kept y (omega arith), append_assoc)
+      (ap (λ rest. take kept es ++ rest) (sym (revised-stays v stays)) ∙ so_far)
+
+  pub stays_same : (before whole : List (K × V)) → f e.0 e.1 ≡ None → before ++ revised_entries f (drop i es) ≡ whole → before ++ revised_entries f (drop (i + 1) es) ≡ whole
+  stays_same before whole goes so_far = ap (λ rest. before ++ rest) (sym (revised-goes goes)) ∙ so_far
+
+module _ {K V : Type 0} (R : K → K → Ordering) (f : K → V → Option V) where
+  below_revised : (x : K) (es : List (K × V)) → below_all R x es ≡ true → below_all R x (revised_entries f es) ≡ true
+  below_revised x [] h = refl
+  below_revised x (e ∷ es) h =
+      let parts = and_parts (is_lt (R x e.0)) (below_all R x es) h in by (f e.0 e.1) parts.0 (below_revised x es parts.1)
+    where
+      by : (r : Option V) → is_lt (R x e.0) ≡ true → below_all R x (revised_entries f es) ≡ true → below_all R x (cons_option (option_map (λ v. (e.0, v)) r) (revised_entries f es)) ≡ true
+      by None here rest = rest
+      by (Some v) here rest = and_from (is_lt (R x e.0)) (below_all R x (revised_entries f es)) here rest
+
+  pub sorted_revised : (es : List (K × V)) → is_sorted R es ≡ true → is_sorted R (revised_entries f es) ≡ true
+  sorted_revised [] h = refl
+  sorted_revised (e ∷ es) h =
+      let parts = and_parts (below_all R e.0 es) (is_sorted R es) h in
+      by (f e.0 e.1) (below_revised e.0 es parts.0) (sorted_revised es parts.1)
+    where
+      by : (r : Option V) → below_all R e.0 (revised_entries f es) ≡ true → is_sorted R (revised_entries f es) ≡ true → is_sorted R (cons_option (option_map (λ v. (e.0, v)) r) (revised_entries f es)) ≡ true
+      by None below rest = rest
+      by (Some v) below rest = and_from (below_all R e.0 (revised_entries f es)) (is_sorted R (revised_entries f es)) below rest
+
+  -- ---- entries in the order in which they were first stored
+  missing_revised : (k : K) (es : List (K × V)) → find R k es ≡ None → find R k (revised_entries f es) ≡ None
+  missing_revised k [] h = refl
+  missing_revised k (e ∷ es) h = by (f e.0 e.1) (R k e.0) refl h (missing_revised k es)
+    where
+      by : (r : Option V) (c : Ordering) → R k e.0 ≡ c → cond (is_eq c) (Some e.1) (find R k es) ≡ None → (find R k es ≡ None → find R k (revised_entries f es) ≡ None) → find R k (cons_option (option_map (λ v. (e.0, v)) r) (revised_entries f es)) ≡ None
+      by None Less p h rest = rest h
+      by None Greater p h rest = rest h
+      by r Equal p h rest = absurd (none-some e.1 (sym h))
+      by (Some v) Less p h rest = rw p (rest h)
+      by (Some v) Greater p h rest = rw p (rest h)
+
+  no_value : {A : Type 0} (o : Option A) → is_none o ≡ true → o ≡ None
+  no_value None e = refl
+  no_value (Some x) e = absurd (true≢false (sym e))
+
+  pub distinct_revised : (es : List (K × V)) → are_distinct R es ≡ true → are_distinct R (revised_entries f es) ≡ true
+  distinct_revised [] h = refl
+  distinct_revised (e ∷ es) h =
+      let parts = and_parts (is_none (find R e.0 es)) (are_distinct R es) h in
+      by (f e.0 e.1) (missing_revised e.0 es (no_value (find R e.0 es) parts.0)) (distinct_revised es parts.1)
+    where
+      by : (r : Option V) → find R e.0 (revised_entries f es) ≡ None → are_distinct R (revised_entries f es) ≡ true → are_distinct R (cons_option (option_map (λ v. (e.0, v)) r) (revised_entries f es)) ≡ true
+      by None missing rest = rest
+      by (Some v) missing rest = rw missing rest
+
+  find_revised_distinct : (exact : IsAntisymmetric R) (k : K) (es : List (K × V)) → are_distinct R es ≡ true → find R k (revised_entries f es) ≡ option_and_then (f k) (find R k es)
+  find_revised_distinct exact k [] h = refl
+  find_revised_distinct exact k (e ∷ es) h =
+      let parts = and_parts (is_none (find R e.0 es)) (are_distinct R es) h in
+      by (f e.0 e.1) (R k e.0) refl refl (missing_revised e.0 es (no_value (find R e.0 es) parts.0)) (find_revised_distinct exact k es parts.1)
+    where
+      by : (r : Option V) (c : Ordering) → f e.0 e.1 ≡ r → R k e.0 ≡ c → find R e.0 (revised_entries f es) ≡ None → find R k (revised_entries f es) ≡ option_and_then (f k) (find R k es) → find R k (cons_option (option_map (λ v. (e.0, v)) r) (revised_entries f es)) ≡ option_and_then (f k) (cond (is_eq c) (Some e.1) (find R k es))
+      by None Less is p missing rest = rest
+      by None Greater is p missing rest = rest
+      by (Some v) Less is p missing rest = rw p rest
+      by (Some v) Greater is p missing rest = rw p rest
+      by None Equal is p missing rest =
+          subst (λ j. find R j (revised_entries f es) ≡ f j e.1) (sym (exact k e.0 p)) (missing ∙ sym is)
+      by (Some v) Equal is p missing rest = rw p (sym is ∙ ap (λ j. f j e.1) (sym (exact k e.0 p)))
+
+  pub in_order_revised : IsTotalOrder R → IsAntisymmetric R → (es : List (K × V)) → are_distinct R es ≡ true → in_order R (revised_entries f es) ≡ revised_entries f (in_order R es)
+  in_order_revised o exact es distinct =
+      same_entries R o exact (in_order R (revised_entries f es)) (revised_entries f (in_order R es))
+      (holds (is_sorted R (in_order R (revised_entries f es))) (sorted_in_order R o (revised_entries f es)))
+      (holds (is_sorted R (revised_entries f (in_order R es))) (sorted_revised (in_order R es) (sorted_in_order R o es)))
+      (λ k. find_in_order R o k (revised_entries f es) ∙ find_revised_distinct exact k es distinct
+      ∙ ap (option_and_then (f k)) (sym (find_in_order R o k es)) ∙ sym (find_revised R o exact f k (in_order R es) (sorted_in_order R o es)))
+
+-- At the end nothing is left to revise.
+pub stays_all : {K V : Type 0} (f : K → V → Option V) (es : List (K × V)) (i : ℕ) → length es ≤ i → (before whole : List (K × V)) → before ++ revised_entries f (drop i es) ≡ whole → before ≡ whole
+stays_all f es i past before whole so_far =
+    sym (append-nil before) ∙ ap (λ rest. before ++ revised_entries f rest) (sym (drop_all i es past)) ∙ so_far

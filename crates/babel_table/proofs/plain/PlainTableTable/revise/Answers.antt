@@ -1,0 +1,17 @@
+-- A revision keeps the keys distinct, and doesn't depend on the order of the entries.
+use Rattle.std.proofs.Common.{◌≡◌, true, sym, ap, subst, ◌∙◌}
+use Rattle.babel_table.specs.Insertions.{in_order, are_distinct}
+use Rattle.babel_table.proofs.RevisionLemmas.{distinct_revised, in_order_revised}
+use Rattle.babel_table.proofs.plain.PlainTableTable.revise.Goals as goal
+
+pub invariant_of-self-clause-distinct : goal.invariant_of-self-clause-distinct
+invariant_of-self-clause-distinct g c =
+    let table = c.args.self.now in
+    subst (λ es. are_distinct g.K.Key.order es ≡ true) (sym c.compact.ensures.items)
+    (distinct_revised g.K.Key.order (g.R.Revision.revised c.args.revision.now) table.entries.items table.distinct)
+
+pub returns-clause-entries : goal.returns-clause-entries
+returns-clause-entries g c =
+    let table = c.args.self.now in
+    ap (in_order g.K.Key.order) c.compact.ensures.items
+    ∙ in_order_revised g.K.Key.order (g.R.Revision.revised c.args.revision.now) g.met.K.Key.total g.met.K.Key.exact table.entries.items table.distinct

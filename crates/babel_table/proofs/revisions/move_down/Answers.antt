@@ -1,0 +1,9 @@
+-- An item that is written over itself changes nothing.
+use Rattle.std.proofs.Common.{◌≡◌, Some, slice_get, sym, subst, arith}
+use Rattle.babel_table.proofs.RevisionLemmas.{set_same}
+use Rattle.babel_table.proofs.revisions.move_down.Goals as goal
+
+pub returns-else-to-from-clause-items : goal.returns-else-to-from-clause-items
+returns-else-to-from-clause-items g c =
+    let same : c.args.from ≡ c.args.to = omega (arith, c.requires.order, c.if-to-from.false) in
+    sym (set_same c.args.items.now.items c.args.to c.args.item (subst (λ i. slice_get c.args.items.now.items i ≡ Some c.args.item) same c.requires.item))

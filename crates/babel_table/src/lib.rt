@@ -1,0 +1,33 @@
+//! Tables: at most a fixed number of values, each at a key of its own.
+//!
+//! - `keys`: what a key is, and how a look-up sees it.
+//! - `steps`: counters of comparisons, which take no room at run time.
+//! - `table`: the trait `Table`, and calls over any table.
+//! - `sorted`, `plain`: the two tables.
+//! - `revisions`, `bounds`, `dues`: walks over any table.
+//! - `laws`: laws of the definitions.
+//!
+//! A table takes its whole room when it is made. Afterwards no call takes memory.
+#![tactic(auto)]
+
+mod bounds;
+mod dues;
+mod errors;
+mod keys;
+pub mod laws;
+mod plain;
+mod revisions;
+mod sorted;
+mod steps;
+mod table;
+
+pub use babel_value::Memory;
+pub use bounds::{Bound, places_below};
+pub use dues::{Due, least_due};
+pub use errors::Full;
+pub use keys::{Key, Sought};
+pub use plain::PlainTable;
+pub use revisions::{Change, Revised, Revision};
+pub use sorted::SortedTable;
+pub use steps::Steps;
+pub use table::{Table, find_in, set};
