@@ -1,0 +1,8 @@
+use Rattle.babel_state.proofs.Reselecting.{reselects_base, all_base}
+use Rattle.babel_state.proofs.laws.reselections_keep_the_rest.Goals as goal
+
+pub returns-clause-one : goal.returns-clause-one
+returns-clause-one c = reselects_base
+
+pub returns-clause-all : goal.returns-clause-all
+returns-clause-all c = all_base

@@ -1,0 +1,150 @@
+//! Laws of the definitions, each the contract of a function that does nothing.
+
+ghost use Rattle.std.specs.Prelude.{◌≡◌, ◌<◌, ◌≤◌, ◌^◌, List, length};
+ghost use Rattle.babel_state.specs.declared.items.Item.{Item};
+ghost use Rattle.babel_state.specs.Invariants.{CostsKeepCurrent, SendingKeepsSelected, SendingKeepsSelections, SendingKeepsCurrentInHalf, NewSpeakersAreWellFormed, MessagesKeepWellFormed, TicksKeepWellFormed, SendingKeepsWellFormed, CostsKeepWellFormed, AnnouncingKeepsWellFormed, WithdrawingKeepsWellFormed, RaisingKeepsWellFormed};
+ghost use Rattle.babel_state.specs.Queueing.{Pending, queued, queued_at_once};
+ghost use Rattle.babel_state.specs.QueueLaws.{QueueingAppends, NothingIsSkipped, NoneIfNothingPending, ItemsAreEncodable, DatagramsAreEncodable, ItemsHaveInterfaces};
+ghost use Rattle.babel_state.specs.SettledLaws.{SettledReselectsNothing, HellosKeepCurrent, IhusKeepCurrent, TimersKeepCurrent};
+ghost use Rattle.babel_state.specs.SeenLaws.{DatagramsSend, NoDatagramChangesNothing, PlacesMove, TicksMove, CostsMove, AnnouncingMoves, WithdrawingMoves, RaisingMoves, MessagesAreHeard, NewSpeakersAreNew, CurrentIsSelecting, TicksHearNothing};
+ghost use Rattle.babel_state.specs.CurrentSelections.{MessagesKeepCurrent, PlacesKeepCurrent, AnnouncingKeepsCurrent, WithdrawingKeepsCurrent, RaisingKeepsCurrent, NewSpeakersAreCurrent, ReselectionsMakeCurrent, TicksMakeCurrent};
+ghost use Rattle.babel_state.specs.StepLaws.{ReselectionKeepsBase, ReselectionOfAllKeepsBase, MessagesKeepOwn, TicksKeepOwn, SendingKeepsKnown, SendingLowersSources, MessagesKeepSettings, TicksKeepSettings, SendingKeepsSettings, AnnouncingKeepsSettings, WithdrawingKeepsSettings, RaisingKeepsSettings, CostsSetOneCost};
+
+/// Items that are queued one after the other leave what they leave all at once: the last 4,096 of the
+/// old items followed by the new ones, and a count of what was cut.
+pub fn queueing_keeps_the_last()
+    ensures all { (xs : List Item) (old : Pending) → length old.items ≤ 4096 → old.dropped < 2 ^ 64 → queued xs old ≡ queued_at_once xs old }
+    ensures append { QueueingAppends }
+{}
+
+/// A message leaves the speaker's own router-id, prefixes and source table as they were, and its seqno
+/// grows at most once.
+pub fn messages_keep_what_is_own()
+    ensures { MessagesKeepOwn }
+{}
+
+/// So does a tick, which doesn't raise the seqno either, where collection is off.
+pub fn ticks_keep_what_is_own()
+    ensures { TicksKeepOwn }
+{}
+
+/// Sending changes nothing that the speaker knows, no selection above all, and lowers each source by
+/// exactly the updates that are sent for it.
+pub fn sending_lowers_sources()
+    ensures known { SendingKeepsKnown }
+    ensures sources { SendingLowersSources }
+{}
+
+/// A reselection, and that of all, leave all but selections, requests and pending items as it was.
+pub fn reselections_keep_the_rest()
+    ensures one { ReselectionKeepsBase }
+    ensures all { ReselectionOfAllKeepsBase }
+{}
+
+/// In a new speaker, after a reselection of all, and after a tick with collection off, the selection of
+/// every prefix is that of the definition.
+#[inline]
+pub fn selections_are_current()
+    ensures new { NewSpeakersAreCurrent }
+    ensures all { ReselectionsMakeCurrent }
+    ensures tick { TicksMakeCurrent }
+{}
+
+/// If all selections are current, each is a feasible and finite route of the table, with a metric above the
+/// advertised one; and a new speaker has neither routes nor sources.
+#[inline]
+pub fn selected_routes_are_good()
+    ensures new { NewSpeakersAreNew }
+    ensures current { CurrentIsSelecting }
+{}
+
+/// A message and a tick leave the routes in order, and each finite route that is there after them was
+/// there before, or is what the message advertised, of its sender.
+pub fn routes_come_from_updates()
+    ensures messages { MessagesAreHeard }
+    ensures ticks { TicksHearNothing }
+{}
+
+/// A new speaker's state is well formed, and each step keeps it well formed: its tables are in order and
+/// within their room, every cost is positive, and every selected route is an entry and a candidate.
+#[inline]
+pub fn states_are_well_formed()
+    ensures new { NewSpeakersAreWellFormed }
+    ensures messages { MessagesKeepWellFormed }
+    ensures tick { TicksKeepWellFormed }
+    ensures next_datagram { SendingKeepsWellFormed }
+    ensures set_cost { CostsKeepWellFormed }
+    ensures announce { AnnouncingKeepsWellFormed }
+    ensures withdraw { WithdrawingKeepsWellFormed }
+    ensures raise { RaisingKeepsWellFormed }
+{}
+
+/// What a network sees of each call but `next_datagram`: the updates that were heard, how often the own
+/// seqno grew, which prefixes are announced, and that the selected routes are good.
+#[inline]
+pub fn calls_move()
+    ensures datagrams { PlacesMove }
+    ensures tick { TicksMove }
+    ensures set_cost { CostsMove }
+    ensures announce { AnnouncingMoves }
+    ensures withdraw { WithdrawingMoves }
+    ensures raise { RaisingMoves }
+{}
+
+/// What a network sees of the next datagram: what its updates advertise, the own address that each names
+/// as next hop, and the sources that they lower. If there is none, nothing that is seen changed.
+#[inline]
+pub fn datagrams_send()
+    ensures sent { DatagramsSend }
+    ensures none { NoDatagramChangesNothing }
+{}
+
+/// Messages, new costs, own prefixes and raises keep each selection that is current.
+/// The next datagram changes no selection, and leaves each selected route a candidate. It keeps a current
+/// selection, unless an unfeasible route of the prefix becomes feasible. That can't be while the seqnos of
+/// the prefix lie in one half of the circle.
+#[inline]
+pub fn selections_stay_current()
+    ensures messages { MessagesKeepCurrent }
+    ensures datagrams { PlacesKeepCurrent }
+    ensures set_cost { CostsKeepCurrent }
+    ensures announce { AnnouncingKeepsCurrent }
+    ensures withdraw { WithdrawingKeepsCurrent }
+    ensures raise { RaisingKeepsCurrent }
+    ensures next_datagram { SendingKeepsSelected }
+    ensures sending { SendingKeepsSelections }
+    ensures half { SendingKeepsCurrentInHalf }
+{}
+
+/// An item that means nothing leaves the queue and changes nothing else. There is no datagram if and only
+/// if no pending item means a message. Every message of an item, and of a datagram, can be encoded, and
+/// goes over an interface that exists.
+#[inline]
+pub fn items_mean_messages()
+    ensures skipped { NothingIsSkipped }
+    ensures none { NoneIfNothingPending }
+    ensures encodable { ItemsAreEncodable }
+    ensures datagrams { DatagramsAreEncodable }
+    ensures interfaces { ItemsHaveInterfaces }
+{}
+
+/// Each call keeps the addresses, the cost and the Hello interval of each interface. `set_cost` alone
+/// changes a cost, and only that of its interface.
+pub fn settings_stay()
+    ensures messages { MessagesKeepSettings }
+    ensures tick { TicksKeepSettings }
+    ensures next_datagram { SendingKeepsSettings }
+    ensures announce { AnnouncingKeepsSettings }
+    ensures withdraw { WithdrawingKeepsSettings }
+    ensures raise { RaisingKeepsSettings }
+    ensures set_cost { CostsSetOneCost }
+{}
+
+/// If all selections are current, reselecting all of them changes nothing. Hellos and IHUs that change no
+/// cost of the link to their sender, repeated requests and timers keep all current.
+pub fn settled_speakers_reselect_nothing()
+    ensures settled { SettledReselectsNothing }
+    ensures hello { HellosKeepCurrent }
+    ensures ihu { IhusKeepCurrent }
+    ensures timers { TimersKeepCurrent }
+{}
