@@ -1,26 +1,74 @@
-//! What a speaker keeps of an interface (RFC 8966, section 3.2.3).
+//! The interface table (RFC 8966, section 3.2.3).
 
-use babel_value::{Family, Metric, Seqno};
+ghost use Rattle.std.specs.Prelude.{◌≡◌, ◌≤◌, ◌<◌, length, slice_get, slice_set, IfOk, IfSome, true};
+ghost use Rattle.std.specs.Option.{option_map_or};
+ghost use Rattle.babel_speaker.specs.ShortHellos.{have_short_hellos};
 
-/// An interface. What a speaker doesn't need of its configuration, the list of peers, isn't here.
-#[derive(Clone, Copy, Debug, PartialEq, Eq)]
-pub struct InterfaceEntry {
-    /// The family of the addresses over which datagrams are sent.
-    pub transport: Family,
-    /// The IPv4 address, and the length of its network's prefix.
-    pub ipv4: Option<([u8; 4], u8)>,
-    /// The IPv6 address.
-    pub ipv6: Option<[u8; 16]>,
-    /// The nominal cost (RFC 8966, appendix A.2.1).
-    pub cost: Metric,
-    /// The interval between two Hellos, in centiseconds.
-    pub hello: u16,
-    /// The seqno of the next Hello (RFC 8966, section 3.2.3).
-    pub hello_seqno: Seqno,
-    /// From when on a Hello is due; none before the first tick.
-    pub hello_due: Option<u64>,
-    /// From when on IHUs are due; none before the first tick.
-    pub ihu_due: Option<u64>,
-    /// From when on Updates are due; none before the first tick.
-    pub update_due: Option<u64>,
+use babel_state::{InterfaceEntry, MAX_INTERFACES};
+use babel_value::Metric;
+use std::marker::Model;
+
+/// The interfaces, at most 8, by their numbers from 0 on.
+#[derive(Drop)]
+pub struct Interfaces {
+    pub(crate) entries: Vec<InterfaceEntry>,
+}
+
+impl Model for Interfaces {
+    ghost use Rattle.std.specs.Prelude.{◌≡◌, ◌≤◌, List, length, true};
+    ghost use Rattle.babel_state.specs.declared.interfaces.InterfaceEntry.{InterfaceEntry};
+    ghost use Rattle.babel_speaker.specs.ShortHellos.{have_short_hellos};
+
+    ghost Value = { List InterfaceEntry };
+
+    ghost view = { λ i. i.entries.items };
+
+    ghost invariant = { λ i. (length i.entries.items ≤ 8) × (have_short_hellos i.entries.items ≡ true) };
+}
+
+impl Interfaces {
+    /// The interfaces with these entries.
+    pub fn new(entries: Vec<InterfaceEntry>) -> Interfaces
+        requires few { length entries.items ≤ MAX_INTERFACES }
+        requires hellos { have_short_hellos entries.items ≡ true }
+        ensures { result ≡ entries.items }
+    {
+        Interfaces { entries }
+    }
+
+    /// The interface of the number. Its Hello interval is at most 4,000 centiseconds.
+    #[tactic(auto, using(crate::proofs::ShortHellos::short_at))]
+    pub fn get(&self, iface: u8) -> Option<InterfaceEntry>
+        ensures interface { result ≡ slice_get self.now iface }
+        ensures hello { IfSome result (λ i. i.hello ≤ 4000) }
+    {
+        self.entries.get(usize::from(iface)).copied()
+    }
+
+    /// Changes the interface of the number.
+    pub fn set(&mut self, iface: u8, entry: InterfaceEntry)
+        requires known { iface < length self.old }
+        requires hello { entry.hello ≤ 4000 }
+        ensures { self.new ≡ slice_set self.old iface entry }
+    {
+        self.entries[usize::from(iface)] = entry;
+    }
+
+    /// How many interfaces there are.
+    pub fn len(&self) -> u8
+        ensures len { result ≡ length self.now }
+        ensures within { result ≤ MAX_INTERFACES }
+    {
+        self.entries.len() as u8
+    }
+
+    /// The nominal cost of the interface (RFC 8966, appendix A.2.1): infinite if there is none of the number.
+    pub fn nominal_cost(&self, iface: u8) -> Metric
+        ensures { result ≡ option_map_or (λ i. i.cost) (slice_get self.now iface) 65535 }
+    {
+        match self.get(iface) {
+            Some(interface) => interface.cost,
+            None => Metric::INFINITE,
+        }
+    }
 }

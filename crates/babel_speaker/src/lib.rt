@@ -1,34 +1,42 @@
-//! A speaker of the Babel routing protocol (RFC 8966): its configuration, and the definitions of its
-//! state and steps.
+//! A speaker of the Babel routing protocol (RFC 8966): the functions that make its steps. The
+//! definitions of its state and steps are those of `babel_state`.
 #![tactic(auto)]
 
-mod configs;
-pub mod examples;
-mod faults;
+mod announced;
+mod calls;
+mod causes;
+mod decoded;
+mod hellos;
 mod interfaces;
-mod items;
 mod laws;
-mod limits;
-mod notes;
+mod link_costs;
+mod making;
+mod messages;
+mod outgoing;
+mod pending_items;
+mod prefixes;
+mod queueing;
+mod receiving;
 mod requests;
-mod selected;
+mod reselection;
+mod scratch;
+mod sending;
+mod seqno_requests;
+mod settled;
+mod sources;
+mod speaker;
+mod speaker_core;
+mod ticks;
+mod updates;
 
-pub use configs::{Config, ConfigFault, Interface};
-pub use faults::{NotAnnounced, SetCostFault, TooManyPrefixes};
-pub use interfaces::InterfaceEntry;
-pub use items::{Item, Said, Target};
-pub use laws::{
-    handing_out_lowers_sources, messages_keep_what_is_own, owing_is_cutting,
-    reselections_keep_the_rest, routes_come_from_updates, selected_routes_are_good,
-    selections_stand, ticks_keep_what_is_own,
-};
-pub use limits::{
-    LAST_REQUEST_WAIT, MAX_COST, MAX_HELLO_INTERVAL, MAX_INTERFACES, MAX_PEERS, MAX_PENDING,
-    MAX_PREFIXES, MAX_REQUESTS, REQUEST_HOPS, REQUEST_WAIT,
-};
-pub use notes::{Note, RecvFault, Verdict};
-pub use requests::{PendingRequest, Resend};
-pub use selected::Selected;
-
-#[cfg(test)]
-mod tests;
+pub use announced::Announced;
+pub use interfaces::Interfaces;
+pub use laws::first_messages_fit;
+pub use link_costs::LinkCosts;
+pub use pending_items::PendingItems;
+pub use prefixes::Prefixes;
+pub use requests::RequestTable;
+pub use scratch::Scratch;
+pub use settled::SettledCore;
+pub use speaker::Speaker;
+pub use speaker_core::Core;

@@ -1,28 +1,94 @@
-//! Pending requests for a seqno (RFC 8966, section 3.2.7).
+//! The table of pending requests for a seqno (RFC 8966, section 3.2.7).
 
-use babel_value::{Peer, Seqno};
+ghost use Rattle.std.specs.Prelude.{◌≡◌, ◌≤◌, [], length, option_map, slice_get, IfOk};
+ghost use Rattle.std.specs.FinMap.{find};
+ghost use Rattle.babel_value.specs.Orders.{source_cmp};
+ghost use Rattle.babel_table.specs.Entries.{without, revised_entries};
+ghost use Rattle.babel_state.specs.PendingRequests.{is_redundant, recorded};
 
-/// What a pending request does when its wait is over.
-#[derive(Clone, Copy, Debug, PartialEq, Eq)]
-pub enum Resend {
-    /// The route was lost: all neighbours are asked again that have a finite and unfeasible route to
-    /// the prefix.
-    Unfeasible,
-    /// The neighbour sent an unfeasible update of the selected route: it is asked again.
-    Neighbour(Peer),
-    /// The request was forwarded for another router, which repeats it by itself.
-    Never,
+use babel_route::{Memory, SortedTable, Table, find_in};
+use babel_state::{MAX_REQUESTS, PendingRequest, REQUEST_WAIT, Resend};
+use babel_value::{Seqno, Source};
+use std::alloc::Global;
+use std::marker::Model;
+
+/// The pending requests, at most 64, at most one for each source.
+#[derive(Drop)]
+pub struct RequestTable {
+    pub(crate) table: SortedTable<Source, PendingRequest>,
 }
 
-/// A request for a seqno that wasn't answered yet.
-#[derive(Clone, Copy, Debug, PartialEq, Eq)]
-pub struct PendingRequest {
-    /// The seqno that is wanted.
-    pub seqno: Seqno,
-    /// What happens when the wait is over.
-    pub resend: Resend,
-    /// How long the request waits, in centiseconds.
-    pub wait: u16,
-    /// The moment at which the wait is over.
-    pub due: u64,
+impl Model for RequestTable {
+    ghost use Rattle.std.specs.Prelude.{◌≡◌};
+    ghost use Rattle.babel_state.specs.PendingRequests.{PendingRequests};
+
+    ghost Value = { PendingRequests };
+
+    ghost view = { λ r. r.table.entries.items };
+
+    ghost invariant = { λ r. r.table.places ≡ 64 };
+}
+
+impl RequestTable {
+    /// No requests, with the room for all that there may be.
+    pub fn new(alloc: Global) -> Result<RequestTable, Memory>
+        ensures { IfOk result (λ requests. requests ≡ []) }
+    {
+        let table = SortedTable::with_room(alloc, MAX_REQUESTS)?;
+        Ok(RequestTable { table })
+    }
+
+    /// The pending request for the source.
+    pub fn get(&self, source: &Source) -> Option<PendingRequest>
+        ensures { result ≡ find source_cmp source.now self.now }
+    {
+        find_in(&self.table, source)
+    }
+
+    /// Whether a request for the source is pending whose seqno isn't smaller (RFC 8966, section
+    /// 3.8.1.2).
+    pub fn is_redundant(&self, source: &Source, seqno: Seqno) -> bool
+        ensures { result ≡ is_redundant source.now seqno self.now }
+    {
+        match self.get(source) {
+            Some(request) => !request.seqno.less(seqno),
+            None => false,
+        }
+    }
+
+    /// Records a new request in place of the pending one for its source. A request for a new source
+    /// isn't recorded if 64 others are pending.
+    pub fn record(&mut self, now: u64, source: Source, seqno: Seqno, resend: Resend)
+        ensures { self.new ≡ recorded now source seqno resend self.old }
+    {
+        let request = PendingRequest {
+            seqno,
+            resend,
+            wait: REQUEST_WAIT,
+            due: now.saturating_add(u64::from(REQUEST_WAIT)),
+        };
+        let _ = self.table.put(source, request);
+    }
+
+    /// Removes the request for the source, if there is one.
+    pub fn remove(&mut self, source: &Source)
+        ensures { self.new ≡ without source_cmp source.now self.old }
+    {
+        self.table.remove(source);
+    }
+
+    /// How many requests are pending.
+    pub fn len(&self) -> usize
+        ensures len { result ≡ length self.now }
+        ensures within { result ≤ MAX_REQUESTS }
+    {
+        self.table.len()
+    }
+
+    /// The request whose source has exactly `index` lesser ones.
+    pub fn at(&self, index: usize) -> Option<(Source, PendingRequest)>
+        ensures { result ≡ slice_get self.now index }
+    {
+        self.table.at(index)
+    }
 }

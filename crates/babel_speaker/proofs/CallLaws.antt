@@ -1,0 +1,131 @@
+-- What the laws of a state say of a call, by whether it is refused.
+use Rattle.std.specs.Prelude.{◌≡◌, ◌↔◌, ℕ, Bool, true, false, List, Option, Some, None, Result, Ok, Err, IsOk, IsErr, IsNone, IfOk, IfSome, OnOk, OnErr}
+use Rattle.std.specs.Prelude.{IsSome}
+use Rattle.std.specs.Option.{option_and_then}
+use Rattle.std.proofs.Common.{refl, sym, subst, ◌∙◌}
+use Rattle.std.proofs.lemmas.Bool.{false≢true}
+use Rattle.std.proofs.lemmas.Option.{get_or_from_slice_get, slice_get_within}
+use Rattle.babel_value.specs.declared.keys.Peer.{Peer}
+use Rattle.babel_packet.specs.declared.errors.Refusal.{Refusal}
+use Rattle.babel_packet.specs.declared.placements.Placed.{Placed}
+use Rattle.babel_packet.specs.Meaning.{messages_of}
+use Rattle.babel_state.specs.declared.errors.RecvFault.{RecvFault}
+use Rattle.babel_state.specs.declared.items.Target.{Target}
+use Rattle.babel_state.specs.declared.notes.Note.{Note}
+use Rattle.babel_state.specs.declared.interfaces.InterfaceEntry.{InterfaceEntry}
+use Rattle.babel_state.specs.Addresses.{transport_of, transport_at}
+use Rattle.babel_state.specs.CurrentSelections.{IsCurrentAt, KeepsCurrent, PlacesKeepCurrent, AreInHalf}
+use Rattle.babel_state.specs.Invariants.{IsUsable, IsWellFormed, SendingKeepsCurrentInHalf}
+use Rattle.babel_state.specs.Messages.{Receives}
+use Rattle.babel_state.specs.NextDatagram.{next_datagram}
+use Rattle.babel_state.specs.QueueLaws.{is_silent, DatagramsAreEncodable}
+use Rattle.babel_state.specs.Seen.{seen, updates_among, Sends}
+use Rattle.babel_state.specs.SeenLaws.{AreEncodable, PlacesMove, MovesByDatagram, DatagramsSend, NoDatagramChangesNothing}
+use Rattle.babel_state.specs.State.{State, interface_at}
+use Rattle.babel_value.specs.Prefixes.{PrefixValue}
+use Rattle.babel_speaker.specs.Sending.{are_encodable, fits_by, HaveTransports, MeansFrom}
+
+-- ---- a call that isn't refused, or may be
+
+-- a law of two states holds of states that are equal to them
+pub through : (R : State → State → Type 0) (old core new after : State) → core ≡ old → new ≡ after → R core after → R old new
+through R old core new after view is law = subst (λ o. R o new) view (subst (R core) (sym is) law)
+
+pub well_result : {T E : Type 0} (result : Result T E) (core new after : State) → OnOk result (new ≡ after) → OnErr result (new ≡ core) →
+    (IsOk result → IsWellFormed after) → IsWellFormed core → IsWellFormed new
+well_result (Ok x) core new after is same more well = subst IsWellFormed (sym is) (more refl)
+well_result (Err e) core new after is same more well = subst IsWellFormed (sym same) well
+
+pub through_ok : {T E : Type 0} (R : State → State → Type 0) (result : Result T E) (old core new after : State) → core ≡ old → OnOk result (new ≡ after) →
+    (IsOk result → R core after) → OnOk result (R old new)
+through_ok R (Ok x) old core new after view is law = through R old core new after view is (law refl)
+through_ok R (Err e) old core new after view is law = tt
+
+none_is : {X : Type 0} (m : Option X) → IsNone m → m ≡ None
+none_is None e = refl
+none_is (Some x) e = absurd (false≢true (sym e))
+
+pub free_if_ok : {T E X : Type 0} (result : Result T E) (m : Option X) → (IsOk result ↔ IsNone m) → IsOk result → m ≡ None
+free_if_ok result m iff ok = none_is m (iff.0 ok)
+
+not_both : {T E : Type 0} (result : Result T E) → IsOk result → IsErr result → ⊥
+not_both (Ok x) ok err = false≢true err
+not_both (Err e) ok err = false≢true ok
+
+pub false_if_ok : {T E : Type 0} (result : Result T E) (b : Bool) → (IsErr result ↔ (b ≡ true)) → IsOk result → b ≡ false
+false_if_ok result true iff ok = absurd (not_both result ok (iff.1 refl))
+false_if_ok result false iff ok = refl
+
+-- ---- a datagram that is received
+
+abbrev CanDecode : Result (List Placed) Refusal → Type 0
+CanDecode read = (placed : List Placed) → read ≡ Ok placed → AreEncodable (messages_of placed)
+
+pub received_well : {N E : Type 0} (result : Result N E) (items : N → List Note) (now : ℕ) (peer : Peer) (fault : Option RecvFault) (read : Result (List Placed) Refusal) (core new : State) →
+    PlacesMove → CanDecode read → IfOk result (λ n. Receives now peer fault read core new (items n)) → OnErr result (new ≡ core) → IsWellFormed core → IsWellFormed new
+received_well (Ok n) items now peer fault read core new law each r same well = subst IsWellFormed (sym r.3) (law now peer r.0 core (each r.0 r.2) well).0
+received_well (Err e) items now peer fault read core new law each r same well = subst IsWellFormed (sym same) well
+
+pub received_moves : {N E : Type 0} (result : Result N E) (items : N → List Note) (now : ℕ) (peer : Peer) (fault : Option RecvFault) (read : Result (List Placed) Refusal) (old core new : State) →
+    PlacesMove → CanDecode read → core ≡ old → IfOk result (λ n. Receives now peer fault read core new (items n)) → IsWellFormed core → OnOk result (MovesByDatagram peer read old new)
+received_moves (Ok n) items now peer fault read old core new law each view r well =
+    through (λ o t. MovesByDatagram peer read o t) old core new _ view r.3 (r.0, r.2, (law now peer r.0 core (each r.0 r.2) well).1)
+received_moves (Err e) items now peer fault read old core new law each view r well = tt
+
+-- ---- a datagram that is sent
+
+abbrev SendsFrom : ℕ → State → Target → State → Type 0
+SendsFrom now old target new = Sends target.iface (updates_among (next_datagram now (fits_by old) old).messages) (seen old) (seen new)
+
+pub sent_if : (result : Option Target) (now : ℕ) (old core new : State) → DatagramsSend → core ≡ old → result ≡ (next_datagram now (fits_by core) core).target →
+    new ≡ (next_datagram now (fits_by core) core).state → IsWellFormed core → IfSome result (λ target. SendsFrom now old target new)
+sent_if None now old core new law view is state well = tt
+sent_if (Some target) now old core new law view is state well =
+    through (λ o t. SendsFrom now o target t) old core new _ view state (law now (fits_by core) core target well (sym is))
+
+pub unseen_if : (result : Option Target) (now : ℕ) (old core new : State) → NoDatagramChangesNothing → core ≡ old → result ≡ (next_datagram now (fits_by core) core).target →
+    new ≡ (next_datagram now (fits_by core) core).state → IsNone result → seen new ≡ seen old
+unseen_if result now old core new law view is state none =
+    through (λ o t. seen t ≡ seen o) old core new _ view state (law now (fits_by core) core (sym is ∙ none_is result none))
+
+abbrev MeansIf : ℕ → State → List ℕ → Target → Type 0
+MeansIf now old octets target = MeansFrom (transport_at target.iface old) octets (next_datagram now (fits_by old) old).messages
+
+pub means_if : (result : Option Target) (now : ℕ) (old core : State) (octets : List ℕ) → DatagramsAreEncodable → core ≡ old → IsWellFormed core →
+    IfSome result (λ target. are_encodable (next_datagram now (fits_by core) core).messages ≡ true → MeansIf now core octets target) → IfSome result (MeansIf now old octets)
+means_if None now old core octets law view well means = tt
+means_if (Some target) now old core octets law view well means =
+    subst (λ o. MeansIf now o octets target) view (means (law now (fits_by core) core well))
+
+usable_at : (s : State) (iface : ℕ) (i : InterfaceEntry) → interface_at iface s ≡ Some i → IsWellFormed s → IsUsable i
+usable_at s iface i at well =
+    subst IsUsable (get_or_from_slice_get s.interfaces iface i i at) (well.tables.interfaces.usable iface i (slice_get_within s.interfaces iface i at))
+
+-- Each interface has an address to send from, so that there is no datagram only if no item means a message.
+pub none_through : (result : Option Target) (old core : State) → core ≡ old → IsWellFormed core → (HaveTransports core → (IsNone result ↔ (is_silent core ≡ true))) → IsNone result ↔ (is_silent old ≡ true)
+none_through result old core view well iff = subst (λ o. IsNone result ↔ (is_silent o ≡ true)) view (iff (transports_of core well))
+  where
+    has : (i : InterfaceEntry) (m : Option InterfaceEntry) → m ≡ Some i → IsUsable i → IsSome (option_and_then transport_of m)
+    has i m is usable = subst (λ m. IsSome (option_and_then transport_of m)) (sym is) usable.transport
+
+    transports_of : (s : State) → IsWellFormed s → HaveTransports s
+    transports_of s well iface there = by (interface_at iface s) refl there
+      where
+        by : (m : Option InterfaceEntry) → interface_at iface s ≡ m → IsSome m → IsSome (transport_at iface s)
+        by None at there = absurd (false≢true there)
+        by (Some i) at there = has i (interface_at iface s) at (usable_at s iface i at well)
+
+-- ---- current selections
+
+pub received_current : {N E : Type 0} (result : Result N E) (items : N → List Note) (now : ℕ) (peer : Peer) (fault : Option RecvFault) (read : Result (List Placed) Refusal) (old core new : State) →
+    PlacesKeepCurrent → core ≡ old → IfOk result (λ n. Receives now peer fault read core new (items n)) → IsWellFormed core → OnOk result (KeepsCurrent old new)
+received_current (Ok n) items now peer fault read old core new law view r well =
+    through KeepsCurrent old core new _ view r.3 (law now peer r.0 core well.tables.routes.entries_in_order)
+received_current (Err e) items now peer fault read old core new law view r well = tt
+
+abbrev IsKeptInHalf : State → State → Type 0
+IsKeptInHalf old new = (first : ℕ) (prefix : PrefixValue) → AreInHalf first prefix old → IsCurrentAt prefix old → IsCurrentAt prefix new
+
+pub half_through : (now : ℕ) (old core new : State) → SendingKeepsCurrentInHalf → core ≡ old → new ≡ (next_datagram now (fits_by core) core).state → IsWellFormed core → IsKeptInHalf old new
+half_through now old core new law view state well =
+    through IsKeptInHalf old core new _ view state (λ first prefix half current. law now (fits_by core) core first prefix well half current)

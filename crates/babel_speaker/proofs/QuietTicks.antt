@@ -1,0 +1,75 @@
+-- Before the timers of all interfaces are due a tick changes nothing of them; and no pending item is no datagram.
+use Rattle.std.proofs.Common.{◌≡◌, ◌↔◌, ℕ, ◌+◌, Bool, true, false, List, [], ◌∷◌, ◌++◌, map, length, Option, IsNone, refl, ap, subst, ◌∙◌}
+use Rattle.std.specs.Prelude.{◌||◌}
+use Rattle.std.specs.List.{list_any, list_all}
+use Rattle.babel_state.specs.declared.interfaces.InterfaceEntry.{InterfaceEntry}
+use Rattle.babel_state.specs.declared.items.Item.{Item}
+use Rattle.babel_state.specs.Queueing.{queued}
+use Rattle.babel_state.specs.State.{State}
+use Rattle.babel_state.specs.Ticks.{is_due, fired, timer_items, all_timer_items, interfaces_ticked}
+use Rattle.babel_state.specs.NextDatagram.{Fits, drafted, next_datagram}
+use Rattle.babel_state.specs.OutgoingMessages.{outgoing}
+use Rattle.babel_state.specs.QueueLaws.{has_no_message, is_silent}
+use Rattle.babel_speaker.specs.TickItems.{has_due_timer}
+use Rattle.babel_state.specs.declared.items.Target.{Target}
+use Rattle.babel_speaker.specs.Sending.{HaveTransports, no_draft}
+
+neither : (a b : Bool) → (a || b) ≡ false → (a ≡ false) × (b ≡ false)
+neither true b none = cc
+neither false b none = (refl, none)
+
+module _ (now : ℕ) where
+  same_timers : (i : InterfaceEntry) → has_due_timer now i ≡ false → fired now i ≡ i
+  same_timers i none =
+      let first = neither (is_due now i.hello_due) (is_due now i.ihu_due || is_due now i.update_due) none in
+      let rest = neither (is_due now i.ihu_due) (is_due now i.update_due) first.1 in
+      rw (first.0, rest.0, rest.1) refl
+
+  no_items : (s : State) (iface : ℕ) (i : InterfaceEntry) → has_due_timer now i ≡ false → timer_items now s iface i ≡ []
+  no_items s iface i none =
+      let first = neither (is_due now i.hello_due) (is_due now i.ihu_due || is_due now i.update_due) none in
+      let rest = neither (is_due now i.ihu_due) (is_due now i.update_due) first.1 in
+      rw (first.0, rest.0, rest.1) refl
+
+  all_same : (is : List InterfaceEntry) → list_any (has_due_timer now) is ≡ false → map (fired now) is ≡ is
+  all_same [] none = refl
+  all_same (i ∷ is) none =
+      let parts = neither (has_due_timer now i) (list_any (has_due_timer now) is) none in
+      ap (λ x. x ∷ map (fired now) is) (same_timers i parts.0) ∙ ap (λ xs. i ∷ xs) (all_same is parts.1)
+
+  no_items_of_all : (s : State) (iface : ℕ) (is : List InterfaceEntry) → list_any (has_due_timer now) is ≡ false → all_timer_items now s iface is ≡ []
+  no_items_of_all s iface [] none = refl
+  no_items_of_all s iface (i ∷ is) none =
+      let parts = neither (has_due_timer now i) (list_any (has_due_timer now) is) none in
+      ap (λ xs. xs ++ all_timer_items now s (iface + 1) is) (no_items s iface i parts.0) ∙ no_items_of_all s (iface + 1) is parts.1
+
+  queues_nothing : (xs : List Item) (is : List InterfaceEntry) (s : State) → xs ≡ [] → is ≡ s.interfaces → record s { interfaces = is; pending = queued xs s.pending } ≡ s
+  unfolding queued
+  queues_nothing xs is s none same = ap (λ ys. record s { interfaces = is; pending = queued ys s.pending }) none ∙ ap (λ js. record s { interfaces = js }) same
+
+  pub nothing_due : (s : State) → list_any (has_due_timer now) s.interfaces ≡ false → interfaces_ticked now s ≡ s
+  unfolding interfaces_ticked
+  nothing_due s none = queues_nothing (all_timer_items now s 0 s.interfaces) (map (fired now) s.interfaces) s (no_items_of_all s 0 s.interfaces none) (all_same s.interfaces none)
+
+-- ---- no pending item
+
+pub no_datagram : (now : ℕ) (fits : Fits) (s : State) → length s.pending.items ≡ 0 → next_datagram now fits s ≡ no_draft s
+unfolding next_datagram
+no_datagram now fits s none = by s.pending.items none
+  where
+    by : (xs : List Item) → length xs ≡ 0 → drafted now fits xs (no_draft s) ≡ no_draft s
+    by [] none = refl
+    by (x ∷ xs) none = cc
+
+-- Without a pending item none means a message.
+pub silent_if_empty : (s : State) → length s.pending.items ≡ 0 → is_silent s ≡ true
+silent_if_empty s none = by s.pending.items none
+  where
+    by : (xs : List Item) → length xs ≡ 0 → list_all (λ x. has_no_message (outgoing s x)) xs ≡ true
+    by [] none = refl
+    by (x ∷ xs) none = cc
+
+-- What holds of the core holds of what is seen of it.
+pub none_carried : (result : Option Target) (old core : State) → core ≡ old → (HaveTransports core → (IsNone result ↔ (is_silent core ≡ true))) →
+    HaveTransports old → (IsNone result ↔ (is_silent old ≡ true))
+none_carried result old core view iff = subst (λ s. HaveTransports s → (IsNone result ↔ (is_silent s ≡ true))) view iff

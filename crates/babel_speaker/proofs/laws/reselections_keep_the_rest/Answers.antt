@@ -1,8 +1,0 @@
-use Rattle.babel_speaker.proofs.Reselecting.{reselects_base, all_base}
-use Rattle.babel_speaker.proofs.laws.reselections_keep_the_rest.Goals as goal
-
-pub returns-clause-one : goal.returns-clause-one
-returns-clause-one c = reselects_base
-
-pub returns-clause-all : goal.returns-clause-all
-returns-clause-all c = all_base

@@ -1,8 +1,0 @@
-use Rattle.babel_speaker.proofs.Hearing.{messages_heard, ticks_heard}
-use Rattle.babel_speaker.proofs.laws.routes_come_from_updates.Goals as goal
-
-pub returns-clause-messages : goal.returns-clause-messages
-returns-clause-messages c = messages_heard
-
-pub returns-clause-ticks : goal.returns-clause-ticks
-returns-clause-ticks c = ticks_heard

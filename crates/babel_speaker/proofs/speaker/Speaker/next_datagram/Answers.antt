@@ -1,0 +1,31 @@
+use Rattle.babel_state.specs.CurrentSelections.{KeepsSelections}
+use Rattle.babel_speaker.proofs.CallLaws.{through, sent_if, unseen_if, means_if, none_through, half_through}
+use Rattle.babel_speaker.proofs.speaker.Speaker.next_datagram.Goals as goal
+
+pub returns-clause-octets : goal.returns-clause-octets
+returns-clause-octets c =
+    means_if c.next_datagram.result c.args.now c.args.self.now c.self.inside.core c.next_datagram.new.out.items
+    c.items_mean_messages.ensures.datagrams c.self.view_is c.self.invariant c.next_datagram.ensures.octets
+
+pub returns-clause-sends : goal.returns-clause-sends
+returns-clause-sends c =
+    sent_if c.next_datagram.result c.args.now c.args.self.now c.self.inside.core c.next_datagram.new.self
+    c.datagrams_send.ensures.sent c.self.view_is c.next_datagram.ensures.target c.next_datagram.ensures.state c.self.invariant
+
+pub returns-clause-unseen : goal.returns-clause-unseen
+returns-clause-unseen c =
+    unseen_if c.next_datagram.result c.args.now c.args.self.now c.self.inside.core c.next_datagram.new.self
+    c.datagrams_send.ensures.none c.self.view_is c.next_datagram.ensures.target c.next_datagram.ensures.state
+
+pub returns-clause-none : goal.returns-clause-none
+returns-clause-none c = none_through c.next_datagram.result c.args.self.now c.self.inside.core c.self.view_is c.self.invariant c.next_datagram.ensures.none
+
+pub returns-clause-selections : goal.returns-clause-selections
+returns-clause-selections c =
+    through KeepsSelections c.args.self.now c.self.inside.core c.next_datagram.new.self _ c.self.view_is c.next_datagram.ensures.state
+    (c.selections_stay_current.ensures.sending c.args.now _ c.self.inside.core c.self.invariant)
+
+pub returns-clause-half : goal.returns-clause-half
+returns-clause-half c =
+    half_through c.args.now c.args.self.now c.self.inside.core c.next_datagram.new.self
+    c.selections_stay_current.ensures.half c.self.view_is c.next_datagram.ensures.state c.self.invariant

@@ -1,0 +1,150 @@
+//! The state of a speaker, and whether all its selections are current. Then Hellos and IHUs that change no
+//! cost, and ticks in which no deadline is due, select no route again.
+
+ghost use Rattle.std.specs.Prelude.{◌≡◌, ◌↔◌, [], true, false, Some, IsOk, IsErr, IsNone, IfOk, IfErr, IfSome, OnOk, OnErr};
+ghost use Rattle.babel_packet.specs.Meaning.{meaning};
+ghost use Rattle.babel_state.specs.Addresses.{source_fault, transport_at};
+ghost use Rattle.babel_state.specs.Calls.{set_cost_fault, cost_set, first_state, is_prefix_too_many, announced_also, withdrawn};
+ghost use Rattle.babel_state.specs.Configs.{config_fault};
+ghost use Rattle.babel_state.specs.Messages.{Receives, IsRecvFault};
+ghost use Rattle.babel_state.specs.NextDatagram.{next_datagram};
+ghost use Rattle.babel_state.specs.SeqnoRequests.{raised};
+ghost use Rattle.babel_state.specs.State.{announces};
+ghost use Rattle.babel_state.specs.Ticks.{ticked};
+ghost use Rattle.babel_speaker.specs.Making.{IsMakingFault};
+ghost use Rattle.babel_state.specs.QueueLaws.{is_silent};
+ghost use Rattle.babel_speaker.specs.Sending.{are_encodable, fits_by, HaveTransports, MeansFrom};
+
+use crate::{Core, Scratch};
+use arrayvec::ArrayVec;
+use babel_state::{
+    Config, ConfigFault, NotAnnounced, Note, RecvFault, SetCostFault, Target, TooManyPrefixes,
+};
+use babel_tlv::DATAGRAM_LEN;
+use babel_value::{Addr, Prefix};
+use std::alloc::Global;
+use std::marker::Model;
+
+/// The state of a speaker. A clause sees it as the `State` that the steps are defined on. The speaker is
+/// settled only if each of its selections is current.
+#[derive(Drop)]
+pub struct SettledCore {
+    pub(crate) core: Core,
+    is_settled: bool,
+}
+
+impl Model for SettledCore {
+    ghost use Rattle.std.specs.Prelude.{IsTrue};
+    ghost use Rattle.babel_state.specs.State.{State};
+    ghost use Rattle.babel_state.specs.CurrentSelections.{AreCurrent};
+
+    ghost Value = { State };
+
+    ghost view = { λ s. s.core };
+
+    ghost invariant = { λ s. IsTrue s.is_settled → AreCurrent s.core };
+}
+
+impl SettledCore {
+    /// The first state of a speaker, as `Core::new`.
+    pub fn new(alloc: Global, config: &Config) -> Result<SettledCore, ConfigFault>
+        ensures ok { IfOk result (λ core. core ≡ first_state config.now) }
+        ensures valid { IsOk result → IsNone (config_fault config.now) }
+        ensures refused { IfErr result (λ fault. IsMakingFault (config_fault config.now) fault) }
+    {
+        match Core::new(alloc, config) {
+            Ok(core) => Ok(SettledCore {
+                core,
+                is_settled: false,
+            }),
+            Err(fault) => Err(fault),
+        }
+    }
+
+    /// Takes a datagram, as `Core::receive`.
+    pub(crate) fn receive(
+        &mut self,
+        alloc: Global,
+        now: u64,
+        iface: u8,
+        source: Addr,
+        octets: &[u8],
+        scratch: &mut Scratch,
+    ) -> Result<Vec<Note>, RecvFault>
+        ensures ok { IfOk result (λ notes. Receives now (record { iface = iface; addr = source }) (source_fault iface source self.old) (meaning octets.now source) self.old self.new notes.items) }
+        ensures refused { IfErr result (λ fault. IsRecvFault (source_fault iface source self.old) (meaning octets.now source) fault) }
+        ensures unchanged { OnErr result (self.new ≡ self.old) }
+    {
+        let settled = self.is_settled;
+        self.core
+            .receive(alloc, now, iface, source, octets, settled, scratch)
+    }
+
+    /// Takes all deadlines that are due.
+    pub(crate) fn tick(&mut self, now: u64, scratch: &mut Scratch)
+        ensures { self.new ≡ ticked now self.old }
+    {
+        self.is_settled = self.core.tick(now, self.is_settled, scratch);
+    }
+
+    /// Raises the speaker's own seqno by 1.
+    pub(crate) fn raise(&mut self)
+        ensures { self.new ≡ raised self.old }
+    {
+        self.is_settled = false;
+        self.core.raise();
+    }
+
+    /// Sets the nominal cost of an interface.
+    pub(crate) fn set_cost(&mut self, iface: u8, cost: u16) -> Result<(), SetCostFault>
+        ensures refused { IsOk result ↔ IsNone (set_cost_fault iface cost self.old) }
+        ensures cause { IfErr result (λ fault. set_cost_fault iface cost self.old ≡ Some fault) }
+        ensures ok { OnOk result (self.new ≡ cost_set iface cost self.old) }
+        ensures err { OnErr result (self.new ≡ self.old) }
+    {
+        self.is_settled = false;
+        self.core.set_cost(iface, cost)
+    }
+
+    /// Announces a prefix.
+    pub(crate) fn announce(&mut self, prefix: &Prefix) -> Result<(), TooManyPrefixes>
+        ensures full { IsErr result ↔ (is_prefix_too_many prefix.now self.old ≡ true) }
+        ensures ok { OnOk result (self.new ≡ announced_also prefix.now self.old) }
+        ensures err { OnErr result (self.new ≡ self.old) }
+    {
+        self.is_settled = false;
+        self.core.announce(prefix)
+    }
+
+    /// Announces a prefix no longer.
+    pub(crate) fn withdraw(&mut self, prefix: &Prefix) -> Result<(), NotAnnounced>
+        ensures unknown { IsErr result ↔ (announces prefix.now self.old ≡ false) }
+        ensures ok { OnOk result (self.new ≡ withdrawn prefix.now self.old) }
+        ensures err { OnErr result (self.new ≡ self.old) }
+    {
+        self.is_settled = false;
+        self.core.withdraw(prefix)
+    }
+
+    /// Takes the next datagram from the pending items, as `Core::next_datagram`. It lowers sources, so the
+    /// speaker may no longer be settled. If nothing is pending, nothing changes.
+    #[tactic(auto, using(crate::proofs::QuietTicks::no_datagram, crate::proofs::QuietTicks::silent_if_empty))]
+    pub(crate) fn next_datagram(
+        &mut self,
+        now: u64,
+        out: &mut ArrayVec<u8, DATAGRAM_LEN>,
+    ) -> Option<Target>
+        ensures state { self.new ≡ (next_datagram now (fits_by self.old) self.old).state }
+        ensures target { result ≡ (next_datagram now (fits_by self.old) self.old).target }
+        ensures octets { IfSome result (λ target. are_encodable (next_datagram now (fits_by self.old) self.old).messages ≡ true → MeansFrom (transport_at target.iface self.old) out.new.items (next_datagram now (fits_by self.old) self.old).messages) }
+        ensures empty { IsNone result → out.new.items ≡ [] }
+        ensures none { HaveTransports self.old → (IsNone result ↔ (is_silent self.old ≡ true)) }
+    {
+        if self.core.pending.len() == 0 {
+            out.clear();
+            return None;
+        }
+        self.is_settled = false;
+        self.core.next_datagram(now, out)
+    }
+}

@@ -1,0 +1,296 @@
+//! The speaker: its calls, from moments and octets to octets. Each call's meaning is its definition in
+//! `babel_state`.
+
+ghost use Rattle.std.specs.Prelude.{◌≡◌, ◌<◌, ◌↔◌, ℕ, [], true, false, Some, slice_get, IsOk, IsErr, IsNone, IfOk, IfErr, IfSome, OnOk, OnErr, option_map};
+ghost use Rattle.babel_packet.specs.Meaning.{meaning};
+ghost use Rattle.babel_route.specs.Selections.{prefix_after};
+ghost use Rattle.babel_state.specs.Addresses.{source_fault, transport_at};
+ghost use Rattle.babel_state.specs.Calls.{set_cost_fault, cost_set, first_state, is_prefix_too_many, announced_also, withdrawn, selected_route, reported_entries};
+ghost use Rattle.babel_state.specs.Configs.{config_fault};
+ghost use Rattle.babel_state.specs.Messages.{Receives, IsRecvFault};
+ghost use Rattle.babel_state.specs.CurrentSelections.{AreCurrent, AreInHalf, IsCurrentAt, KeepsCurrent, KeepsSelections};
+ghost use Rattle.babel_state.specs.NextDatagram.{next_datagram};
+ghost use Rattle.babel_state.specs.QueueLaws.{is_silent};
+ghost use Rattle.babel_state.specs.Seen.{seen, updates_among, announcing_also, announcing_without, IsNew, IsSelecting, Sends};
+ghost use Rattle.babel_state.specs.SeenLaws.{MovesAlone, MovesByDatagram};
+ghost use Rattle.babel_state.specs.SeqnoRequests.{raised};
+ghost use Rattle.babel_state.specs.State.{announces, pair_at};
+ghost use Rattle.babel_state.specs.Ticks.{ticked};
+ghost use Rattle.babel_value.specs.Prefixes.{PrefixValue};
+ghost use Rattle.babel_speaker.specs.Making.{IsMakingFault};
+ghost use Rattle.babel_speaker.specs.Sending.{fits_by, MeansFrom};
+
+use crate::decoded::decoded_are_encodable;
+use crate::{Scratch, SettledCore};
+use arrayvec::ArrayVec;
+use babel_route::Entry;
+use babel_state::{
+    Config, ConfigFault, NotAnnounced, Note, RecvFault, Selected, SetCostFault, Target,
+    TooManyPrefixes, calls_move, datagrams_send, items_mean_messages, selected_routes_are_good,
+    selections_are_current, selections_stay_current, states_are_well_formed,
+};
+use babel_tlv::DATAGRAM_LEN;
+use babel_value::{Addr, Distance, Metric, Peer, Prefix, Source};
+use std::alloc::Global;
+use std::marker::Model;
+
+/// A speaker of the Babel routing protocol (RFC 8966). Moments are centiseconds that the caller
+/// passes.
+///
+/// Its state is well formed: tables are in order and within their room, costs are positive, and each
+/// selected route is an entry of the route table and a candidate.
+#[derive(Drop)]
+pub struct Speaker {
+    alloc: Global,
+    core: SettledCore,
+    scratch: Scratch,
+}
+
+impl Model for Speaker {
+    ghost use Rattle.babel_state.specs.State.{State};
+
+    ghost Value = { State };
+
+    ghost view = { λ s. s.core };
+
+    ghost use Rattle.babel_state.specs.Invariants.{IsWellFormed};
+
+    ghost invariant = { λ s. IsWellFormed s.core };
+}
+
+impl Speaker {
+    /// A speaker of the configuration, with the room for all that it may ever keep.
+    ///
+    /// # Errors
+    ///
+    /// The first of C1 to C6 that the configuration has. C7 if it has none and an allocation fails.
+    pub fn new(alloc: Global, config: Config) -> Result<Speaker, ConfigFault>
+        ensures ok { IfOk result (λ speaker. speaker ≡ first_state config) }
+        ensures valid { IsOk result → IsNone (config_fault config) }
+        ensures refused { IfErr result (λ fault. IsMakingFault (config_fault config) fault) }
+        ensures seen { IfOk result (λ speaker. IsNew config (seen speaker)) }
+        ensures current { IfOk result (λ speaker. AreCurrent speaker) }
+    {
+        Speaker::from_config(alloc, &config)
+    }
+
+    /// The same of a configuration that the caller keeps.
+    ///
+    /// # Errors
+    ///
+    /// Those of [`Speaker::new`].
+    pub fn from_config(alloc: Global, config: &Config) -> Result<Speaker, ConfigFault>
+        ensures ok { IfOk result (λ speaker. speaker ≡ first_state config.now) }
+        ensures valid { IsOk result → IsNone (config_fault config.now) }
+        ensures refused { IfErr result (λ fault. IsMakingFault (config_fault config.now) fault) }
+        ensures seen { IfOk result (λ speaker. IsNew config.now (seen speaker)) }
+        ensures current { IfOk result (λ speaker. AreCurrent speaker) }
+    {
+        selections_are_current();
+        states_are_well_formed();
+        selected_routes_are_good();
+        let seqno = config.seqno;
+        seqno_fits(seqno);
+        let core = match SettledCore::new(alloc, config) {
+            Ok(core) => core,
+            Err(fault) => return Err(fault),
+        };
+        match Scratch::new(alloc) {
+            Ok(scratch) => Ok(Speaker {
+                alloc,
+                core,
+                scratch,
+            }),
+            Err(_) => Err(ConfigFault::Memory),
+        }
+    }
+
+    /// Takes a datagram that came over the interface from the source address at the moment `now`. There
+    /// is a note for each TLV. The refusals S1 to S3 come before those of the datagram itself, and the
+    /// memory is allocated before anything changes.
+    pub fn receive(
+        &mut self,
+        now: u64,
+        iface: u8,
+        source: Addr,
+        octets: &[u8],
+    ) -> Result<Vec<Note>, RecvFault>
+        ensures ok { IfOk result (λ notes. Receives now (record { iface = iface; addr = source }) (source_fault iface source self.old) (meaning octets.now source) self.old self.new notes.items) }
+        ensures refused { IfErr result (λ fault. IsRecvFault (source_fault iface source self.old) (meaning octets.now source) fault) }
+        ensures unchanged { OnErr result (self.new ≡ self.old) }
+        ensures moves { OnOk result (MovesByDatagram (record { iface = iface; addr = source }) (meaning octets.now source) self.old self.new) }
+        ensures current { OnOk result (KeepsCurrent self.old self.new) }
+    {
+        calls_move();
+        selections_stay_current();
+        decoded_are_encodable(octets, &source);
+        let alloc = self.alloc;
+        let scratch = &mut self.scratch;
+        self.core
+            .receive(alloc, now, iface, source, octets, scratch)
+    }
+
+    /// Takes all deadlines that are due (RFC 8966, sections 3.2.5, 3.4, 3.5.4, 3.7.1 and 3.8.2.1).
+    pub fn tick(&mut self, now: u64)
+        ensures state { self.new ≡ ticked now self.old }
+        ensures moves { MovesAlone 0 (seen self.old).announces self.old self.new }
+        ensures current { self.old.collects ≡ false → AreCurrent self.new }
+    {
+        states_are_well_formed();
+        calls_move();
+        selections_are_current();
+        self.core.tick(now, &mut self.scratch);
+    }
+
+    /// Raises the speaker's own seqno by 1 (RFC 8966, section 3.2.2). Nothing is queued.
+    pub fn raise(&mut self)
+        ensures state { self.new ≡ raised self.old }
+        ensures moves { MovesAlone 1 (seen self.old).announces self.old self.new }
+        ensures current { KeepsCurrent self.old self.new }
+    {
+        states_are_well_formed();
+        calls_move();
+        selections_stay_current();
+        self.core.raise();
+    }
+
+    /// Sets the nominal cost of an interface (RFC 8966, appendix A.2.1): E1 or E2 is the first cause.
+    pub fn set_cost(&mut self, iface: u8, cost: u16) -> Result<(), SetCostFault>
+        ensures refused { IsOk result ↔ IsNone (set_cost_fault iface cost self.old) }
+        ensures cause { IfErr result (λ fault. set_cost_fault iface cost self.old ≡ Some fault) }
+        ensures ok { OnOk result (self.new ≡ cost_set iface cost self.old) }
+        ensures err { OnErr result (self.new ≡ self.old) }
+        ensures moves { OnOk result (MovesAlone 0 (seen self.old).announces self.old self.new) }
+        ensures current { OnOk result (KeepsCurrent self.old self.new) }
+    {
+        states_are_well_formed();
+        calls_move();
+        selections_stay_current();
+        self.core.set_cost(iface, cost)
+    }
+
+    /// Announces a prefix (RFC 8966, section 3.7): E3 if and only if it is new and 64 others are
+    /// announced.
+    pub fn announce(&mut self, prefix: Prefix) -> Result<(), TooManyPrefixes>
+        ensures full { IsErr result ↔ (is_prefix_too_many prefix self.old ≡ true) }
+        ensures ok { OnOk result (self.new ≡ announced_also prefix self.old) }
+        ensures err { OnErr result (self.new ≡ self.old) }
+        ensures moves { OnOk result (MovesAlone 0 (announcing_also prefix (seen self.old)) self.old self.new) }
+        ensures current { OnOk result (KeepsCurrent self.old self.new) }
+    {
+        states_are_well_formed();
+        calls_move();
+        selections_stay_current();
+        self.core.announce(&prefix)
+    }
+
+    /// Announces a prefix no longer: E4 if and only if it isn't announced.
+    pub fn withdraw(&mut self, prefix: Prefix) -> Result<(), NotAnnounced>
+        ensures unknown { IsErr result ↔ (announces prefix self.old ≡ false) }
+        ensures ok { OnOk result (self.new ≡ withdrawn prefix self.old) }
+        ensures err { OnErr result (self.new ≡ self.old) }
+        ensures moves { OnOk result (MovesAlone 0 (announcing_without prefix (seen self.old)) self.old self.new) }
+        ensures current { OnOk result (KeepsCurrent self.old self.new) }
+    {
+        states_are_well_formed();
+        calls_move();
+        selections_stay_current();
+        self.core.withdraw(&prefix)
+    }
+
+    /// Takes the next datagram from the pending items: its octets are written to `out`, in place of
+    /// what was there, and its target is returned. `None`: no pending item means a
+    /// message, and `out` is empty.
+    pub fn next_datagram(
+        &mut self,
+        now: u64,
+        out: &mut ArrayVec<u8, DATAGRAM_LEN>,
+    ) -> Option<Target>
+        ensures state { self.new ≡ (next_datagram now (fits_by self.old) self.old).state }
+        ensures target { result ≡ (next_datagram now (fits_by self.old) self.old).target }
+        ensures octets { IfSome result (λ target. MeansFrom (transport_at target.iface self.old) out.new.items (next_datagram now (fits_by self.old) self.old).messages) }
+        ensures empty { IsNone result → out.new.items ≡ [] }
+        ensures sends { IfSome result (λ target. Sends target.iface (updates_among (next_datagram now (fits_by self.old) self.old).messages) (seen self.old) (seen self.new)) }
+        ensures unseen { IsNone result → seen self.new ≡ seen self.old }
+        ensures none { IsNone result ↔ (is_silent self.old ≡ true) }
+        ensures selections { KeepsSelections self.old self.new }
+        ensures half { (first : ℕ) (prefix : PrefixValue) → AreInHalf first prefix self.old → IsCurrentAt prefix self.old → IsCurrentAt prefix self.new }
+    {
+        states_are_well_formed();
+        datagrams_send();
+        selections_stay_current();
+        items_mean_messages();
+        self.core.next_datagram(now, out)
+    }
+
+    /// The selected route of the prefix, with its metric by the present cost of the link (RFC 8966,
+    /// section 3.6).
+    pub fn selected(&self, prefix: &Prefix) -> Option<Selected>
+        ensures { result ≡ selected_route prefix.now self.now }
+    {
+        self.core.core.selected_route(prefix)
+    }
+
+    /// The least prefix greater than the one given that has an entry in the route table, or a selected
+    /// route. With none given, the least of all.
+    pub fn next_prefix(&self, after: Option<&Prefix>) -> Option<Prefix>
+        ensures { result ≡ prefix_after (option_map (λ prefix. prefix.now) after.entry) self.now.routes }
+    {
+        self.core.core.routes.next_prefix(after)
+    }
+
+    /// The feasibility distance of a source, if it has one (RFC 8966, section 3.2.5).
+    pub fn source(&self, source: &Source) -> Option<Distance>
+        ensures { result ≡ pair_at source.now.prefix source.now.router self.now }
+    {
+        self.core.core.pair(source)
+    }
+
+    /// The entry of the prefix that exactly `index` others come before, with its neighbour and the cost
+    /// of the link to that.
+    pub fn entry(&self, prefix: &Prefix, index: usize) -> Option<(Peer, Entry, Metric)>
+        ensures { result ≡ slice_get (reported_entries prefix.now self.now) index }
+    {
+        self.core.core.reported_entry(prefix, index)
+    }
+
+    /// Whether the speaker announces the prefix itself.
+    pub fn announced(&self, prefix: &Prefix) -> bool
+        ensures { result ≡ announces prefix.now self.now }
+    {
+        self.core.core.announces(prefix)
+    }
+
+    /// The own address from which datagrams of the interface are sent, if the interface exists.
+    pub fn transport(&self, iface: u8) -> Option<Addr>
+        ensures { result ≡ transport_at iface self.now }
+    {
+        self.core.core.transport(iface)
+    }
+
+    /// How often the speaker's own seqno grew.
+    pub fn raises(&self) -> u64
+        ensures { result ≡ self.now.raises }
+    {
+        self.core.core.raises
+    }
+
+    /// How many pending items were dropped since there was no room.
+    pub fn dropped(&self) -> u64
+        ensures { result ≡ self.now.pending.dropped }
+    {
+        self.core.core.pending.dropped()
+    }
+
+    /// How many Updates were left out since the source table had no room.
+    pub fn left_out(&self) -> u64
+        ensures { result ≡ self.now.left_out }
+    {
+        self.core.core.left_out
+    }
+}
+
+/// A seqno has 16 bits.
+fn seqno_fits(seqno: u16)
+    ensures { seqno < 65536 }
+{}
