@@ -1,0 +1,45 @@
+//! What may happen in a network.
+
+use babel_value::Prefix;
+
+/// One event of a network. Moments are in centiseconds. A datagram that no event delivers is lost.
+#[derive(Clone, Copy, Debug, PartialEq, Eq)]
+pub enum Event {
+    /// The node's timers run (RFC 8966, appendix B).
+    Tick {
+        node: usize,
+        now: u64,
+    },
+    /// The node sends its next datagram, if any. The network records it.
+    Emit {
+        node: usize,
+        now: u64,
+    },
+    /// The node receives the recorded datagram of this number over one of its interfaces.
+    Deliver {
+        datagram: usize,
+        node: usize,
+        iface: u8,
+        now: u64,
+    },
+    /// The nominal cost of an interface of the node changes (RFC 8966, appendix A.2.1).
+    SetCost {
+        node: usize,
+        iface: u8,
+        cost: u16,
+    },
+    /// The node's own seqno grows by 1 (RFC 8966, section 3.7.3).
+    Raise {
+        node: usize,
+    },
+    /// The node announces a prefix of its configuration.
+    Announce {
+        node: usize,
+        prefix: Prefix,
+    },
+    /// The node announces a prefix no longer.
+    Withdraw {
+        node: usize,
+        prefix: Prefix,
+    },
+}

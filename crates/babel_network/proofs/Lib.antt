@@ -1,0 +1,12 @@
+mod SeenWorlds
+mod FewPrefixes
+mod HappeningEvents
+mod KeptNetworks
+mod FirstNetworks
+mod SharedAddresses
+mod TableOwners
+mod AddrCmp
+mod SentOctetsLaws
+mod Chains
+mod NextHops
+mod CallFaults

@@ -1,0 +1,9 @@
+pub mod Networks
+pub mod Steps
+pub mod EventRefusals
+pub mod Invariants
+pub mod Promises
+pub mod Laws
+pub mod Owned
+pub mod Making
+pub mod Shared

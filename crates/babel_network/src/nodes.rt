@@ -1,0 +1,179 @@
+//! The nodes of a network: their speakers, and the datagrams that they sent.
+
+ghost use Rattle.std.specs.Prelude.{◌≡◌, ◌<◌, ◌≤◌, All, None, length, slice_get, map, option_map, vec_len, vec_capacity, IfOk, IfErr, IfSome, IsNone, OnOk, OnErr};
+ghost use Rattle.std.specs.Option.{option_and_then};
+ghost use Rattle.babel_state.specs.declared.configs.Config.{Config};
+ghost use Rattle.babel_state.specs.State.{State};
+ghost use Rattle.babel_state.specs.Calls.{first_state, selected_route};
+ghost use Rattle.babel_net.specs.Acceptance.{first_bad_from};
+ghost use Rattle.babel_network.specs.EventRefusals.{deliver_fault, step_fault, IsFaultOrMemory, IsStepFault};
+ghost use Rattle.babel_network.specs.Invariants.{IsNetwork};
+ghost use Rattle.babel_network.specs.Making.{IsOutOfMemory};
+ghost use Rattle.babel_network.specs.Promises.{first_network};
+ghost use Rattle.babel_network.specs.Steps.{Makes, MakesEmit, MakesDeliver};
+
+use crate::calls::{call, node_of, receive, send};
+use crate::sent::Sent;
+use babel_net::{Event, NetFault, StepFault};
+use babel_speaker::Speaker;
+use babel_state::{Config, Selected};
+use babel_value::{Addr, Prefix};
+use std::alloc::Global;
+use std::marker::Model;
+
+/// The speakers by their nodes' numbers, their configurations, and all that was ever sent, in order.
+#[derive(Drop)]
+pub struct Nodes {
+    configs: Vec<Config>,
+    speakers: Vec<Speaker>,
+    sent: Vec<Sent>,
+}
+
+impl Model for Nodes {
+    ghost use Rattle.babel_network.specs.Networks.{NetworkState};
+
+    ghost Value = { NetworkState };
+
+    ghost view = { λ n. record { configs = n.configs.items; speakers = n.speakers.items; sent = n.sent.items } };
+}
+
+impl Nodes {
+    /// A speaker for each of the configurations, and nothing sent.
+    pub fn new(alloc: Global, configs: Vec<Config>) -> Result<Nodes, NetFault>
+        requires { first_bad_from 0 configs.items ≡ None }
+        ensures ok { IfOk result (λ nodes. nodes ≡ first_network configs.items) }
+        ensures words { OnOk result (All (λ (c : Config). c.seqno < 65536) configs.items) }
+        ensures refused { IfErr result IsOutOfMemory }
+    {
+        let speakers = speakers_of(alloc, &configs)?;
+        Ok(Nodes {
+            configs,
+            speakers,
+            sent: Vec::new(alloc),
+        })
+    }
+
+    /// Makes the event's step, or refuses it and changes nothing.
+    #[tactic(auto, unfolding(crate::specs::EventRefusals::step_fault))]
+    pub fn step(&mut self, event: &Event) -> Result<(), StepFault>
+        requires { IsNetwork self.old }
+        ensures ok { OnOk result (Makes event.now self.old self.new) }
+        ensures accepted { OnOk result (step_fault event.now self.old ≡ None) }
+        ensures refused { IfErr result (IsStepFault (step_fault event.now self.old) event.now self.old) }
+        ensures err { OnErr result (self.new ≡ self.old) }
+    {
+        let node = node_of(event);
+        if node >= self.speakers.len() {
+            return Err(StepFault::NoNode);
+        }
+        match *event {
+            Event::Emit { now, .. } => self.emit(node, now),
+            Event::Deliver {
+                datagram,
+                iface,
+                now,
+                ..
+            } => self.deliver(datagram, node, iface, now),
+            _ => call(&mut self.speakers[node], &self.configs[node], event),
+        }
+    }
+
+    /// The node's next datagram is recorded, if there is one.
+    fn emit(&mut self, node: usize, now: u64) -> Result<(), StepFault>
+        requires inside { node < length self.old.speakers }
+        requires sound { IsNetwork self.old }
+        ensures ok { OnOk result (MakesEmit node now self.old self.new) }
+        ensures refused { IfErr result (λ fault. fault ≡ StepFault.Memory) }
+        ensures err { OnErr result (self.new ≡ self.old) }
+    {
+        if self.sent.reserve(1).is_err() {
+            return Err(StepFault::Memory);
+        }
+        if let Some(sent) = send(&mut self.speakers[node], node, now) {
+            self.sent.push_reserved(sent);
+        }
+        Ok(())
+    }
+
+    /// The node receives the recorded datagram.
+    fn deliver(&mut self, number: usize, node: usize, iface: u8, now: u64) -> Result<(), StepFault>
+        requires inside { node < length self.old.speakers }
+        requires sound { IsNetwork self.old }
+        ensures ok { OnOk result (MakesDeliver number node iface now self.old self.new) }
+        ensures accepted { OnOk result ((speaker : State) → slice_get self.old.speakers node ≡ Some speaker → deliver_fault number iface speaker self.old ≡ None) }
+        ensures refused { IfErr result (λ fault. (speaker : State) → slice_get self.old.speakers node ≡ Some speaker → IsFaultOrMemory (deliver_fault number iface speaker self.old) fault) }
+        ensures err { OnErr result (self.new ≡ self.old) }
+    {
+        if number >= self.sent.len() {
+            return Err(StepFault::NoDatagram);
+        }
+        receive(&mut self.speakers[node], &self.sent[number], iface, now)
+    }
+
+    /// The configurations.
+    pub fn configs(&self) -> &[Config]
+        ensures { result.now ≡ self.now.configs }
+    {
+        self.configs.as_slice()
+    }
+
+    /// The node's selected route to the prefix, if any.
+    pub fn selected(&self, node: usize, prefix: &Prefix) -> Option<Selected>
+        ensures { result ≡ option_and_then (selected_route prefix.now) (slice_get self.now.speakers node) }
+    {
+        match self.speakers.get(node) {
+            Some(speaker) => speaker.selected(prefix),
+            None => None,
+        }
+    }
+
+    /// How often the node's own seqno grew; `None` if there is no such node.
+    pub fn raises(&self, node: usize) -> Option<u64>
+        ensures { result ≡ option_map (λ (s : State). s.raises) (slice_get self.now.speakers node) }
+    {
+        match self.speakers.get(node) {
+            Some(speaker) => Some(speaker.raises()),
+            None => None,
+        }
+    }
+
+    /// The sent datagram of the number, if there is one: its node, its source address and its octets.
+    pub fn sent(&self, number: usize) -> Option<(usize, Addr, &[u8])>
+        ensures none { IsNone result → slice_get self.now.sent number ≡ None }
+        ensures some { IfSome result (λ d. slice_get self.now.sent number ≡ Some (record { node = d.0; source = d.1; octets = d.2.now })) }
+    {
+        match self.sent.get(number) {
+            Some(sent) => Some((sent.node(), sent.source(), sent.octets())),
+            None => None,
+        }
+    }
+}
+
+/// A speaker for each of the configurations.
+fn speakers_of(alloc: Global, configs: &[Config]) -> Result<Vec<Speaker>, NetFault>
+    requires { first_bad_from 0 configs.now ≡ None }
+    ensures ok { IfOk result (λ speakers. speakers.items ≡ map first_state configs.now) }
+    ensures words { OnOk result (All (λ (c : Config). c.seqno < 65536) configs.now) }
+    ensures refused { IfErr result IsOutOfMemory }
+{
+    let mut speakers = match Vec::with_capacity(alloc, configs.len()) {
+        Ok(speakers) => speakers,
+        Err(_) => return Err(NetFault::Memory),
+    };
+    let mut node = 0;
+    while node < configs.len() {
+        let seqno = configs[node].seqno;
+        seqno_fits(seqno);
+        match Speaker::from_config(alloc, &configs[node]) {
+            Ok(speaker) => speakers.push_reserved(speaker),
+            Err(fault) => return Err(NetFault::BadConfig { node, fault }),
+        }
+        node += 1;
+    }
+    Ok(speakers)
+}
+
+/// A seqno has 16 bits.
+fn seqno_fits(seqno: u16)
+    ensures { seqno < 65536 }
+{}
