@@ -1,0 +1,65 @@
+//! Files as octets.
+
+ghost use Rattle.std.specs.Prelude.{◌≡◌, ◌<◌, ◌≤◌, length, IfOk, IfErr};
+ghost use Rattle.toml.specs.View.{view};
+ghost use Rattle.babel_config.specs.Configs.{IsConfig};
+ghost use Rattle.babel_config.specs.Scenarios.{IsScenario};
+ghost use Rattle.babel_config.specs.Files.{IsFileOf, HasFileCause};
+
+use crate::FileFault;
+use crate::scenarios::{Scenario, scenario_from_toml};
+use crate::values::FromToml;
+use babel_state::Config;
+use std::alloc::Global;
+use std::io::Read;
+use toml::Value;
+
+/// The most octets that a file may have.
+pub const MAX_FILE_LEN: usize = 1_048_576;
+
+/// Reads a configuration from the octets of a TOML file.
+pub fn read_config(alloc: Global, octets: &[u8]) -> Result<Config, FileFault>
+    ensures ok { IfOk result (λ config. IsFileOf (λ d. IsConfig d config) octets.now) }
+    ensures too_long { 1048576 < length octets.now → result ≡ Err FileFault.Unreadable }
+{
+    let file = read_toml(alloc, octets)?;
+    Config::from_toml(alloc, &file)
+}
+
+/// Reads a scenario from the octets of a TOML file.
+pub fn read_scenario(alloc: Global, octets: &[u8]) -> Result<Scenario, FileFault>
+    ensures ok { IfOk result (λ scenario. IsFileOf (λ d. IsScenario d scenario) octets.now) }
+    ensures too_long { 1048576 < length octets.now → result ≡ Err FileFault.Unreadable }
+{
+    let file = read_toml(alloc, octets)?;
+    scenario_from_toml(alloc, &file)
+}
+
+/// Reads the table of a TOML file.
+fn read_toml(alloc: Global, octets: &[u8]) -> Result<Value, FileFault>
+    ensures ok { IfOk result (λ file. IsFileOf (λ d. d ≡ view file) octets.now) }
+    ensures refused { IfErr result (HasFileCause octets.now) }
+    ensures too_long { 1048576 < length octets.now → result ≡ Err FileFault.Unreadable }
+{
+    if octets.len() > MAX_FILE_LEN {
+        return Err(FileFault::Unreadable);
+    }
+    match toml::table_from_slice(alloc, octets) {
+        Ok(table) => Ok(Value::Table(table)),
+        Err(error) if error.is_memory() => Err(FileFault::Memory),
+        Err(_) => Err(FileFault::NotToml),
+    }
+}
+
+/// Reads the octets of a file, of which there may be `MAX_FILE_LEN`.
+pub fn read_file<R: Read + Drop>(alloc: Global, input: R) -> Result<Vec<u8>, FileFault>
+    ensures { IfOk result (λ octets. length octets.items ≤ 1048576) }
+{
+    let mut octets = Vec::new(alloc);
+    let mut front = input.take(MAX_FILE_LEN as u64 + 1);
+    front.read_to_end(&mut octets)?;
+    if octets.len() > MAX_FILE_LEN {
+        return Err(FileFault::Unreadable);
+    }
+    Ok(octets)
+}

@@ -1,0 +1,66 @@
+//! The keys of each kind of table.
+
+ghost use Rattle.std.specs.Prelude.{◌≡◌};
+ghost use Rattle.toml.specs.View.{view, table_view};
+ghost use Rattle.babel_config.specs.Keys.{is_key_of, all_keys_of, is_table_of};
+
+use toml::{Table, Value};
+
+/// A kind of table in a file.
+#[derive(Clone, Copy, Debug)]
+pub(crate) enum TableKind {
+    /// The file of a scenario.
+    Scenario,
+    /// The file of a configuration, or a node of a scenario.
+    Config,
+    /// An interface of a configuration.
+    Interface,
+}
+
+impl TableKind {
+    /// Whether a table of this kind may have the key.
+    fn has_key(self, key: &str) -> bool
+        ensures { result ≡ is_key_of self key.now }
+    {
+        match self {
+            TableKind::Scenario => key == "events" || key == "node",
+            TableKind::Config => {
+                key == "router-id"
+                    || key == "seqno"
+                    || key == "collect"
+                    || key == "prefixes"
+                    || key == "interface"
+            }
+            TableKind::Interface => {
+                key == "transport"
+                    || key == "ipv4"
+                    || key == "ipv6"
+                    || key == "peers"
+                    || key == "cost"
+                    || key == "hello"
+            }
+        }
+    }
+}
+
+/// Whether the value is a table of this kind, without other keys.
+pub(crate) fn is_table_of(kind: TableKind, value: &Value) -> bool
+    ensures { result ≡ is_table_of kind (view value.now) }
+{
+    match value {
+        Value::Table(table) => has_known_keys(kind, table),
+        _ => false,
+    }
+}
+
+/// Whether the table has no other keys than those of its kind.
+fn has_known_keys(kind: TableKind, table: &Table) -> bool
+    ensures { result ≡ all_keys_of kind (table_view table.now) }
+{
+    for (key, _value) in table.iter() {
+        if !kind.has_key(key.as_str()) {
+            return false;
+        }
+    }
+    true
+}

@@ -1,0 +1,44 @@
+//! What is read of a value, and of the value at a key of a table.
+
+ghost use Rattle.std.specs.Prelude.{IfOk};
+ghost use Rattle.toml.specs.Data.{Data, get};
+ghost use Rattle.toml.specs.View.{view};
+ghost use Rattle.babel_config.specs.Values.{IsOptional, IsRequired};
+
+use crate::FileFault;
+use std::alloc::Global;
+use toml::Value;
+
+/// What can be read of a TOML value. A refusal is `Form`, `Text` or `Memory`.
+pub(crate) trait FromToml: Sized + Drop {
+    // What the value means.
+    ghost means: { Data → Self → Type 0 };
+
+    /// Reads the value.
+    fn from_toml(alloc: Global, value: &Value) -> Result<Self, FileFault>
+        ensures { IfOk result (means (view value.now)) };
+}
+
+/// Reads the value at a key of a table, if the table has the key.
+pub(crate) fn optional<T: FromToml>(
+    alloc: Global,
+    table: &Value,
+    key: &str,
+) -> Result<Option<T>, FileFault>
+    ensures { IfOk result (IsOptional T.means (get key.now (view table.now))) }
+{
+    match table.get(key) {
+        Some(value) => Ok(Some(T::from_toml(alloc, value)?)),
+        None => Ok(None),
+    }
+}
+
+/// Reads the value at a key of a table, which must have the key.
+pub(crate) fn required<T: FromToml>(alloc: Global, table: &Value, key: &str) -> Result<T, FileFault>
+    ensures { IfOk result (IsRequired T.means (get key.now (view table.now))) }
+{
+    match table.get(key) {
+        Some(value) => T::from_toml(alloc, value),
+        None => Err(FileFault::Form),
+    }
+}
