@@ -1,0 +1,7 @@
+//! The command `net`: the next hops of a network after each event of a scenario.
+#![tactic(auto)]
+
+mod hops;
+mod running;
+
+pub use running::net;

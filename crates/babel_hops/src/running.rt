@@ -1,0 +1,111 @@
+//! `babel net SCENARIO`.
+
+use crate::hops::{Hops, node_of};
+use babel_config::{FileFault, Scenario, read_file, read_scenario};
+use babel_net::{Event, NetFault, StepFault};
+use babel_network::Network;
+use babel_show::{Fault, Status, report};
+use std::alloc::{AllocError, Global};
+use std::io::{Read, Write};
+
+/// Why a scenario isn't run to its end.
+#[derive(Clone, Copy, Debug, PartialEq, Eq)]
+enum NetCommandFault {
+    /// The file holds no scenario.
+    File(FileFault),
+    /// No network can be made of the configurations.
+    Net(NetFault),
+    /// An allocation or writing failed.
+    Output(Fault),
+}
+
+impl From<FileFault> for NetCommandFault {
+    fn from(fault: FileFault) -> NetCommandFault {
+        NetCommandFault::File(fault)
+    }
+}
+
+impl From<NetFault> for NetCommandFault {
+    fn from(fault: NetFault) -> NetCommandFault {
+        NetCommandFault::Net(fault)
+    }
+}
+
+impl From<Fault> for NetCommandFault {
+    fn from(fault: Fault) -> NetCommandFault {
+        NetCommandFault::Output(fault)
+    }
+}
+
+impl From<AllocError> for NetCommandFault {
+    fn from(_error: AllocError) -> NetCommandFault {
+        NetCommandFault::Output(Fault::Memory)
+    }
+}
+
+/// Runs the network of the scenario in the file. After each event it writes the next hops that changed, and
+/// at the end how many events and datagrams there were. A refused event is the last line. Else a code is
+/// written to `err`.
+pub fn net<R: Read + Drop, W: Write, E: Write>(
+    alloc: Global,
+    scenario: R,
+    out: &mut W,
+    err: &mut E,
+) -> Status {
+    match try_net(alloc, scenario, out) {
+        Ok(status) => status,
+        Err(NetCommandFault::Output(fault)) => report(fault, err),
+        Err(fault) => {
+            // If writing fails too, the status still reports the fault.
+            let _ = match fault {
+                NetCommandFault::File(fault) => writeln!(err, "babel: {}", fault.code()),
+                NetCommandFault::Net(NetFault::BadConfig { node, fault }) => {
+                    writeln!(err, "babel: M7 {node} {}", fault.code())
+                }
+                NetCommandFault::Net(fault) => writeln!(err, "babel: {}", fault.code()),
+                NetCommandFault::Output(fault) => writeln!(err, "babel: {}", fault.code()),
+            };
+            Status::Refused
+        }
+    }
+}
+
+fn try_net<R: Read + Drop, W: Write>(
+    alloc: Global,
+    scenario: R,
+    out: &mut W,
+) -> Result<Status, NetCommandFault> {
+    let octets = read_file(alloc, scenario)?;
+    let Scenario { configs, events } = read_scenario(alloc, octets.as_slice())?;
+    let mut hops = Hops::new(alloc, configs.as_slice())?;
+    let mut network = Network::new(alloc, configs)?;
+    let refused = write_events(events.as_slice(), &mut network, &mut hops, out)?;
+    out.flush().map_err(Fault::of_writing)?;
+    Ok(refused)
+}
+
+/// Runs the events, up to the first that is refused.
+fn write_events<W: Write>(
+    events: &[Event],
+    network: &mut Network,
+    hops: &mut Hops,
+    out: &mut W,
+) -> Result<Status, Fault> {
+    let mut datagrams = 0;
+    for (number, event) in events.iter().enumerate() {
+        if let Err(fault) = network.step(event) {
+            write_refused(number, fault, out)?;
+            return Ok(Status::Refused);
+        }
+        if network.sent(datagrams).is_some() {
+            datagrams = datagrams.saturating_add(1);
+        }
+        hops.write_changes(number, node_of(event), network, out)?;
+    }
+    writeln!(out, "end {} events {datagrams} datagrams", events.len()).map_err(Fault::of_writing)?;
+    Ok(Status::Done)
+}
+
+fn write_refused<W: Write>(number: usize, fault: StepFault, out: &mut W) -> Result<(), Fault> {
+    writeln!(out, "{number} refused {}", fault.code()).map_err(Fault::of_writing)
+}

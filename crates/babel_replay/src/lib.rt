@@ -1,0 +1,25 @@
+//! Logs of what a speaker of the Babel routing protocol (RFC 8966) received, run again.
+//!
+//! - [`replay`] writes what the speaker makes of each line, and the routes that it selects.
+//! - [`explain`] writes the routes of one prefix after the log, and why each is used or not.
+//!
+//! `log_lines` reads the lines, `replaying` and `explaining` are the two calls, and `texts` has the lines
+//! that they write.
+#![tactic(auto)]
+
+mod explaining;
+mod faults;
+mod log_lines;
+mod reading;
+mod replaying;
+mod seen;
+mod stepping;
+mod texts;
+
+pub use explaining::explain;
+pub use faults::{LineFault, ReplayFault};
+pub use log_lines::{Action, Event, MAX_LINE_LEN, parse_line};
+pub use replaying::replay;
+
+#[cfg(test)]
+mod tests;

@@ -1,0 +1,182 @@
+//! The lines of a log: what happened to the speaker, and when.
+
+ghost use Rattle.std.specs.Prelude.{◌≡◌, ℕ, Some, IfOk, IfErr};
+ghost use Rattle.babel_value.specs.Texts.{IsAddrText};
+ghost use Rattle.babel_text.specs.Numbers.{IsNumberText};
+ghost use Rattle.babel_replay.specs.LogLines.{HasBlank, before_blank, after_blank, hex_octets, IsLine};
+
+use crate::LineFault;
+use babel_text::{parse_u16, parse_u64};
+use babel_value::Addr;
+
+/// The most octets of a line, its line feed not counted.
+pub const MAX_LINE_LEN: usize = 131_200;
+
+/// A line of a log.
+#[derive(Clone, Copy, Debug, PartialEq, Eq)]
+pub struct Event<'a> {
+    /// The moment, in centiseconds.
+    pub time: u64,
+    /// What happened.
+    pub action: Action<'a>,
+}
+
+/// What happened to the speaker.
+#[derive(Clone, Copy, Debug, PartialEq, Eq)]
+pub enum Action<'a> {
+    /// A datagram came.
+    Receive {
+        /// The number of the interface.
+        iface: u16,
+        /// The source address.
+        source: Addr,
+        /// The octets of the datagram.
+        octets: &'a [u8],
+    },
+    /// Time passed.
+    Tick,
+    /// An interface got another nominal cost.
+    SetCost {
+        /// The number of the interface.
+        iface: u16,
+        /// The cost.
+        cost: u16,
+    },
+}
+
+/// Whether the line is skipped: it is empty, or begins with `#`.
+pub(crate) fn is_skipped(line: &[u8]) -> bool {
+    matches!(line.first(), None | Some(b'#'))
+}
+
+/// Reads a line that isn't skipped: `<time> in <iface> <source> <hex>`, `<time> tick` or
+/// `<time> cost <iface> <n>`. The datagram's octets are written to the front of `octets`, which has room for
+/// those of the longest line.
+///
+/// L1 comes before the fields, which are read from the left: L2, L3 or L4 is that of the first that can't
+/// be read.
+pub fn parse_line<'a>(line: &[u8], octets: &'a mut [u8]) -> Result<Event<'a>, LineFault>
+    ensures ok { IfOk result (λ event. IsLine line.now event.time event.action) }
+{
+    let Ok(text) = str::from_utf8(line) else {
+        return Err(LineFault::Form);
+    };
+    let Some((time, rest)) = text.split_once(' ') else {
+        return Err(LineFault::Form);
+    };
+    if rest == "tick" {
+        let time = parse_time(time)?;
+        let action = Action::Tick;
+        return Ok(Event { time, action });
+    }
+    let Some((word, fields)) = rest.split_once(' ') else {
+        return Err(LineFault::Form);
+    };
+    if word == "in" {
+        let (iface, source, hex) = receive_fields(fields)?;
+        let time = parse_time(time)?;
+        let action = Action::Receive {
+            iface: parse_word(iface)?,
+            source: parse_address(source)?,
+            octets: parse_hex(hex, octets)?,
+        };
+        return Ok(Event { time, action });
+    }
+    if word == "cost" {
+        let (iface, cost) = cost_fields(fields)?;
+        let time = parse_time(time)?;
+        let action = Action::SetCost {
+            iface: parse_word(iface)?,
+            cost: parse_word(cost)?,
+        };
+        return Ok(Event { time, action });
+    }
+    Err(LineFault::Form)
+}
+
+/// The three fields after the word `in`.
+fn receive_fields(fields: &str) -> Result<(&str, &str, &str), LineFault>
+    ensures parted { IfOk result (λ f. HasBlank fields.now × HasBlank (after_blank fields.now)) }
+    ensures iface { IfOk result (λ f. f.0.now ≡ before_blank fields.now) }
+    ensures source { IfOk result (λ f. f.1.now ≡ before_blank (after_blank fields.now)) }
+    ensures hex { IfOk result (λ f. f.2.now ≡ after_blank (after_blank fields.now)) }
+{
+    let Some((iface, rest)) = fields.split_once(' ') else {
+        return Err(LineFault::Form);
+    };
+    let Some((source, hex)) = rest.split_once(' ') else {
+        return Err(LineFault::Form);
+    };
+    if hex.split_once(' ').is_some() {
+        return Err(LineFault::Form);
+    }
+    Ok((iface, source, hex))
+}
+
+/// The two fields after the word `cost`.
+fn cost_fields(fields: &str) -> Result<(&str, &str), LineFault>
+    ensures parted { IfOk result (λ f. HasBlank fields.now) }
+    ensures iface { IfOk result (λ f. f.0.now ≡ before_blank fields.now) }
+    ensures cost { IfOk result (λ f. f.1.now ≡ after_blank fields.now) }
+{
+    let Some((iface, cost)) = fields.split_once(' ') else {
+        return Err(LineFault::Form);
+    };
+    if cost.split_once(' ').is_some() {
+        return Err(LineFault::Form);
+    }
+    Ok((iface, cost))
+}
+
+/// The moment that the text spells.
+fn parse_time(text: &str) -> Result<u64, LineFault>
+    ensures ok { IfOk result (IsNumberText 64 text.now) }
+    ensures refused { IfErr result (λ fault. (fault ≡ LineFault.Number) × ((n : ℕ) → ¬ (IsNumberText 64 text.now n))) }
+{
+    match parse_u64(text) {
+        Some(number) => Ok(number),
+        None => Err(LineFault::Number),
+    }
+}
+
+/// The number up to 65535 that the text spells.
+fn parse_word(text: &str) -> Result<u16, LineFault>
+    ensures ok { IfOk result (IsNumberText 16 text.now) }
+    ensures refused { IfErr result (λ fault. (fault ≡ LineFault.Number) × ((n : ℕ) → ¬ (IsNumberText 16 text.now n))) }
+{
+    match parse_u16(text) {
+        Some(number) => Ok(number),
+        None => Err(LineFault::Number),
+    }
+}
+
+/// The address that the text spells.
+fn parse_address(text: &str) -> Result<Addr, LineFault>
+    ensures ok { IfOk result (IsAddrText text.now) }
+    ensures refused { IfErr result (λ fault. (fault ≡ LineFault.Address) × ((a : Addr) → ¬ (IsAddrText text.now a))) }
+{
+    match Addr::parse_ascii(text.as_bytes()) {
+        Ok(addr) => Ok(addr),
+        Err(_) => Err(LineFault::Address),
+    }
+}
+
+/// Reads the octets into the front of `octets`, and returns that front. `-` stands for no octets, and
+/// an empty text isn't hexadecimal.
+fn parse_hex<'a>(hex: &str, octets: &'a mut [u8]) -> Result<&'a [u8], LineFault>
+    ensures ok { IfOk result (λ read. hex_octets hex.now ≡ Some read.now) }
+    ensures refused { IfErr result (λ fault. fault ≡ LineFault.Hex) }
+{
+    if hex == "-" {
+        return Ok(&[]);
+    }
+    let count = hex.len() / 2;
+    if count == 0 || count > octets.len() {
+        return Err(LineFault::Hex);
+    }
+    let front = &mut octets[..count];
+    match hex::decode_to_slice(hex, front) {
+        Ok(()) => Ok(front),
+        Err(_) => Err(LineFault::Hex),
+    }
+}

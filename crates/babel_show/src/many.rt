@@ -1,0 +1,150 @@
+//! `babel show --stdin`: what many datagrams mean, one a line.
+
+use crate::one::{read_source, write_meaning};
+use crate::{Fault, Status};
+use babel_packet::{Refusal, decode};
+use babel_value::Addr;
+use std::alloc::Global;
+use std::io::{BufRead, BufReader, Read, Write};
+
+/// The most octets of a line, its line feed not counted: an address, a blank, and the largest
+/// datagram in hexadecimal.
+const MAX_LINE_LEN: usize = 131_200;
+
+/// How many octets are read at a time.
+const READ_LEN: usize = 65_536;
+
+/// How `show_lines` reads and writes.
+#[derive(Clone, Copy, Debug)]
+pub struct LineOptions<'a> {
+    /// The source address of a line that has none.
+    pub source: &'a str,
+    /// Whether `# <line> <source>` is written before each datagram.
+    pub header: bool,
+}
+
+/// Reads lines `<source> <hex>` or `<hex>`, and writes the lines of each datagram, with an empty line
+/// between two datagrams. Blank lines and lines that begin with `#` are skipped. A refused datagram is
+/// shown as such, and the reading goes on.
+///
+/// At the first line of another form it stops, writes the line's number and code to `err`, and returns
+/// `Refused`. Line numbers begin at 1 and count each line.
+///
+/// What is shown is flushed before each read that may wait. The memory doesn't grow with the input.
+pub fn show_lines<R: Read + Drop, W: Write, E: Write>(
+    alloc: Global,
+    options: LineOptions<'_>,
+    input: R,
+    out: &mut W,
+    err: &mut E,
+) -> Status {
+    let mut number = 0;
+    match try_show_lines(alloc, options, input, out, &mut number) {
+        Ok(()) => Status::Done,
+        Err(fault) => {
+            // What was shown before the fault is flushed; the fault is reported even if that fails.
+            let _ = out.flush();
+            // If writing fails here too, the status still reports the fault.
+            let _ = match number {
+                0 => writeln!(err, "babel: {}", fault.code()),
+                _ => writeln!(err, "babel: line {number} {}", fault.code()),
+            };
+            Status::Refused
+        }
+    }
+}
+
+/// `number` becomes the number of the line that is read, and is 0 before the first.
+fn try_show_lines<R: Read + Drop, W: Write>(
+    alloc: Global,
+    options: LineOptions<'_>,
+    input: R,
+    out: &mut W,
+    number: &mut u64,
+) -> Result<(), Fault> {
+    let source = read_source(options.source)?;
+    let mut input = BufReader::with_capacity(alloc, READ_LEN, input).map_err(Fault::of_reading)?;
+    let mut line = Vec::with_capacity(alloc, MAX_LINE_LEN + 1)?;
+    let mut octets = vec![in alloc; 0u8; MAX_LINE_LEN / 2]?;
+    let mut is_first = true;
+    for turn in 1..u64::MAX {
+        *number = turn;
+        if !input.buffer().contains(&b'\n') {
+            out.flush().map_err(Fault::of_writing)?;
+        }
+        if !read_line(&mut input, &mut line)? {
+            break;
+        }
+        if is_skipped(line.as_slice()) {
+            continue;
+        }
+        let (source, hex) = parse_line(line.as_slice(), source)?;
+        let datagram = decode_hex(hex, octets.as_mut_slice())?;
+        if !is_first {
+            writeln!(out, "").map_err(Fault::of_writing)?;
+        }
+        is_first = false;
+        if options.header {
+            writeln!(out, "# {turn} {source}").map_err(Fault::of_writing)?;
+        }
+        match decode(alloc, datagram, source) {
+            Err(Refusal::Memory) => return Err(Fault::Memory),
+            meaning => write_meaning(&meaning, out)?,
+        }
+    }
+    out.flush().map_err(Fault::of_writing)
+}
+
+/// Reads a line without its line feed, and returns whether there was one. The end of the input ends the
+/// last line.
+fn read_line<R: BufRead>(input: &mut R, line: &mut Vec<u8>) -> Result<bool, Fault> {
+    line.clear();
+    let most = MAX_LINE_LEN as u64 + 1;
+    let mut front = Read::take(&mut *input, most);
+    if front.read_until(b'\n', line).map_err(Fault::of_reading)? == 0 {
+        return Ok(false);
+    }
+    if line.last() == Some(&b'\n') {
+        let _ = line.pop();
+    }
+    if line.len() > MAX_LINE_LEN {
+        return Err(Fault::Line);
+    }
+    Ok(true)
+}
+
+/// Whether the line is blank or begins with `#`.
+fn is_skipped(line: &[u8]) -> bool {
+    match line.first() {
+        Some(b'#') => true,
+        _ => line.iter().all(|octet| matches!(*octet, b' ' | b'\t')),
+    }
+}
+
+/// The source and the hexadecimal text of a line, which the first blank separates. A line without a
+/// blank has the source that is given.
+fn parse_line(line: &[u8], source: Addr) -> Result<(Addr, &[u8]), Fault> {
+    let Some(blank) = line.iter().position(|octet| *octet == b' ') else {
+        return Ok((source, line));
+    };
+    let Ok(text) = str::from_utf8(&line[..blank]) else {
+        return Err(Fault::Address);
+    };
+    Ok((read_source(text)?, &line[blank + 1..]))
+}
+
+/// Reads the octets into the front of `octets`, and returns that front.
+fn decode_hex<'a>(hex: &[u8], octets: &'a mut [u8]) -> Result<&'a [u8], Fault> {
+    if let [b'-'] = hex {
+        return Ok(&[]);
+    }
+    let count = hex.len() / 2;
+    if count == 0 || count > octets.len() {
+        return Err(Fault::Hex);
+    }
+    let front = &mut octets[..count];
+    match hex::decode_to_slice(hex, front) {
+        Ok(()) => Ok(front),
+        Err(_) => Err(Fault::Hex),
+    }
+}

@@ -1,0 +1,75 @@
+//! `babel show HEX`: what one datagram means.
+
+use crate::{Fault, Status, report};
+use babel_packet::{Placed, Refusal, decode};
+use babel_value::Addr;
+use std::alloc::Global;
+use std::io::Write;
+
+/// The text of no octets: an empty text is bad hexadecimal.
+const NO_OCTETS: &str = "-";
+
+/// Writes what a datagram means: a line for each TLV, or `refused` and the code. `source` is the address
+/// that it came from, `hex` its octets in hexadecimal. A fault of the arguments is written to `err`.
+pub fn show<W: Write, E: Write>(
+    alloc: Global,
+    source: &str,
+    hex: &str,
+    out: &mut W,
+    err: &mut E,
+) -> Status {
+    match try_show(alloc, source, hex, out) {
+        Ok(status) => status,
+        Err(fault) => report(fault, err),
+    }
+}
+
+fn try_show<W: Write>(
+    alloc: Global,
+    source: &str,
+    hex: &str,
+    out: &mut W,
+) -> Result<Status, Fault> {
+    let source = read_source(source)?;
+    let octets = read_octets(alloc, hex)?;
+    let meaning = decode(alloc, octets.as_slice(), source);
+    write_meaning(&meaning, out)?;
+    out.flush().map_err(Fault::of_writing)?;
+    Ok(if meaning.is_ok() {
+        Status::Done
+    } else {
+        Status::Refused
+    })
+}
+
+pub(crate) fn read_source(text: &str) -> Result<Addr, Fault> {
+    text.parse::<Addr>().map_err(|_| Fault::Address)
+}
+
+fn read_octets(alloc: Global, text: &str) -> Result<Vec<u8>, Fault> {
+    if text == NO_OCTETS {
+        return Ok(Vec::new(alloc));
+    }
+    if text.is_empty() {
+        return Err(Fault::Hex);
+    }
+    Ok(hex::decode(alloc, text)?)
+}
+
+/// Writes the lines of a datagram.
+pub(crate) fn write_meaning<W: Write>(
+    meaning: &Result<Vec<Placed>, Refusal>,
+    out: &mut W,
+) -> Result<(), Fault> {
+    match meaning {
+        Ok(placed) => {
+            for place in placed.as_slice() {
+                writeln!(out, "{place}").map_err(Fault::of_writing)?;
+            }
+        }
+        Err(refusal) => {
+            writeln!(out, "refused {}", refusal.code()).map_err(Fault::of_writing)?;
+        }
+    }
+    Ok(())
+}
