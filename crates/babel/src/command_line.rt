@@ -1,61 +1,87 @@
-//! The words of the command line.
+//! The command line.
 
-use crate::{Fault, Status, show, show_lines};
+use crate::help;
+use crate::speaking::{run_speak, speak_command};
+use babel_check::check;
+use babel_config::FileFault;
+use babel_hops::net;
+use babel_report::{explain, replay};
+use babel_show::{Fault, LineOptions, Status, show, show_lines};
 use clap::error::ErrorKind;
 use clap::{Arg, ArgAction, ArgMatches, Command};
 use std::alloc::{AllocError, Global};
-use std::io::{BufReader, BufWriter, Read, Write};
+use std::fs::{self, Files};
+use std::io::{BufWriter, Read, Write};
+use std::net::Net;
 use std::rt::Env;
+use std::time::Clock;
 use std::{env, io};
 
-/// The source address where none is given: a link-local one, as most Babel speakers have.
+/// The source address that is used if none is given: a link-local one, as most Babel speakers have.
 const DEFAULT_SOURCE: &str = "fe80::1";
 
-const ABOUT: &str = "Shows what Babel (RFC 8966) datagrams say";
+/// Why the arguments can't be read.
+#[derive(Clone, Copy, Debug)]
+pub(crate) enum ArgumentsError {
+    /// An argument isn't UTF-8.
+    NotText,
+    /// An allocation failed.
+    Memory,
+}
 
-/// The words of the command line, the program's name first.
-pub(crate) fn words<R: AllocGlobal + Env>(rt: &R) -> Result<Vec<String>, Fault> {
-    match env::args(rt) {
-        Ok(words) => Ok(words.collect(rt.alloc())?),
-        Err(error) if error.kind() == io::ErrorKind::OutOfMemory => Err(Fault::Memory),
-        Err(_) => Err(Fault::Words),
+impl From<AllocError> for ArgumentsError {
+    fn from(_error: AllocError) -> ArgumentsError {
+        ArgumentsError::Memory
     }
 }
 
-/// Does what the words ask for.
-pub(crate) fn run<R: Read + Drop, W: Write + Drop, E: Write>(
-    alloc: Global,
-    words: &[String],
+/// The arguments of the command line, the program's name first.
+pub(crate) fn arguments<R: AllocGlobal + Env>(rt: &R) -> Result<Vec<String>, ArgumentsError> {
+    match env::args(rt) {
+        Ok(arguments) => Ok(arguments.collect(rt.alloc())?),
+        Err(error) if error.kind() == io::ErrorKind::OutOfMemory => Err(ArgumentsError::Memory),
+        Err(_) => Err(ArgumentsError::NotText),
+    }
+}
+
+/// Writes why the arguments can't be read.
+pub(crate) fn report<E: Write>(error: ArgumentsError, err: &mut E) -> Status {
+    match error {
+        ArgumentsError::NotText => {
+            // If writing fails too, the status still reports the error.
+            let _ = writeln!(err, "babel: the command line isn't UTF-8");
+            Status::Usage
+        }
+        ArgumentsError::Memory => babel_show::report(Fault::Memory, err),
+    }
+}
+
+/// Runs the command that the arguments name.
+pub(crate) fn run<F: AllocGlobal + Files + Net + Clock, R: Read + Drop, W: Write + Drop, E: Write>(
+    rt: &F,
+    arguments: &[String],
     input: R,
     out: W,
     err: &mut E,
 ) -> Status {
-    match try_run(alloc, words, input, out, err) {
+    match try_run(rt, arguments, input, out, err) {
         Ok(status) => status,
-        Err(fault) => report(fault, err),
+        Err(fault) => babel_show::report(fault, err),
     }
 }
 
-/// Says why a command refuses. Where standard error can't be written either, the status says it.
-pub(crate) fn report<E: Write>(fault: Fault, err: &mut E) -> Status {
-    let _ = writeln!(err, "babel: {fault}");
-    match fault {
-        Fault::Words => Status::Usage,
-        _ => Status::Refused,
-    }
-}
-
-fn try_run<'a, R: Read + Drop, W: Write + Drop, E: Write>(
-    alloc: Global,
-    words: &'a [String],
+fn try_run<'a, F: AllocGlobal + Files + Net + Clock, R: Read + Drop, W: Write + Drop, E: Write>(
+    rt: &F,
+    arguments: &'a [String],
     input: R,
     out: W,
     err: &mut E,
 ) -> Result<Status, Fault> {
+    let alloc = rt.alloc();
     let mut out = BufWriter::new(alloc, out).map_err(Fault::of_writing)?;
     let command: Command<'a> = command(alloc)?;
-    match command.try_get_matches_from(words) {
-        Ok(matches) => dispatch(alloc, &matches, input, &mut out, err),
+    match command.try_get_matches_from(arguments) {
+        Ok(matches) => Ok(dispatch(rt, &matches, input, &mut out, err)),
         Err(error) if error.kind() == ErrorKind::OutOfMemory => Err(Fault::Memory),
         Err(error) if error.use_stderr() => {
             write!(err, "{error}").map_err(Fault::of_writing)?;
@@ -69,34 +95,124 @@ fn try_run<'a, R: Read + Drop, W: Write + Drop, E: Write>(
     }
 }
 
-fn dispatch<R: Read + Drop, W: Write, E: Write>(
-    alloc: Global,
+fn dispatch<F: AllocGlobal + Files + Net + Clock, R: Read + Drop, W: Write, E: Write>(
+    rt: &F,
     matches: &ArgMatches<'_>,
     input: R,
     out: &mut W,
     err: &mut E,
-) -> Result<Status, Fault> {
-    let Some(("show", words)) = matches.subcommand() else {
-        return Ok(Status::Usage);
-    };
-    let source = words.get_str("source").unwrap_or(DEFAULT_SOURCE);
-    match words.get_str("hex") {
-        Some(hex) => Ok(show(alloc, source, hex, out, err)),
+) -> Status {
+    match matches.subcommand() {
+        Some(("show", arguments)) => run_show(rt.alloc(), arguments, input, out, err),
+        Some(("check", arguments)) => run_check(rt, arguments, out, err),
+        Some(("replay", arguments)) => run_replay(rt, arguments, out, err),
+        Some(("explain", arguments)) => run_explain(rt, arguments, out, err),
+        Some(("net", arguments)) => run_net(rt, arguments, out, err),
+        Some(("speak", arguments)) => run_speak(rt, arguments, out, err),
+        _ => Status::Usage,
+    }
+}
+
+fn run_show<R: Read + Drop, W: Write, E: Write>(
+    alloc: Global,
+    arguments: &ArgMatches<'_>,
+    input: R,
+    out: &mut W,
+    err: &mut E,
+) -> Status {
+    let source = arguments.get_str("source").unwrap_or(DEFAULT_SOURCE);
+    match arguments.get_str("hex") {
+        Some(hex) => show(alloc, source, hex, out, err),
         None => {
-            let mut input = BufReader::new(alloc, input).map_err(Fault::of_writing)?;
-            Ok(show_lines(alloc, source, &mut input, out, err))
+            let header = arguments.get_flag("header");
+            let options = LineOptions { source, header };
+            show_lines(alloc, options, input, out, err)
         }
     }
+}
+
+fn run_check<F: AllocGlobal + Files, W: Write, E: Write>(
+    rt: &F,
+    arguments: &ArgMatches<'_>,
+    out: &mut W,
+    err: &mut E,
+) -> Status {
+    let path = arguments.get_str("config").unwrap_or("");
+    match fs::open(rt, path) {
+        Ok(file) => check(rt.alloc(), file, out, err),
+        Err(error) => report_file(FileFault::from(error), err),
+    }
+}
+
+fn run_replay<F: AllocGlobal + Files, W: Write, E: Write>(
+    rt: &F,
+    arguments: &ArgMatches<'_>,
+    out: &mut W,
+    err: &mut E,
+) -> Status {
+    match open_config_and_log(rt, arguments) {
+        Ok((config, log)) => replay(rt.alloc(), config, log, out, err),
+        Err(error) => report_file(FileFault::from(error), err),
+    }
+}
+
+fn run_explain<F: AllocGlobal + Files, W: Write, E: Write>(
+    rt: &F,
+    arguments: &ArgMatches<'_>,
+    out: &mut W,
+    err: &mut E,
+) -> Status {
+    let prefix = arguments.get_str("prefix").unwrap_or("");
+    match open_config_and_log(rt, arguments) {
+        Ok((config, log)) => explain(rt.alloc(), config, log, prefix, out, err),
+        Err(error) => report_file(FileFault::from(error), err),
+    }
+}
+
+/// Opens the files of `replay` and `explain`, in the order of the arguments.
+fn open_config_and_log<F: Files>(
+    rt: &F,
+    arguments: &ArgMatches<'_>,
+) -> io::Result<(F::File, F::File)> {
+    let config = fs::open(rt, arguments.get_str("config").unwrap_or(""))?;
+    let log = fs::open(rt, arguments.get_str("log").unwrap_or(""))?;
+    Ok((config, log))
+}
+
+fn run_net<F: AllocGlobal + Files, W: Write, E: Write>(
+    rt: &F,
+    arguments: &ArgMatches<'_>,
+    out: &mut W,
+    err: &mut E,
+) -> Status {
+    let path = arguments.get_str("scenario").unwrap_or("");
+    match fs::open(rt, path) {
+        Ok(file) => net(rt.alloc(), file, out, err),
+        Err(error) => report_file(FileFault::from(error), err),
+    }
+}
+
+/// Writes why a file can't be opened.
+fn report_file<E: Write>(fault: FileFault, err: &mut E) -> Status {
+    // If writing fails too, the status still reports the fault.
+    let _ = writeln!(err, "babel: {}", fault.code());
+    Status::Refused
 }
 
 /// The commands and their arguments.
 fn command<'a>(alloc: Global) -> Result<Command<'a>, AllocError> {
     Command::new(alloc, "babel")
         .version("0.1.0")
-        .about(ABOUT)
+        .about("Shows what Babel (RFC 8966) datagrams mean, and what a speaker makes of them")
+        .after_help(help::PROGRAM)
         .subcommand_required(true)
         .disable_help_subcommand(true)
-        .subcommand(show_command(alloc)?)
+        .subcommand(show_command(alloc)?)?
+        .subcommand(check_command(alloc)?)?
+        .subcommand(replay_command(alloc)?)?
+        .subcommand(explain_command(alloc)?)?
+        .subcommand(net_command(alloc)?)?
+        .subcommand(speak_command(alloc)?)
 }
 
 fn show_command<'a>(alloc: Global) -> Result<Command<'a>, AllocError> {
@@ -109,6 +225,11 @@ fn show_command<'a>(alloc: Global) -> Result<Command<'a>, AllocError> {
         .long("stdin")
         .help("Reads lines `<source> <hex>` or `<hex>` from standard input")
         .action(ArgAction::SetTrue);
+    let header = Arg::new(alloc, "header")
+        .long("header")
+        .help("With --stdin, writes `# <line> <source>` before each datagram")
+        .conflicts_with("hex")?
+        .action(ArgAction::SetTrue);
     let hex = Arg::new(alloc, "hex")
         .value_name("HEX")
         .help("The datagram's octets in hexadecimal, or - for none")
@@ -116,8 +237,69 @@ fn show_command<'a>(alloc: Global) -> Result<Command<'a>, AllocError> {
         .conflicts_with("stdin")?
         .action(ArgAction::Set);
     Command::new(alloc, "show")
-        .about("Shows what each TLV of a datagram says")
+        .about("Shows what each TLV of a datagram means")
+        .after_help(help::SHOW)
         .arg(source)?
         .arg(stdin)?
+        .arg(header)?
         .arg(hex)
+}
+
+/// The argument that names a configuration.
+fn config_arg<'a>(alloc: Global) -> Arg<'a> {
+    Arg::new(alloc, "config")
+        .value_name("CONFIG")
+        .help("The configuration of a speaker, a TOML file")
+        .required(true)
+        .action(ArgAction::Set)
+}
+
+/// The argument that names a log.
+fn log_arg<'a>(alloc: Global) -> Arg<'a> {
+    Arg::new(alloc, "log")
+        .value_name("LOG")
+        .help("What happened to the speaker, a line for each event")
+        .required(true)
+        .action(ArgAction::Set)
+}
+
+fn check_command<'a>(alloc: Global) -> Result<Command<'a>, AllocError> {
+    Command::new(alloc, "check")
+        .about("Checks whether a speaker can be made of a configuration")
+        .after_help(help::CHECK)
+        .arg(config_arg(alloc))
+}
+
+fn replay_command<'a>(alloc: Global) -> Result<Command<'a>, AllocError> {
+    Command::new(alloc, "replay")
+        .about("Shows what a speaker makes of a log, and the routes that it selects")
+        .after_help(help::REPLAY)
+        .arg(config_arg(alloc))?
+        .arg(log_arg(alloc))
+}
+
+fn explain_command<'a>(alloc: Global) -> Result<Command<'a>, AllocError> {
+    let prefix = Arg::new(alloc, "prefix")
+        .value_name("PREFIX")
+        .help("The prefix whose routes are explained, as 10.0.0.0/8")
+        .required(true)
+        .action(ArgAction::Set);
+    Command::new(alloc, "explain")
+        .about("Shows each route to a prefix after a log, and why it is used or not")
+        .after_help(help::EXPLAIN)
+        .arg(config_arg(alloc))?
+        .arg(log_arg(alloc))?
+        .arg(prefix)
+}
+
+fn net_command<'a>(alloc: Global) -> Result<Command<'a>, AllocError> {
+    let scenario = Arg::new(alloc, "scenario")
+        .value_name("SCENARIO")
+        .help("The nodes of a network and its events, a TOML file")
+        .required(true)
+        .action(ArgAction::Set);
+    Command::new(alloc, "net")
+        .about("Runs a network of speakers, and shows its next hops")
+        .after_help(help::NET)
+        .arg(scenario)
 }

@@ -1,32 +1,21 @@
-//! `babel`: shows what Babel datagrams say (RFC 8966).
+//! `babel`: shows what Babel datagrams mean (RFC 8966), and checks configurations.
 //!
-//! Each command is a function over readers and writers that answers the exit status; `command_line`
-//! reads the words and calls it.
+//! This crate reads the command line and calls the command with the standard streams and the files that it
+//! opens. The commands are functions of the libraries.
 #![tactic(auto)]
 
 mod command_line;
-mod faults;
-pub mod machine;
-mod show;
-mod show_lines;
-mod status;
+mod help;
+mod speaking;
 
-use command_line::{report, run, words};
-pub use faults::Fault;
-pub use show::show;
-pub use show_lines::show_lines;
-pub use status::Status;
+use command_line::{arguments, report, run};
 use std::process::ExitCode;
 
 fn main(rt: HostRuntime) -> ExitCode {
-    let alloc = rt.alloc();
     let mut err = rt.stderr();
-    let status = match words(&rt) {
-        Ok(words) => run(alloc, words.as_slice(), rt.stdin(), rt.stdout(), &mut err),
-        Err(fault) => report(fault, &mut err),
+    let status = match arguments(&rt) {
+        Ok(words) => run(&rt, words.as_slice(), rt.stdin(), rt.stdout(), &mut err),
+        Err(error) => report(error, &mut err),
     };
     ExitCode::from(status)
 }
-
-#[cfg(test)]
-mod tests;

@@ -1,5 +1,0 @@
-mod MachineCycle
-mod MachineLift
-mod MachineNodes
-mod MachineRefused
-mod MachineSound

@@ -1,4 +1,0 @@
-pub mod Cycle
-pub mod Machine
-pub mod Refused
-pub mod Sound

@@ -1,0 +1,92 @@
+//! The command `speak`: its arguments, and what it writes if it is refused.
+
+use crate::help;
+use babel_config::{FileFault, read_config, read_file};
+use babel_show::Status;
+use babel_udp::{SpeakFault, SpeakOptions, speak};
+use clap::builder::ValueParser;
+use clap::{Arg, ArgAction, ArgMatches, Command};
+use std::alloc::{AllocError, Global};
+use std::fs::{self, Files};
+use std::io::Write;
+use std::net::Net;
+use std::time::Clock;
+
+/// The most turns of a run.
+const MAX_TURNS: u64 = 1_000_000;
+
+/// The UDP port that is used if none is given (RFC 8966, section 4).
+const DEFAULT_PORT: u16 = 6696;
+
+/// Why a speaker doesn't speak, or stops.
+enum Fault {
+    File(FileFault),
+    Speak(SpeakFault),
+}
+
+/// Reads the configuration and speaks. A fault is written to `err`.
+pub(crate) fn run_speak<F: AllocGlobal + Files + Net + Clock, W: Write, E: Write>(
+    rt: &F,
+    arguments: &ArgMatches<'_>,
+    out: &mut W,
+    err: &mut E,
+) -> Status {
+    // If writing fails too, the status still reports the fault.
+    let _ = match try_speak(rt, arguments, out) {
+        Ok(()) => return Status::Done,
+        Err(Fault::File(fault)) => writeln!(err, "babel: {}", fault.code()),
+        Err(Fault::Speak(fault)) => writeln!(err, "babel: {}", fault.code()),
+    };
+    Status::Refused
+}
+
+fn try_speak<F: AllocGlobal + Files + Net + Clock, W: Write>(
+    rt: &F,
+    arguments: &ArgMatches<'_>,
+    out: &mut W,
+) -> Result<(), Fault> {
+    let alloc = rt.alloc();
+    let path = arguments.get_str("config").unwrap_or("");
+    let file = fs::open(rt, path).map_err(|error| Fault::File(FileFault::from(error)))?;
+    let octets = read_file(alloc, file).map_err(Fault::File)?;
+    let config = read_config(alloc, octets.as_slice()).map_err(Fault::File)?;
+    let options = SpeakOptions {
+        turns: arguments.get_one::<u32>("turns").unwrap_or(1),
+        port: arguments.get_one::<u16>("port").unwrap_or(DEFAULT_PORT),
+        routes: arguments.get_flag("routes"),
+    };
+    speak(alloc, rt, config, options, out).map_err(Fault::Speak)
+}
+
+/// The arguments of the command.
+pub(crate) fn speak_command<'a>(alloc: Global) -> Result<Command<'a>, AllocError> {
+    let config = Arg::new(alloc, "config")
+        .value_name("CONFIG")
+        .help("The configuration of the speaker, a TOML file")
+        .required(true)
+        .action(ArgAction::Set);
+    let turns = Arg::new(alloc, "turns")
+        .long("turns")
+        .value_name("N")
+        .help("How many turns the speaker has, 1 to 1000000")
+        .required(true)
+        .value_parser(ValueParser::unsigned(1, MAX_TURNS))
+        .action(ArgAction::Set);
+    let port = Arg::new(alloc, "port")
+        .long("port")
+        .value_name("P")
+        .help("The UDP port of all speakers, 1 to 65535 [default: 6696]")
+        .value_parser(ValueParser::unsigned(1, 65535))
+        .action(ArgAction::Set);
+    let routes = Arg::new(alloc, "routes")
+        .long("routes")
+        .help("Prints each change of a selected route, and all of them at the end")
+        .action(ArgAction::SetTrue);
+    Command::new(alloc, "speak")
+        .about("Speaks Babel over UDP and IPv4")
+        .after_help(help::SPEAK)
+        .arg(config)?
+        .arg(turns)?
+        .arg(port)?
+        .arg(routes)
+}
