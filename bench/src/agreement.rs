@@ -1,4 +1,4 @@
-//! Do both decoders say the same of each datagram?
+//! Whether both decoders read each datagram alike.
 
 use crate::corpus::Datagram;
 use crate::{plain_calls, proved};
@@ -31,8 +31,8 @@ impl Counts {
     }
 }
 
-/// Compares all that both decoders say, as text, which names each field of each place. The first
-/// datagram of which they don't say the same is the error.
+/// Compares all that both decoders read, as text, which names each field of each TLV. The first datagram
+/// that they read differently is the error.
 pub fn check(datagrams: &[Datagram]) -> Result<Counts, String> {
     let mut counts = Counts::default();
     for (place, datagram) in datagrams.iter().enumerate() {

@@ -3,7 +3,7 @@
 use std::fs;
 use std::net::IpAddr;
 
-/// A datagram and where it came from.
+/// A datagram and the address that it came from.
 pub struct Datagram {
     pub source: IpAddr,
     /// The octets of `source`, as the proved decoder takes them.
@@ -11,7 +11,7 @@ pub struct Datagram {
     pub bytes: Vec<u8>,
 }
 
-/// Reads the file, and says which line isn't one.
+/// Reads the file. The error names the first line that isn't of this form.
 pub fn read(path: &str) -> Result<Vec<Datagram>, String> {
     let text = fs::read_to_string(path).map_err(|error| format!("{path}: {error}"))?;
     text.lines()

@@ -3,7 +3,7 @@
 
 use std::net::{IpAddr, Ipv4Addr, Ipv6Addr};
 
-/// A TLV of a datagram: how many octets stand before it, and what it means.
+/// A TLV of a datagram: how many octets are before it, and what it means.
 #[derive(Clone, Copy, Debug, PartialEq, Eq)]
 pub struct Placed {
     pub offset: usize,
@@ -209,7 +209,7 @@ impl<'a> Iterator for Tlvs<'a> {
     }
 }
 
-/// What earlier TLVs say of later ones.
+/// What a TLV takes from earlier ones.
 struct Defaults {
     prefix4: Option<[u8; 4]>,
     prefix6: Option<[u8; 16]>,
@@ -355,8 +355,8 @@ impl UpdateFields {
         })
     }
 
-    /// The octets of the prefix, `None` where the default prefix that they need isn't there, and what
-    /// stands behind them.
+    /// The octets of the prefix, `None` if they need a default prefix and there is none, and the octets
+    /// after them.
     fn read_octets<'a, const N: usize>(
         &self,
         default: Option<[u8; N]>,
@@ -548,7 +548,7 @@ fn split_fields<const N: usize>(payload: &[u8]) -> Result<(&[u8; N], &[u8]), Rea
     payload.split_first_chunk().ok_or(Reason::Unreadable)
 }
 
-/// Whether the sub-TLVs let the TLV stand.
+/// Whether the sub-TLVs let the TLV be read.
 fn check_tail(tail: &[u8]) -> Result<(), Reason> {
     if tail.is_empty() {
         return Ok(());

@@ -1,4 +1,5 @@
-//! The proved decoder, through the static library of crates/babel_bench.
+//! The proved decoder and builder, through the static library of crates/babel_bench, and the proved speaker,
+//! through that of crates/babel_speaker_bench.
 
 use crate::corpus::Datagram;
 
@@ -17,9 +18,25 @@ extern "C" {
         text: *mut u8,
         text_len: usize,
     ) -> usize;
+    fn babel_bench_build(
+        bytes: *const u8,
+        bytes_len: usize,
+        source: *const u8,
+        source_len: usize,
+        turns: usize,
+        built: *mut u8,
+        built_len: usize,
+    ) -> usize;
+    fn babel_speaker_bench_run(
+        setup: *const u8,
+        setup_len: usize,
+        turn: *const u8,
+        turn_len: usize,
+        turns: usize,
+    ) -> u64;
 }
 
-/// Decodes the datagram, and answers the offset of the last place.
+/// Decodes the datagram, and returns the offset of the last TLV.
 #[inline(always)]
 pub fn decode(datagram: &Datagram) -> usize {
     let (bytes, source) = (&datagram.bytes, &datagram.source_octets);
@@ -27,7 +44,7 @@ pub fn decode(datagram: &Datagram) -> usize {
     unsafe { babel_bench_decode(bytes.as_ptr(), bytes.len(), source.as_ptr(), source.len()) }
 }
 
-/// What the datagram says, a line for each place, or the refusal.
+/// What the datagram means, a line for each TLV, or the refusal.
 pub fn text(datagram: &Datagram) -> String {
     let (bytes, source) = (&datagram.bytes, &datagram.source_octets);
     // No place takes more octets of text than this, and each takes at least one of the datagram.
@@ -45,4 +62,37 @@ pub fn text(datagram: &Datagram) -> String {
     };
     text.truncate(len);
     String::from_utf8(text).expect("the text is ASCII")
+}
+
+/// Builds a datagram of the messages of the datagram this many times over, and returns the length of the
+/// last one, which is written.
+pub fn build(datagram: &Datagram, turns: usize, built: &mut [u8]) -> usize {
+    let (bytes, source) = (&datagram.bytes, &datagram.source_octets);
+    // SAFETY: the pointers and lengths are those of three slices.
+    unsafe {
+        babel_bench_build(
+            bytes.as_ptr(),
+            bytes.len(),
+            source.as_ptr(),
+            source.len(),
+            turns,
+            built.as_mut_ptr(),
+            built.len(),
+        )
+    }
+}
+
+/// Makes a speaker take the steps of `setup` once, and those of `turn` this many times. Returns a sum over
+/// the notes and the datagrams that are sent.
+pub fn run_speaker(setup: &[u8], turn: &[u8], turns: usize) -> u64 {
+    // SAFETY: the pointers and lengths are those of two slices.
+    unsafe {
+        babel_speaker_bench_run(
+            setup.as_ptr(),
+            setup.len(),
+            turn.as_ptr(),
+            turn.len(),
+            turns,
+        )
+    }
 }

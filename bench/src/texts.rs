@@ -1,4 +1,4 @@
-//! What the plain decoder answers as text, in the form of `babel show`.
+//! What the plain decoder reads, as text in the form of `babel show`.
 
 use crate::plain::{Content, Message, Placed, Prefix, Reason, Refusal, RouterId};
 use std::fmt::{self, Write};
@@ -132,7 +132,7 @@ impl fmt::Display for RouterId {
     }
 }
 
-/// An address in the form of `babel show`, where IPv6 is eight groups.
+/// An address in the form of `babel show`, with eight groups for IPv6.
 struct Addr(IpAddr);
 
 impl fmt::Display for Addr {

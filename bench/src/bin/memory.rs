@@ -1,4 +1,4 @@
-//! The peak heap of one `decode`, as a multiple of the list that it answers.
+//! The peak heap of one `decode`, as a multiple of the list that it returns.
 //!
 //! `memory CORPUS` counts what both decoders take from the C library's `malloc`, in octets as it rounds them
 //! up. While a block grows, the old one and the new one both count.

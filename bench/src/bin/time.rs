@@ -1,6 +1,6 @@
-//! Times of the proved decoder beside a plain one.
+//! Times of the proved decoder compared with a plain one.
 //!
-//! `time rounds CORPUS ROUNDS` checks that both say the same and prints times; `time turns CORPUS CLASS
+//! `time rounds CORPUS ROUNDS` checks that both read the same and prints times; `time turns CORPUS CLASS
 //! proved|plain|none N` decodes the datagrams of a class N times, for callgrind to count.
 
 use babel_bench::corpus::Datagram;
@@ -48,7 +48,7 @@ fn time(path: &str, rounds: &str) -> Result<(), String> {
     let datagrams = corpus::read(path)?;
     let counts = agreement::check(&datagrams)?;
     println!(
-        "{} datagrams, of which both decoders say the same: {} places, {} messages, {} reasons, {} refused",
+        "{} datagrams, which both decoders read alike: {} places, {} messages, {} reasons, {} refused",
         datagrams.len(),
         counts.places,
         counts.messages,

@@ -1,11 +1,13 @@
-//! The decoder for the benchmark of bench/, as functions over octets that a Rust program calls.
+//! The decoder and the builder for the benchmark of bench/, as functions over octets that a Rust program
+//! calls.
 #![tactic(auto)]
 
 ghost use Rattle.std.specs.Prelude.{◌≡◌};
 ghost use Rattle.babel_packet.specs.Meaning.{meaning};
-ghost use Rattle.babel_bench.specs.Calls.{Answers, address_of, offset_of_last};
+ghost use Rattle.babel_bench.specs.Calls.{IsLastOffset, address_of, offset_of_last};
 
-use babel_packet::{Placed, Refusal, decode};
+use babel_build::Builder;
+use babel_packet::{Content, Placed, Refusal, decode};
 use babel_value::Addr;
 use std::alloc::Global;
 use std::io;
@@ -14,10 +16,11 @@ use std::io::Write;
 /// How many octets an IPv4 address has.
 const IPV4_LEN: usize = 4;
 
-/// Decodes the datagram, and answers the offset of the last place of the list.
+/// Decodes the datagram, and returns the offset of the last TLV of the list: 0 if the datagram is refused
+/// or if an allocation fails.
 #[unsafe(no_mangle)]
 pub extern "C" fn babel_bench_decode(alloc: Global, bytes: &[u8], source: &[u8]) -> usize
-    ensures { Answers result (meaning bytes.now (address_of source.now)) }
+    ensures { IsLastOffset result (meaning bytes.now (address_of source.now)) }
 {
     match decode(alloc, bytes, source_of(source)) {
         Ok(placed) => last_offset(&placed),
@@ -25,8 +28,8 @@ pub extern "C" fn babel_bench_decode(alloc: Global, bytes: &[u8], source: &[u8])
     }
 }
 
-/// Writes what the datagram says, a line for each place, or the refusal, and answers how many octets
-/// that takes: 0 where there is no room.
+/// Writes what the datagram means, a line for each TLV, or the refusal, and returns how many octets that
+/// takes: 0 if there is no room.
 #[unsafe(no_mangle)]
 pub extern "C" fn babel_bench_text(
     alloc: Global,
@@ -43,6 +46,50 @@ pub extern "C" fn babel_bench_text(
     }
 }
 
+/// Decodes the datagram, and builds a datagram of its messages this many times over. Writes the last one,
+/// and returns its length: 0 if the datagram is refused, or if the messages don't fit.
+///
+/// No clause states what is written: the benchmark compares it with what a plain builder writes.
+#[unsafe(no_mangle)]
+pub extern "C" fn babel_bench_build(
+    alloc: Global,
+    bytes: &[u8],
+    source: &[u8],
+    turns: usize,
+    built: &mut [u8],
+) -> usize {
+    let source = source_of(source);
+    let Ok(placed) = decode(alloc, bytes, source) else {
+        return 0;
+    };
+    let mut length = 0;
+    for _ in 0..turns {
+        length = build(&placed, source, built);
+    }
+    length
+}
+
+/// Builds one datagram of the messages among the places. It is a call of its own, so that the compiler
+/// can't leave out all turns but the last.
+#[inline(never)]
+fn build(placed: &[Placed], source: Addr, built: &mut [u8]) -> usize {
+    let mut builder = Builder::new(source);
+    for place in placed {
+        if let Content::Message(message) = &place.content {
+            if !builder.add(message) {
+                return 0;
+            }
+        }
+    }
+    let datagram = builder.finish();
+    let length = datagram.len();
+    if built.len() < length {
+        return 0;
+    }
+    built[..length].copy_from_slice(datagram.as_slice());
+    length
+}
+
 fn write_meaning<W: Write>(
     meaning: &Result<Vec<Placed>, Refusal>,
     out: &mut W,
@@ -53,7 +100,7 @@ fn write_meaning<W: Write>(
                 writeln!(out, "{place}")?;
             }
         }
-        Err(refusal) => writeln!(out, "refused {refusal}")?,
+        Err(refusal) => writeln!(out, "refused {}", refusal.code())?,
     }
     Ok(())
 }
@@ -74,7 +121,7 @@ fn source_of(octets: &[u8]) -> Addr
     Addr::V6(ipv6)
 }
 
-/// The list is read behind a call, so that the compiler can't leave out what writes it.
+/// The list is read by a call of its own, so that the compiler can't leave out what writes it.
 #[inline(never)]
 fn last_offset(placed: &[Placed]) -> usize
     ensures { result ≡ offset_of_last placed.now }

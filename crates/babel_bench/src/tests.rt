@@ -1,6 +1,6 @@
-//! Each call once where there is memory: a body that always answers 0 meets its clause.
+//! Each call once with ample memory: a function that always returns 0 meets its clause.
 
-use crate::{babel_bench_decode, babel_bench_text};
+use crate::{babel_bench_build, babel_bench_decode, babel_bench_text};
 use std::alloc::Global;
 use std::process::Abort;
 
@@ -52,4 +52,14 @@ fn no_room(rt: HostRuntime) {
     let mut room = [0; 20];
     let length = babel_bench_text(rt.alloc(), DATAGRAM.as_slice(), FROM_IPV4, &mut room);
     assert_eq!(rt; length, 0);
+}
+
+#[test]
+fn builds(rt: HostRuntime) {
+    let alloc = rt.alloc();
+    let mut built = [0; 1024];
+    let length = babel_bench_build(alloc, DATAGRAM.as_slice(), FROM_IPV4, 2, &mut built);
+    assert_eq!(rt; built.get(..length), Some(DATAGRAM.as_slice()));
+    let refused = babel_bench_build(alloc, &DATAGRAM[..29], FROM_IPV4, 2, &mut built);
+    assert_eq!(rt; refused, 0);
 }

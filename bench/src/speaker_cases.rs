@@ -1,0 +1,161 @@
+//! What the speakers are timed on: 8 interfaces with 8 neighbours each, 256 routes of one prefix each, and
+//! 512 sources. Each step has 12 octets (what it is, the interface, the source address, the moment, the
+//! number of octets) and then its octets.
+
+use crate::plain::{Message, Metric, Prefix, RouterId, Seqno};
+use crate::plain_builder::Builder;
+use std::net::{IpAddr, Ipv4Addr};
+
+pub struct Case {
+    pub name: &'static str,
+    /// Taken once.
+    pub setup: Vec<u8>,
+    /// Taken over and over.
+    pub turn: Vec<u8>,
+    /// How often the turn does what is timed.
+    pub times: usize,
+}
+
+/// The moment at which all is timed.
+const NOW: u32 = 400;
+
+fn neighbour(iface: u8, n: u8) -> Ipv4Addr {
+    Ipv4Addr::new(10, iface, 0, n + 2)
+}
+
+fn step(kind: u8, iface: u8, source: Ipv4Addr, now: u32, octets: &[u8]) -> Vec<u8> {
+    let mut step = vec![kind, iface];
+    step.extend(source.octets());
+    step.extend(now.to_be_bytes());
+    step.extend((octets.len() as u16).to_be_bytes());
+    step.extend(octets);
+    step
+}
+
+fn datagram(iface: u8, n: u8, now: u32, messages: &[Message]) -> Vec<u8> {
+    let source = neighbour(iface, n);
+    let mut builder = Builder::new(IpAddr::V4(source));
+    for message in messages {
+        assert!(builder.add(message), "the messages fit");
+    }
+    step(0, iface, source, now, builder.finish().as_slice())
+}
+
+fn tick(now: u32) -> Vec<u8> {
+    step(1, 0, Ipv4Addr::UNSPECIFIED, now, &[])
+}
+
+fn drain(now: u32) -> Vec<u8> {
+    step(2, 0, Ipv4Addr::UNSPECIFIED, now, &[])
+}
+
+fn hello(seqno: u16) -> Message {
+    Message::Hello {
+        unicast: false,
+        seqno: Seqno(seqno),
+        interval: 60_000,
+    }
+}
+
+fn ihu(iface: u8) -> Message {
+    let to = Some(IpAddr::V4(Ipv4Addr::new(10, iface, 0, 1)));
+    Message::Ihu {
+        to,
+        rxcost: Metric(96),
+        interval: 60_000,
+    }
+}
+
+fn update(n: usize, router: u8) -> Message {
+    Message::Update {
+        prefix: Prefix {
+            addr: IpAddr::from([172, 16, n as u8, 0]),
+            length: 24,
+        },
+        router: RouterId::new([0, 0, 0, 0, 0, 1, 0, router]).expect("not reserved"),
+        next_hop: IpAddr::V4(neighbour((n / 60) as u8, 0)),
+        seqno: Seqno(7),
+        metric: Metric(96),
+        interval: 60_000,
+    }
+}
+
+/// The updates of 60 prefixes from the neighbour 0 of interface `part`.
+fn updates(part: usize, router: u8, now: u32) -> Vec<u8> {
+    let numbers = 60 * part..(60 * (part + 1)).min(256);
+    let messages: Vec<Message> = numbers.map(|n| update(n, router)).collect();
+    datagram(part as u8, 0, now, &messages)
+}
+
+/// 64 neighbours, 256 routes, 512 sources, nothing pending and nothing due at `NOW`.
+fn setup() -> Vec<u8> {
+    let mut steps = Vec::new();
+    for round in 0..3 {
+        for iface in 0..8 {
+            for n in 0..8 {
+                steps.extend(datagram(
+                    iface,
+                    n,
+                    round,
+                    &[hello(round as u16), ihu(iface)],
+                ));
+            }
+        }
+    }
+    for router in [1, 2] {
+        for part in 0..5 {
+            steps.extend(updates(part, router, 10));
+            steps.extend(drain(10));
+        }
+    }
+    // The timers of the interfaces: once more at 350, so that none is due at 400.
+    for moment in [20, 350] {
+        steps.extend(tick(moment));
+        steps.extend(drain(moment));
+    }
+    steps.extend(tick(NOW));
+    steps.extend(drain(NOW));
+    steps.extend(tick(NOW));
+    steps
+}
+
+fn repeated(step: &[u8], times: usize) -> Vec<u8> {
+    step.repeat(times)
+}
+
+pub fn all() -> Vec<Case> {
+    let dump = datagram(0, 1, NOW, &vec![Message::DumpRequest; 16]);
+    let filled: Vec<u8> = dump.iter().copied().chain(drain(NOW)).collect();
+    vec![
+        Case {
+            name: "a tick, nothing due",
+            setup: setup(),
+            turn: repeated(&tick(NOW), 100),
+            times: 100,
+        },
+        Case {
+            name: "a Hello and an IHU",
+            setup: setup(),
+            turn: repeated(&datagram(3, 4, NOW, &[hello(2), ihu(3)]), 10),
+            times: 10,
+        },
+        Case {
+            name: "60 updates, full tables",
+            setup: setup(),
+            turn: updates(1, 2, NOW),
+            times: 1,
+        },
+        Case {
+            name: "16 dump requests: 4,096 items",
+            setup: setup(),
+            turn: dump,
+            times: 1,
+        },
+        Case {
+            name: "the same, and drained",
+            setup: setup(),
+            turn: filled,
+            times: 1,
+        },
+    ]
+}
