@@ -1,4 +1,4 @@
-//! `babel`: shows what Babel datagrams mean (RFC 8966), and checks configurations.
+//! The program `babel`: the command line of all commands.
 //!
 //! This crate reads the command line and calls the command with the standard streams and the files that it
 //! opens. The commands are functions of the libraries.

@@ -278,7 +278,7 @@ fn the_selected_route_stays_among_equals(rt: HostRuntime) -> Result<(), Fail> {
         (Call::Reselect(1, false), None, Some(0), Some((2, 0))),
         (Call::Update(1, 1, 0), None, None, Some((2, 0))),
         (Call::Reselect(1, false), Some(0), Some(0), Some((2, 0))),
-        // A lesser metric wins; the lesser neighbour does where none of the equals was selected.
+        // A lesser metric wins; the lesser neighbour does if none of the equals was selected.
         (Call::Update(1, 3, 1), None, None, Some((2, 0))),
         (Call::Update(1, 2, 2), None, None, Some((2, 0))),
         (Call::Update(1, 1, 1), None, None, Some((2, 0))),

@@ -1,11 +1,11 @@
-//! What no clause says: each call once where it succeeds, with values worked by hand.
+//! What no clause states: each call succeeds once, with values worked by hand.
 
 use babel_state::{Config, ConfigFault, Interface};
 use babel_value::{Addr, Family, Prefix};
 use std::alloc::Global;
 use std::test::Fail;
 
-/// An interface with IPv4 transport, as a configuration file gives it where it says nothing else.
+/// An interface with IPv4 transport, as a configuration file gives it if it names no other key.
 fn interface(alloc: Global) -> Interface {
     Interface {
         transport: Family::Ipv4,

@@ -269,7 +269,7 @@ fn size_of(ae: u8) -> Result<usize, Reason> {
     }
 }
 
-/// Where an Update's prefix ends, and its address where its default prefix is there.
+/// Where an Update's prefix ends, and its address if its default prefix is there.
 fn update_prefix(p: &[u8], default: Option<[u8; 16]>) -> Result<(usize, Option<[u8; 16]>), Reason> {
     let size = size_of(octet(p, 0))?;
     let (bits, omitted) = (octet(p, 2), octet(p, 3));

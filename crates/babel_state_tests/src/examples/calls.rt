@@ -69,14 +69,14 @@ pub fn full_source_table()
     ensures gone { queued_items (datagram 0 full_of_sources).state ≡ [] }
 {}
 
-/// A retraction is sent where there is no address of the family; a finite update isn't, and isn't
+/// A retraction is sent even if there is no address of the family. A finite update isn't, and isn't
 /// counted.
 pub fn other_family()
     ensures retraction { outgoing start (items.Update (to_all 0) ipv6_prefix) ≡ outgoings.Message (to_all 0) (messages.Retraction ipv6_prefix 1600) }
     ensures update { outgoing (record start { announced = (ipv6_prefix, tt) ∷ [] }) (items.Update (to_all 0) ipv6_prefix) ≡ outgoings.Nothing }
 {}
 
-/// From where datagrams are taken.
+/// The source addresses from which datagrams are taken.
 pub fn source_addresses()
     ensures no_interface { source_fault 1 (addr 1) start ≡ Some recv_faults.NoInterface }
     ensures neighbour { source_fault 0 (addr 1) start ≡ None }

@@ -23,7 +23,7 @@ pub fn unfeasible_with_another_route()
     ensures pending { changed.requests ≡ (ten_of 1, record { seqno = 6; resend = Neighbour (peer 1); wait = 200; due = 220 }) ∷ [] }
 {}
 
-/// And where there is no other route: it is lost, which is advertised to all, and then the neighbour is asked.
+/// If there is no other route, it is lost. That is advertised to all, and then the neighbour is asked.
 pub fn unfeasible_without_another_route()
     ensures verdict { verdict 20 1 (update 1 1 5 96) updated_5 ≡ verdicts.Unfeasible (pair 5 96) }
     ensures selected { selected_peer lost ≡ None }

@@ -41,7 +41,7 @@ pub fn redundant_request()
     ensures replaced { (after 101 3 (seqno_request 1 8 64) forwarded).requests ≡ (ten_of 1, record { seqno = 8; resend = Never; wait = 200; due = 301 }) ∷ [] }
 {}
 
-/// Without hops, without a route, or where only the asker has one, a request ends here.
+/// Without hops, without a route, or if only the asker has one, a request ends here.
 pub fn request_not_forwarded()
     ensures hops { verdict 100 3 (seqno_request 1 7 1) updated_5 ≡ verdicts.NotForwarded }
     ensures asker { verdict 100 1 (seqno_request 1 7 64) updated_5 ≡ verdicts.NotForwarded }

@@ -63,7 +63,7 @@ pub fn route_deadline()
     ensures gone { (routes_selected 11200 (routes_selected 5600 routing)).routes.entries ≡ [] }
 {}
 
-/// A source that was named at 0 is collected at 18,000, where collection is on.
+/// A source that was named at 0 is collected at 18,000, if collection is on.
 pub fn collection()
     ensures named { updated_5.sources ≡ (ten_of 1, record { distance = pair 5 96; due = 18000 }) ∷ [] }
     ensures early { sources_ticked 17999 collecting ≡ collecting }
