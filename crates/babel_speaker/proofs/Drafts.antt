@@ -1,5 +1,5 @@
 -- Drafts of datagrams.
-use Rattle.std.proofs.Common.{◌≡◌, ℕ, ◌<◌, List, [], ◌∷◌, ◌++◌, Bool, true, false, refl, arith, rules, sym, ap, ◌∙◌, subst, drop, slice_get, Some, None, length}
+use Rattle.std.proofs.Common.{◌≡◌, ℕ, List, [], ◌∷◌, ◌++◌, Bool, true, false, refl, arith, sym, ap, ◌∙◌, subst, drop, slice_get, Some, None}
 use Rattle.std.specs.Prelude.{Option, nat_eq, ◌&&◌, cond}
 use Rattle.std.specs.declared.cmp.Ordering.{Ordering}
 use Rattle.std.specs.declared.cmp.Ordering.TheVariants.{Less, Equal, Greater}
@@ -20,8 +20,8 @@ use Rattle.babel_state.specs.declared.items.Target.{Target}
 use Rattle.babel_state.specs.Queueing.{Pending}
 use Rattle.babel_state.specs.State.{State}
 use Rattle.babel_state.specs.OutgoingMessages.{outgoing}
-use Rattle.babel_state.specs.NextDatagram.{Fits, Draft, is_same_receiver, is_same_target, draft_with, drafted, after_message, without_first, left_out_more}
-use Rattle.babel_speaker.specs.Sending.{built_of, fits_at, draft_to, no_draft, with_outgoing, is_encodable_outgoing, are_encodable, IsFilling, IsFilled, without_front}
+use Rattle.babel_state.specs.NextDatagram.{Fits, Draft, is_same_receiver, is_same_target, draft_with, drafted, after_message, without_first}
+use Rattle.babel_speaker.specs.Sending.{built_of, fits_at, draft_to, with_outgoing, is_encodable_outgoing, are_encodable, IsFilling, IsFilled, without_front}
 
 -- Two receivers that are the same are equal, and so are two targets.
 equal : (o : Ordering) → is_eq o ≡ true → o ≡ Equal

@@ -1,7 +1,7 @@
 -- The first message of a datagram fits.
-use Rattle.std.specs.Prelude.{◌≡◌, ℕ, zero, suc, ◌+◌, ◌≤◌, Bool, true, false, ◌||◌, List, [], ◌∷◌, ◌++◌, drop, length, IsSome, Option, Some, None, nat_le, if◌then◌else◌}
+use Rattle.std.specs.Prelude.{◌≡◌, ℕ, zero, suc, ◌+◌, ◌≤◌, Bool, true, false, ◌||◌, List, [], ◌++◌, drop, length, IsSome, Option, Some, None, if◌then◌else◌}
 use Rattle.std.specs.Str.{bytes_eq}
-use Rattle.std.proofs.Common.{refl, sym, arith, length-append}
+use Rattle.std.proofs.Common.{arith, length-append}
 use Rattle.std.proofs.lemmas.Bool.{false≢true, le-leb}
 use Rattle.std.proofs.lemmas.List.{length-take, length-drop}
 use Rattle.babel_value.specs.declared.addresses.Addr.{Addr}
@@ -14,11 +14,9 @@ use Rattle.babel_packet.specs.declared.parser_state.ParserState.{ParserState}
 use Rattle.babel_packet.specs.BodyMeanings.{hop_for, state_after}
 use Rattle.babel_packet.specs.Compressed.{is_set, given_router, omitted_in, update_payload, flags_of, router_id_before, next_hop_before, compressed}
 use Rattle.babel_packet.specs.Encodable.{IsAddr, IsReceiver, IsPrefix, IsRouterId, IsMessage}
-use Rattle.babel_packet.specs.Payloads.{octets, is_link_local, encoded, prefix_written, receiver_encoded, router_id_payload, next_hop_payload, kind_of, payload_of}
+use Rattle.babel_packet.specs.Payloads.{octets, is_link_local, encoded, prefix_written, receiver_encoded, router_id_payload, next_hop_payload}
 use Rattle.babel_packet.specs.Prefixes.{octets_of}
-use Rattle.babel_state.specs.declared.items.Target.{Target}
 use Rattle.babel_state.specs.Addresses.{transport_at}
-use Rattle.babel_state.specs.State.{State}
 use Rattle.babel_speaker.specs.Sending.{fits_from, FirstMessagesFit}
 
 spelled_small : (k : ℕ) (payload : List ℕ) → length (spelled k payload) ≤ 2 + length payload

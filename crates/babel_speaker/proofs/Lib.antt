@@ -11,3 +11,4 @@ pub mod CallLaws
 pub mod QuietTicks
 pub mod Settling
 pub mod FirstFits
+pub mod SettledSends

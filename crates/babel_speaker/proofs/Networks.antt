@@ -1,5 +1,5 @@
 -- Clearing past the last octet clears nothing.
-use Rattle.std.proofs.Common.{◌≡◌, ℕ, ◌+◌, ◌-◌, ◌*◌, ◌≤◌, ◌%◌, ◌^◌, List, [], ◌∷◌, length, refl, ap, arith}
+use Rattle.std.proofs.Common.{◌≡◌, ℕ, ◌-◌, ◌*◌, ◌≤◌, ◌%◌, ◌^◌, List, [], ◌∷◌, length, refl, arith}
 use Rattle.babel_value.specs.Prefixes.{cleared}
 
 pub cleared_all : (bits : ℕ) (octets : List ℕ) → 8 * length octets ≤ bits → cleared bits octets ≡ octets

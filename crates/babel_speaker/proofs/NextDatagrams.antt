@@ -5,7 +5,7 @@ use Rattle.std.specs.List.{list_all}
 use Rattle.std.proofs.lemmas.Bool.{false≢true}
 use Rattle.std.proofs.lemmas.Option.{none-some}
 use Rattle.std.specs.Bool.{OnTrue}
-use Rattle.std.specs.Option.{option_map_or, option_and_then}
+use Rattle.std.specs.Option.{option_map_or}
 use Rattle.babel_value.specs.declared.addresses.Addr.{Addr}
 use Rattle.babel_packet.specs.declared.messages.Message.{Message}
 use Rattle.babel_packet.specs.Encodable.{is_encodable}
@@ -16,7 +16,7 @@ use Rattle.babel_state.specs.declared.items.Outgoing.{Outgoing}
 use Rattle.babel_state.specs.declared.items.Outgoing.TheVariants as outgoings
 use Rattle.babel_state.specs.declared.items.Target.{Target}
 use Rattle.babel_state.specs.State.{State, interface_at}
-use Rattle.babel_state.specs.Addresses.{transport_of, transport_at}
+use Rattle.babel_state.specs.Addresses.{transport_at}
 use Rattle.babel_state.specs.Queueing.{Pending}
 use Rattle.babel_state.specs.OutgoingMessages.{outgoing}
 use Rattle.babel_state.specs.NextDatagram.{Fits, Draft, is_same_target, draft_with, drafted, after_message, without_first, with_message, next_datagram}

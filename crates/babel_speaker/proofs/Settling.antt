@@ -1,5 +1,5 @@
 -- What keeps all selections current, and what there is to do then.
-use Rattle.std.specs.Prelude.{◌≡◌, ℕ, Bool, true, false, not, nat_eq, List, [], ◌∷◌, Option, Result, Ok, Err, IfOk, OnErr, IsTrue, IsFalse}
+use Rattle.std.specs.Prelude.{◌≡◌, ℕ, Bool, true, false, not, nat_eq, List, [], ◌∷◌, Option, Result, Ok, Err, IfOk, OnErr}
 use Rattle.std.specs.FinMap.{is_sorted}
 use Rattle.std.proofs.Common.{refl, sym, ◌∙◌, subst}
 use Rattle.std.proofs.lemmas.Bool.{eqb-true}

@@ -1,6 +1,6 @@
 -- Interfaces with short Hello intervals.
-use Rattle.std.proofs.Common.{◌≡◌, ℕ, ◌+◌, ◌≤◌, List, [], ◌∷◌, true, zero, suc, arith, refl, rules, ap, length}
-use Rattle.std.specs.Prelude.{IfSome, Option, Some, slice_get, slice_set}
+use Rattle.std.proofs.Common.{◌≡◌, ℕ, ◌≤◌, List, [], ◌∷◌, true, zero, suc, arith, refl, rules, ap, length}
+use Rattle.std.specs.Prelude.{IfSome, slice_get, slice_set}
 use Rattle.std.proofs.lemmas.Grind.{common_steps}
 use Rattle.babel_state.specs.declared.interfaces.InterfaceEntry.{InterfaceEntry}
 use Rattle.babel_speaker.specs.ShortHellos.{have_short_hellos}

@@ -1,5 +1,5 @@
 -- The datagrams that a speaker sends (profile).
-use Rattle.std.specs.Prelude.{◌≡◌, ℕ, Bool, true, false, ◌++◌, List, [], ◌∷◌, IsSome, Option, Some, None, nat_le, drop}
+use Rattle.std.specs.Prelude.{◌≡◌, ℕ, Bool, true, false, ◌++◌, List, [], ◌∷◌, IsSome, Option, Some, None, drop}
 use Rattle.std.specs.List.{list_all}
 use Rattle.babel_value.specs.declared.addresses.Addr.{Addr}
 use Rattle.babel_packet.specs.declared.messages.Message.{Message}
@@ -7,11 +7,12 @@ use Rattle.babel_packet.specs.declared.messages.Message.TheVariants as messages
 use Rattle.babel_packet.specs.Encodable.{is_encodable, IsMessage}
 use Rattle.babel_packet.specs.BodyMeanings.{Means}
 use Rattle.babel_build.specs.Built.{Built, HasEncoded, fits, added}
+use Rattle.babel_route.specs.Distances.{improves_on}
 use Rattle.babel_state.specs.declared.items.Item.{Item}
 use Rattle.babel_state.specs.declared.items.Outgoing.{Outgoing}
 use Rattle.babel_state.specs.declared.items.Outgoing.TheVariants as outgoings
 use Rattle.babel_state.specs.declared.items.Target.{Target}
-use Rattle.babel_state.specs.State.{State, interface_at}
+use Rattle.babel_state.specs.State.{State, interface_at, pair_at}
 use Rattle.babel_state.specs.Addresses.{transport_at}
 use Rattle.babel_state.specs.OutgoingMessages.{outgoing, is_source_too_many}
 use Rattle.babel_state.specs.NextDatagram.{Fits, Draft, drafted}
@@ -25,6 +26,12 @@ HasRoomFor s message = Unit {0}
 abbrev pub HasRoom : State → Outgoing → Type 0
 HasRoom s (outgoings.Message target message) = HasRoomFor s message
 HasRoom s out = Unit {0}
+
+-- A message that is sent changes the pair of its source: it's an Update that is better than the pair (RFC 8966, section 3.7.3).
+abbrev pub changes_a_pair : Message → State → Bool
+changes_a_pair (messages.Update prefix router next_hop seqno metric interval) s =
+    improves_on (pair_at prefix router s) (record { seqno = seqno; metric = metric })
+changes_a_pair message s = false
 
 -- The target and the message of what is sent, if there is one.
 abbrev pub message_of : Outgoing → Option (Target × Message)

@@ -6,11 +6,12 @@ ghost use Rattle.std.specs.Bool.{OnTrue, OnFalse};
 ghost use Rattle.babel_packet.specs.declared.messages.Message.{Message};
 ghost use Rattle.babel_build.specs.Built.{Built, HasEncoded};
 ghost use Rattle.babel_state.specs.Addresses.{transport_at};
+ghost use Rattle.babel_state.specs.CurrentSelections.{AreCurrent};
 ghost use Rattle.babel_state.specs.State.{with_interface};
 ghost use Rattle.babel_state.specs.OutgoingMessages.{outgoing};
 ghost use Rattle.babel_state.specs.NextDatagram.{Fits, is_same_receiver, next_hello, left_out_more, is_same_target, after_message, draft_with, drafted, next_datagram};
 ghost use Rattle.babel_state.specs.QueueLaws.{is_silent};
-ghost use Rattle.babel_speaker.specs.Sending.{HasRoomFor, HaveTransports, first_message, with_outgoing, is_encodable_outgoing, are_encodable, built_of, fits_at, fits_by, no_draft, draft_to, MeansFrom, IsFilled, without_front};
+ghost use Rattle.babel_speaker.specs.Sending.{HasRoomFor, changes_a_pair, HaveTransports, first_message, with_outgoing, is_encodable_outgoing, are_encodable, built_of, fits_at, fits_by, no_draft, draft_to, MeansFrom, IsFilled, without_front};
 
 use crate::Core;
 use crate::sources::address_of;
@@ -58,10 +59,33 @@ impl Core {
         }
     }
 
+    /// Whether the message, if it is sent, changes the feasibility distance of its source (RFC 8966, section 3.7.3).
+    fn changes_a_pair(&self, message: &Message) -> bool
+        ensures { result ≡ changes_a_pair message.now self.now }
+    {
+        match *message {
+            Message::Update {
+                prefix,
+                router,
+                seqno,
+                metric,
+                ..
+            } => {
+                let source = Source { prefix, router };
+                let sent = Distance { seqno, metric };
+                match self.pair(&source) {
+                    Some(pair) => sent.better(pair),
+                    None => true,
+                }
+            }
+            _ => false,
+        }
+    }
+
     /// The changes by a message that is sent: a Hello uses up its seqno, and an Update lowers the
     /// feasibility distance of its source (RFC 8966, sections 3.4.1 and 3.7.3).
     #[tactic(auto, unfolding(babel_state::specs::NextDatagram::after_message))]
-    fn send_message(&mut self, now: u64, target: Target, message: &Message)
+    fn apply_message(&mut self, now: u64, target: Target, message: &Message)
         requires room { HasRoomFor self.old message.now }
         ensures state { self.new ≡ after_message now target message.now self.old }
         ensures pending { self.new.pending ≡ self.old.pending }
@@ -80,6 +104,21 @@ impl Core {
             }
             _ => {}
         }
+    }
+
+    /// The same. If the speaker is settled, it stays so unless the message changes the feasibility distance of its source.
+    #[tactic(auto, using(crate::proofs::SettledSends::sent_current))]
+    fn send_message(&mut self, now: u64, target: Target, message: &Message, settled: &mut bool)
+        requires room { HasRoomFor self.old message.now }
+        requires settled { IsTrue settled.old → AreCurrent self.old }
+        ensures state { self.new ≡ after_message now target message.now self.old }
+        ensures pending { self.new.pending ≡ self.old.pending }
+        ensures current { IsTrue settled.new → AreCurrent self.new }
+    {
+        if self.changes_a_pair(message) {
+            *settled = false;
+        }
+        self.apply_message(now, target, message);
     }
 
     /// An Update was left out, since the source table has no room.
@@ -105,13 +144,14 @@ impl Core {
 
     /// Removes the oldest items up to the first that means a message, and returns that message and
     /// its target. `None`: no item is left.
-    #[tactic(auto, unfolding(babel_state::specs::NextDatagram::draft_with), using(crate::proofs::Drafts::none_first))]
+    #[tactic(auto, unfolding(babel_state::specs::NextDatagram::draft_with), using(crate::proofs::Drafts::none_first, crate::proofs::SettledSends::removed_current, crate::proofs::SettledSends::left_out_current))]
     fn skip_silent(&mut self) -> Option<(Target, Message)>
         ensures message { result ≡ first_message self.new self.new.pending.items }
         ensures room { IfSome result (λ m. HasRoomFor self.new m.1) }
         ensures none { IsNone result → self.new.pending.items ≡ [] }
         ensures draft { (now : ℕ) (fits : Fits) → drafted now fits self.new.pending.items (no_draft self.new) ≡ drafted now fits self.old.pending.items (no_draft self.old) }
         ensures interfaces { self.new.interfaces ≡ self.old.interfaces }
+        ensures current { AreCurrent self.old → AreCurrent self.new }
     {
         while let Some(item) = self.first_item() {
             match self.outgoing(&item) {
@@ -126,20 +166,29 @@ impl Core {
 
     /// Adds the message of an item to the datagram. False: it has another target or doesn't fit, and
     /// nothing has changed.
-    #[tactic(auto, unfolding(babel_state::specs::NextDatagram::draft_with), using(crate::proofs::Drafts::same_target, crate::proofs::Drafts::built_more))]
-    fn add_item(&mut self, now: u64, target: Target, builder: &mut Builder, item: &Item) -> bool
+    #[tactic(auto, unfolding(babel_state::specs::NextDatagram::draft_with), using(crate::proofs::Drafts::same_target, crate::proofs::Drafts::built_more, crate::proofs::SettledSends::left_out_current))]
+    fn add_item(
+        &mut self,
+        now: u64,
+        target: Target,
+        builder: &mut Builder,
+        item: &Item,
+        settled: &mut bool,
+    ) -> bool
+        requires settled { IsTrue settled.old → AreCurrent self.old }
         ensures draft { (b : Built) (ms : List Message) → builder.old ≡ built_of b ms → draft_with now (fits_at b) (draft_to target self.old ms) (outgoing self.old item.now) ≡ (if result then Some (draft_to target self.new (with_outgoing ms (outgoing self.old item.now))) else None) }
         ensures built { (b : Built) (ms : List Message) → builder.old ≡ built_of b ms → IsTrue result → builder.new ≡ built_of b (with_outgoing ms (outgoing self.old item.now)) }
         ensures stays { OnFalse result ((self.new ≡ self.old) × (builder.new ≡ builder.old)) }
         ensures encoded { (ms : List Message) → HasEncoded builder.old ms → IsTrue result → is_encodable_outgoing (outgoing self.old item.now) ≡ true → HasEncoded builder.new (with_outgoing ms (outgoing self.old item.now)) }
         ensures pending { self.new.pending ≡ self.old.pending }
+        ensures current { IsTrue settled.new → AreCurrent self.new }
     {
         match self.outgoing(item) {
             Outgoing::Message(to, message) => {
                 if !is_same_target(&target, &to) || !builder.add(&message) {
                     return false;
                 }
-                self.send_message(now, to, &message);
+                self.send_message(now, to, &message, settled);
             }
             Outgoing::LeftOut => self.leave_out(),
             Outgoing::Nothing => {}
@@ -149,11 +198,13 @@ impl Core {
 
     /// Fills the datagram with the messages of the oldest items, up to the first that goes to another
     /// target or doesn't fit.
-    fn fill(&mut self, now: u64, target: Target, builder: &mut Builder)
+    fn fill(&mut self, now: u64, target: Target, builder: &mut Builder, settled: &mut bool)
+        requires settled { IsTrue settled.old → AreCurrent self.old }
+        ensures current { IsTrue settled.new → AreCurrent self.new }
         ensures filled { (b : Built) (ms : List Message) → builder.old ≡ built_of b ms → IsFilled b ms target (drafted now (fits_at b) self.old.pending.items (draft_to target self.old ms)) self.new builder.old builder.new }
     {
         while let Some(item) = self.first_item() {
-            if !self.add_item(now, target, builder, &item) {
+            if !self.add_item(now, target, builder, &item, settled) {
                 return;
             }
             self.remove_first_item();
@@ -163,13 +214,18 @@ impl Core {
     /// Takes the next datagram from the pending items: its octets are written to `out`, in place of
     /// what was there, and its target is returned. `None`: no item means a message, and `out` is empty.
     ///
+    /// A settled speaker stays so unless an Update that is sent changes the feasibility distance of its source.
+    ///
     /// That each message can be encoded, and that each interface has an address to send from, follows
     /// from the invariant of a speaker's state.
     pub(crate) fn next_datagram(
         &mut self,
         now: u64,
         out: &mut ArrayVec<u8, DATAGRAM_LEN>,
+        settled: &mut bool,
     ) -> Option<Target>
+        requires settled { IsTrue settled.old → AreCurrent self.old }
+        ensures current { IsTrue settled.new → AreCurrent self.new }
         ensures state { self.new ≡ (next_datagram now (fits_by self.old) self.old).state }
         ensures target { result ≡ (next_datagram now (fits_by self.old) self.old).target }
         ensures octets { IfSome result (λ target. are_encodable (next_datagram now (fits_by self.old) self.old).messages ≡ true → MeansFrom (transport_at target.iface self.old) out.new.items (next_datagram now (fits_by self.old) self.old).messages) }
@@ -186,9 +242,9 @@ impl Core {
         };
         let mut builder = Builder::new(source);
         builder.add(&message);
-        self.send_message(now, target, &message);
+        self.send_message(now, target, &message, settled);
         self.remove_first_item();
-        self.fill(now, target, &mut builder);
+        self.fill(now, target, &mut builder, settled);
         *out = builder.finish();
         Some(target)
     }

@@ -126,8 +126,9 @@ impl SettledCore {
         self.core.withdraw(prefix)
     }
 
-    /// Takes the next datagram from the pending items, as `Core::next_datagram`. It lowers sources, so the
-    /// speaker may no longer be settled. If nothing is pending, nothing changes.
+    /// Takes the next datagram from the pending items, as `Core::next_datagram`. If an Update in it changes the
+    /// feasibility distance of its source, the speaker may no longer be settled. If nothing is pending, nothing
+    /// changes.
     #[tactic(auto, using(crate::proofs::QuietTicks::no_datagram, crate::proofs::QuietTicks::silent_if_empty))]
     pub(crate) fn next_datagram(
         &mut self,
@@ -144,7 +145,9 @@ impl SettledCore {
             out.clear();
             return None;
         }
-        self.is_settled = false;
-        self.core.next_datagram(now, out)
+        let mut settled = self.is_settled;
+        let target = self.core.next_datagram(now, out, &mut settled);
+        self.is_settled = settled;
+        target
     }
 }

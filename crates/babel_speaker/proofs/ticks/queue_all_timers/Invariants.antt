@@ -1,4 +1,4 @@
-use Rattle.std.proofs.Common.{◌≡◌, ℕ, drop}
+use Rattle.std.proofs.Common.{◌≡◌, drop}
 use Rattle.babel_state.specs.Queueing.{queued}
 use Rattle.babel_state.specs.State.{prefixes_in}
 use Rattle.babel_speaker.specs.TickItems.{all_timers_of}

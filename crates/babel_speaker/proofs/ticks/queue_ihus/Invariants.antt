@@ -1,4 +1,4 @@
-use Rattle.std.proofs.Common.{◌≡◌, ℕ, map, filter}
+use Rattle.std.proofs.Common.{◌≡◌, map, filter}
 use Rattle.std.specs.Prelude.{nat_eq}
 use Rattle.babel_state.specs.declared.items.Item.TheVariants as items
 use Rattle.babel_state.specs.Queueing.{queued}

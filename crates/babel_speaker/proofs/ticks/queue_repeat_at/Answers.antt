@@ -1,4 +1,4 @@
-use Rattle.std.proofs.Common.{◌≡◌, sym}
+use Rattle.std.proofs.Common.{sym}
 use Rattle.babel_speaker.proofs.TickLists.{one_repeated, none_repeated}
 use Rattle.babel_speaker.proofs.ticks.queue_repeat_at.Goals as goal
 

@@ -1,4 +1,4 @@
-use Rattle.std.proofs.Common.{◌≡◌, ℕ, drop}
+use Rattle.std.proofs.Common.{◌≡◌, drop}
 use Rattle.babel_state.specs.Queueing.{queued}
 use Rattle.babel_speaker.specs.TickItems.{all_repeats_of}
 use Rattle.babel_speaker.proofs.ticks.queue_repeats.Given as goal

@@ -1,4 +1,4 @@
-use Rattle.std.proofs.Common.{◌≡◌, sym}
+use Rattle.std.proofs.Common.{sym}
 use Rattle.babel_state.specs.State.{prefixes_in}
 use Rattle.babel_speaker.proofs.TickLists.{one_timed, none_timed}
 use Rattle.babel_speaker.proofs.ticks.queue_timers_at.Goals as goal

@@ -1,4 +1,4 @@
-use Rattle.std.proofs.Common.{◌≡◌, ℕ}
+use Rattle.std.proofs.Common.{◌≡◌}
 use Rattle.babel_state.specs.Queueing.{queued}
 use Rattle.babel_state.specs.State.{prefixes_in}
 use Rattle.babel_speaker.specs.TickItems.{updates_of}

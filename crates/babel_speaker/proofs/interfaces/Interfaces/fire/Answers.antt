@@ -1,4 +1,4 @@
-use Rattle.std.proofs.Common.{◌≡◌, sym, ◌∙◌, ap, slice_set}
+use Rattle.std.proofs.Common.{sym, ◌∙◌, ap, slice_set}
 use Rattle.babel_state.specs.Ticks.{fired}
 use Rattle.babel_speaker.proofs.TickLists.{one_mapped}
 use Rattle.babel_speaker.proofs.interfaces.Interfaces.fire.Goals as goal

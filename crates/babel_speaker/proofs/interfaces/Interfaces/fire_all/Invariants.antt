@@ -1,4 +1,4 @@
-use Rattle.std.proofs.Common.{◌≡◌, ℕ, ◌++◌, map, take, drop, length}
+use Rattle.std.proofs.Common.{◌≡◌, ◌++◌, map, take, drop, length}
 use Rattle.babel_state.specs.Ticks.{fired}
 use Rattle.babel_speaker.proofs.interfaces.Interfaces.fire_all.Given as goal
 

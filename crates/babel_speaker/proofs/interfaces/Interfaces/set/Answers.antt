@@ -1,4 +1,4 @@
-use Rattle.std.proofs.Common.{◌≡◌, ◌≤◌, ℕ, length, subst, sym}
+use Rattle.std.proofs.Common.{◌≤◌, ℕ, subst, sym}
 use Rattle.babel_speaker.proofs.ShortHellos.{short_set, set_length}
 use Rattle.babel_speaker.proofs.interfaces.Interfaces.set.Goals as goal
 

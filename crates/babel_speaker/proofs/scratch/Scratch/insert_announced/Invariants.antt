@@ -1,5 +1,5 @@
 -- What is added from here on leaves what all leave, and there is room for it.
-use Rattle.std.proofs.Common.{◌≡◌, ◌≤◌, ◌+◌, length, map}
+use Rattle.std.proofs.Common.{◌≡◌, ◌≤◌, ◌+◌, length}
 use Rattle.babel_state.specs.State.{gathered, prefixes_in}
 use Rattle.babel_speaker.proofs.scratch.Scratch.insert_announced.Given as goal
 

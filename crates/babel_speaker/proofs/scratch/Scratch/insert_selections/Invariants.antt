@@ -1,6 +1,6 @@
 -- What is added from here on leaves what all leave, and there is room for it.
 use Rattle.std.proofs.Common.{◌≡◌, ◌≤◌, ◌+◌, length, map}
-use Rattle.babel_state.specs.State.{gathered, prefixes_in}
+use Rattle.babel_state.specs.State.{gathered}
 use Rattle.babel_speaker.proofs.scratch.Scratch.insert_selections.Given as goal
 
 abbrev pub invariant-loop-selection : goal.invariant-loop-selection

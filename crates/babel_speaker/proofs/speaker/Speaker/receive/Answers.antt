@@ -1,4 +1,3 @@
-use Rattle.babel_state.specs.declared.notes.Note.{Note}
 use Rattle.babel_speaker.proofs.CallLaws.{received_well, received_moves, received_current}
 use Rattle.babel_speaker.proofs.speaker.Speaker.receive.Goals as goal
 

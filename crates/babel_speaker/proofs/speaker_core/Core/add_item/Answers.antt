@@ -1,9 +1,5 @@
 use Rattle.std.proofs.Common.{◌≡◌, sym, ◌∙◌, subst, true}
-use Rattle.babel_packet.specs.declared.messages.Message.{Message}
-use Rattle.babel_state.specs.declared.items.Outgoing.{Outgoing}
-use Rattle.babel_build.specs.Built.{Built, HasEncoded, fits}
-use Rattle.babel_packet.specs.Encodable.{is_encodable}
-use Rattle.babel_speaker.specs.Sending.{with_outgoing, is_encodable_outgoing}
+use Rattle.babel_build.specs.Built.{Built, fits}
 use Rattle.babel_speaker.proofs.Drafts.{add_taken, add_encoded}
 use Rattle.babel_speaker.proofs.speaker_core.Core.add_item.Goals as goal
 

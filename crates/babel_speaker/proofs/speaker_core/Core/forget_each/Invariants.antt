@@ -1,4 +1,4 @@
-use Rattle.std.proofs.Common.{◌≡◌, ℕ, length}
+use Rattle.std.proofs.Common.{◌≡◌, length}
 use Rattle.babel_state.specs.Ticks.{forget_each}
 use Rattle.babel_speaker.proofs.speaker_core.Core.forget_each.Given as goal
 

@@ -1,8 +1,7 @@
-use Rattle.std.proofs.Common.{◌≡◌, ℕ, List, [], ◌∷◌, Bool, true, sym, refl, ap, ◌∙◌, slice_get, Some, None}
+use Rattle.std.proofs.Common.{◌≡◌, List, [], ◌∷◌, true, sym, refl, ap, ◌∙◌, slice_get, Some, None}
 use Rattle.std.specs.Option.{option_and_then}
 use Rattle.std.proofs.lemmas.Bool.{false≢true}
-use Rattle.babel_packet.specs.Encodable.{is_encodable}
-use Rattle.babel_build.specs.Built.{Built, HasEncoded, fits}
+use Rattle.babel_build.specs.Built.{Built, fits}
 use Rattle.babel_state.specs.Addresses.{transport_of, transport_at}
 use Rattle.babel_state.specs.declared.interfaces.InterfaceEntry.{InterfaceEntry}
 use Rattle.babel_state.specs.NextDatagram.{Draft, next_datagram, drafted}

@@ -1,4 +1,4 @@
-use Rattle.std.proofs.Common.{◌≡◌, ℕ, slice_get, map}
+use Rattle.std.proofs.Common.{◌≡◌, slice_get, map}
 use Rattle.babel_route.specs.Selections.{routes_of}
 use Rattle.babel_state.specs.Calls.{reported_entry}
 use Rattle.babel_speaker.proofs.speaker_core.Core.reported_entry.Given as goal

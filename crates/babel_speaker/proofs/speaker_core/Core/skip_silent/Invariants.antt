@@ -1,9 +1,13 @@
-use Rattle.std.proofs.Common.{◌≡◌, ℕ, true, length}
+use Rattle.std.proofs.Common.{length}
+use Rattle.babel_state.specs.CurrentSelections.{AreCurrent}
 use Rattle.babel_speaker.specs.Sending.{IsSkipped}
 use Rattle.babel_speaker.proofs.speaker_core.Core.skip_silent.Given as goal
 
 abbrev pub invariant-loop-item : goal.invariant-loop-item
-invariant-loop-item l = IsSkipped l.fn.self l.self
+invariant-loop-item l = record {
+  skipped : IsSkipped l.fn.self l.self;
+  current : AreCurrent l.fn.self → AreCurrent l.self;
+}
 
 abbrev pub decreases-loop-item : goal.decreases-loop-item
 decreases-loop-item l = length l.self.pending.items
