@@ -1,0 +1,4 @@
+pub mod Layout
+pub mod Octets
+pub mod Reading
+pub mod SnapshotLaws

@@ -1,0 +1,130 @@
+//! The octets of a source table.
+
+ghost use Rattle.std.specs.Prelude.{◌≡◌, ◌<◌, ◌++◌, map, length, IfOk, OnOk};
+ghost use Rattle.std.specs.List.{All};
+ghost use Rattle.byteorder.specs.Endian.{big_bytes};
+ghost use Rattle.babel_state.specs.Restarts.{kept_source};
+ghost use Rattle.babel_snapshot.specs.Octets.{addr_octets, source_octets, record_octets, records_octets, head_octets, snapshot_octets};
+ghost use Rattle.babel_snapshot.specs.SnapshotLaws.{addr_len, wanted_len, IsSource, IsRecord};
+
+use crate::layout::source_record::{IPV4, IPV6};
+use crate::layout::{BEGINNING, HEAD_LEN, RECORD_LEN, ZEROS};
+use babel_route::{Memory, Sources};
+use babel_value::{Addr, Distance, RouterId, Seqno, Source};
+use byteorder::{BigEndian, ByteOrder};
+use std::alloc::{AllocError, Global};
+
+/// The two octets of a number.
+fn two(number: u16) -> [u8; 2]
+    ensures octets { result ≡ big_bytes 2 number }
+    ensures small { number < 65536 }
+{
+    let mut octets = [0; 2];
+    BigEndian::write_u16(&mut octets, number);
+    octets
+}
+
+/// The eight octets of a number.
+fn eight(number: u64) -> [u8; 8]
+    ensures { result ≡ big_bytes 8 number }
+{
+    let mut octets = [0; 8];
+    BigEndian::write_u64(&mut octets, number);
+    octets
+}
+
+/// Writes the family and the address.
+fn write_addr(out: &mut Vec<u8>, addr: &Addr) -> Result<(), AllocError>
+    ensures octets { OnOk result (out.new.items ≡ out.old.items ++ addr_octets addr.now) }
+    ensures len { OnOk result (addr_len addr.now ≡ wanted_len addr.now) }
+{
+    match addr {
+        Addr::V4(octets) => {
+            out.extend_from_slice(&[IPV4])?;
+            out.extend_from_slice(octets)?;
+            out.extend_from_slice(&ZEROS)
+        }
+        Addr::V6(octets) => {
+            out.extend_from_slice(&[IPV6])?;
+            out.extend_from_slice(octets)
+        }
+    }
+}
+
+/// Writes the octets that name a source.
+fn write_source(out: &mut Vec<u8>, source: &Source) -> Result<(), AllocError>
+    ensures octets { OnOk result (out.new.items ≡ out.old.items ++ source_octets source.now) }
+    ensures whole { OnOk result (IsSource source.now) }
+{
+    let addr = source.prefix.addr();
+    let length = source.prefix.length();
+    let router = source.router.octets();
+    write_addr(out, &addr)?;
+    out.extend_from_slice(&[length])?;
+    out.extend_from_slice(&router)
+}
+
+/// Writes a record.
+fn write_record(out: &mut Vec<u8>, source: &Source, distance: Distance) -> Result<(), AllocError>
+    ensures octets { OnOk result (out.new.items ≡ out.old.items ++ record_octets (source.now, distance)) }
+    ensures whole { OnOk result (IsRecord (source.now, distance)) }
+{
+    write_source(out, source)?;
+    out.extend_from_slice(&two(distance.seqno.0))?;
+    out.extend_from_slice(&two(distance.metric.0))
+}
+
+/// Writes a record for each source.
+#[tactic(auto, using(crate::proofs::Appending::records_next, crate::proofs::Appending::whole_next, crate::proofs::Appending::no_gap))]
+fn write_records(out: &mut Vec<u8>, sources: &Sources) -> Result<(), AllocError>
+    ensures octets { OnOk result (out.new.items ≡ out.old.items ++ records_octets (map kept_source sources.now)) }
+    ensures whole { OnOk result (All IsRecord (map kept_source sources.now)) }
+{
+    for place in 0..sources.len() {
+        let Some(entry) = sources.at(place) else {
+            continue;
+        };
+        write_record(out, &entry.0, entry.1)?;
+    }
+    Ok(())
+}
+
+/// Writes the head before so many records.
+fn write_head(
+    out: &mut Vec<u8>,
+    router: RouterId,
+    seqno: Seqno,
+    raises: u64,
+    count: u16,
+) -> Result<(), AllocError>
+    ensures octets { OnOk result (out.new.items ≡ out.old.items ++ head_octets router seqno raises count) }
+    ensures router { OnOk result (length router ≡ 8) }
+{
+    let octets = router.octets();
+    out.extend_from_slice(&BEGINNING)?;
+    out.extend_from_slice(&octets)?;
+    out.extend_from_slice(&two(seqno.0))?;
+    out.extend_from_slice(&eight(raises))?;
+    out.extend_from_slice(&two(count))
+}
+
+/// The snapshot of a speaker with this router-id, own seqno, count of raises and source table. There is one
+/// allocation, of the snapshot's length.
+#[tactic(auto, unfolding(crate::specs::Octets::snapshot_octets))]
+pub fn save(
+    alloc: Global,
+    router: RouterId,
+    seqno: Seqno,
+    raises: u64,
+    sources: &Sources,
+) -> Result<Vec<u8>, Memory>
+    ensures ok { IfOk result (λ octets. octets.items ≡ snapshot_octets (record { router = router; seqno = seqno; raises = raises; sources = map kept_source sources.now })) }
+    ensures router { IfOk result (λ octets. length router ≡ 8) }
+    ensures whole { IfOk result (λ octets. All IsRecord (map kept_source sources.now)) }
+{
+    let count = sources.len();
+    let mut out = Vec::with_capacity(alloc, HEAD_LEN + RECORD_LEN * count)?;
+    write_head(&mut out, router, seqno, raises, count as u16)?;
+    write_records(&mut out, sources)?;
+    Ok(out)
+}
