@@ -1,11 +1,11 @@
 -- What a network sees of a datagram.
-use Rattle.std.specs.Prelude.{◌≡◌, ◌⊎◌, ℕ, Bool, true, false, ◌&&◌, nat_eq, List, [], ◌∷◌, ◌++◌, All, IfSome, map, slice_get, Option, Some, None, is_some, if◌then◌else◌}
+use Rattle.std.specs.Prelude.{◌≡◌, ◌⊎◌, ℕ, Bool, true, false, ◌&&◌, nat_eq, List, [], ◌∷◌, ◌++◌, All, IfSome, slice_get, Option, Some, None, is_some, if◌then◌else◌}
 use Rattle.std.specs.Option.{option_map, option_map_or, option_and_then}
 use Rattle.std.specs.List.{filter}
 use Rattle.std.specs.FinMap.{find}
 use Rattle.std.proofs.Common.{refl, sym, ap, subst, ◌∙◌, inl, inr}
 use Rattle.std.proofs.lemmas.Bool.{and_parts, eqb-true}
-use Rattle.std.proofs.lemmas.Option.{same_Some, none-some, slice_get-map}
+use Rattle.std.proofs.lemmas.Option.{none-some, slice_get-map}
 use Rattle.std.proofs.lemmas.List.Elements.{All-nil, All-cons, All-append}
 use Rattle.babel_value.specs.declared.addresses.Addr.{Addr}
 use Rattle.babel_value.specs.declared.distances.Distance.{Distance}
@@ -15,7 +15,6 @@ use Rattle.babel_value.specs.Prefixes.{PrefixValue}
 use Rattle.babel_link.specs.Neighbours.{cost_of}
 use Rattle.babel_packet.specs.declared.messages.Message.{Message}
 use Rattle.babel_packet.specs.declared.messages.Message.TheVariants as messages
-use Rattle.babel_route.specs.declared.routes.entries.Selection.{Selection}
 use Rattle.babel_route.specs.RouteKeys.{route_cmp}
 use Rattle.babel_route.specs.Routes.{key_of}
 use Rattle.babel_route.specs.Selections.{route_metric, selection_at}
@@ -25,13 +24,13 @@ use Rattle.babel_state.specs.declared.items.Outgoing.{Outgoing}
 use Rattle.babel_state.specs.declared.items.Outgoing.TheVariants as outgoings
 use Rattle.babel_state.specs.declared.items.Target.{Target}
 use Rattle.babel_state.specs.declared.selected.Selected.{Selected}
-use Rattle.babel_state.specs.State.{State, announces, interface_at, nominal_cost, cost_at, entry_at, selected_at, pair_at}
+use Rattle.babel_state.specs.State.{State, announces, interface_at, nominal_cost, cost_at, selected_at, pair_at}
 use Rattle.babel_state.specs.OutgoingMessages.{outgoing}
-use Rattle.babel_state.specs.NextDatagram.{Fits, Draft, is_same_receiver, is_same_target, goes_to, with_message, draft_with, without_first, drafted, next_datagram}
+use Rattle.babel_state.specs.NextDatagram.{Fits, Draft, is_same_receiver, goes_to, with_message, draft_with, without_first, next_datagram}
 use Rattle.babel_state.specs.Calls.{reported_selected, selected_route}
-use Rattle.babel_state.specs.Seen.{UpdateValue, update_of, updates_among, is_of_source, all_lowered, IsSelecting, heard_if_finite, heard_at, Seen, seen, Advertises, NamesOwnAddress, Sends}
+use Rattle.babel_state.specs.Seen.{UpdateValue, update_of, updates_among, is_of_source, all_lowered, IsSelecting, heard_if_finite, heard_at, seen, Advertises, NamesOwnAddress, Sends}
 use Rattle.babel_state.specs.StepLaws.{settings_of, settings_in, KnownValue, known_of}
-use Rattle.babel_state.specs.Invariants.{IsWellFormed, SendingKeepsSelected}
+use Rattle.babel_state.specs.Invariants.{SendingKeepsSelected}
 use Rattle.babel_state.specs.SeenLaws.{DatagramsSend, NoDatagramChangesNothing}
 use Rattle.babel_state.proofs.SendingLaws.{if_some, along, one_known, rest_known, sending_known, sending_lowers, updates_last}
 use Rattle.babel_state.proofs.SendingTables.{IsOwn, IsOfRoute, IsUpdate, IsMeant, IsMeaning, item_meant, item_by_item, sending_well}

@@ -24,3 +24,4 @@ pub mod HalfCircle
 pub mod SettingsKept
 pub mod PlacesCurrent
 pub mod MessageInterfaces
+pub mod Restarting

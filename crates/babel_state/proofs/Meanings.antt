@@ -1,5 +1,5 @@
 -- Queued lists, items that mean nothing, and what the others mean.
-use Rattle.std.specs.Prelude.{◌≡◌, ℕ, ◌≤◌, ◌<◌, ◌*◌, Bool, true, false, ◌&&◌, ◌||◌, nat_lt, not, List, [], ◌∷◌, ◌++◌, All, IfSome, IsSome, Option, Some, None, is_none, is_some, slice_get, if◌then◌else◌}
+use Rattle.std.specs.Prelude.{◌≡◌, ℕ, ◌≤◌, ◌<◌, ◌*◌, Bool, true, false, ◌&&◌, ◌||◌, nat_lt, not, List, [], ◌∷◌, All, IfSome, IsSome, Option, Some, None, is_none, if◌then◌else◌}
 use Rattle.std.specs.List.{list_all}
 use Rattle.std.specs.Option.{option_map, option_map_or}
 use Rattle.std.specs.FinMap.{find}
@@ -9,7 +9,6 @@ use Rattle.std.proofs.lemmas.Option.{same_Some, none-some}
 use Rattle.std.proofs.lemmas.List.Elements.{All-head, All-tail}
 use Rattle.babel_value.specs.declared.addresses.Addr.{Addr}
 use Rattle.babel_value.specs.declared.addresses.Addr.TheVariants.{V4, V6}
-use Rattle.babel_value.specs.declared.distances.Distance.{Distance}
 use Rattle.babel_value.specs.declared.keys.Peer.{Peer}
 use Rattle.babel_value.specs.Addresses.{family_of}
 use Rattle.babel_value.specs.Orders.{peer_cmp}
@@ -17,9 +16,8 @@ use Rattle.babel_value.specs.Prefixes.{PrefixValue}
 use Rattle.babel_link.specs.declared.links.Link.{Link}
 use Rattle.babel_link.specs.Links.{is_up_history, link_rxcost}
 use Rattle.babel_link.specs.Neighbours.{rxcost_of}
-use Rattle.babel_packet.specs.declared.messages.Message.{Message}
 use Rattle.babel_packet.specs.declared.messages.Message.TheVariants as messages
-use Rattle.babel_packet.specs.Encodable.{are_kin, is_encodable}
+use Rattle.babel_packet.specs.Encodable.{are_kin}
 use Rattle.babel_route.specs.declared.routes.entries.Selection.{Selection}
 use Rattle.babel_route.specs.Routes.{key_of}
 use Rattle.babel_route.specs.Selections.{is_candidate, is_feasible_route, route_metric}
@@ -34,7 +32,7 @@ use Rattle.babel_state.specs.State.{State, announces, interface_at, is_neighbour
 use Rattle.babel_state.specs.Addresses.{address_of}
 use Rattle.babel_state.specs.OutgoingMessages.{Advertisement, own_advertisement, route_advertisement, is_source_too_many, outgoing_ihu, outgoing_finite, outgoing_advertisement, outgoing_update, outgoing_over, outgoing}
 use Rattle.babel_state.specs.NextDatagram.{Fits, Draft, with_message, goes_to, draft_with, left_out_more, without_first, drafted, next_datagram}
-use Rattle.babel_state.specs.Invariants.{HasHops, IsWellFormed}
+use Rattle.babel_state.specs.Invariants.{IsWellFormed}
 use Rattle.babel_state.specs.QueueLaws.{QueueingAppends, NothingIsSkipped, has_no_message, FitsAlone, NoneIfNothingPending, IsEncodable, ItemsAreEncodable}
 use Rattle.babel_state.proofs.SendingLaws.{if_some, along}
 use Rattle.babel_state.proofs.TickTables.{usable_at}

@@ -1,10 +1,10 @@
 -- What a network sees of each call but `next_datagram`.
-use Rattle.std.specs.Prelude.{◌≡◌, ◌⊎◌, ℕ, zero, suc, ◌+◌, ◌%◌, ◌<◌, ◌^◌, Bool, true, false, cond, ◌&&◌, ◌||◌, not, List, [], ◌∷◌, ◌++◌, All, Contains, map, slice_get, slice_set, Option, Some, None, is_some, if◌then◌else◌, ⊤}
+use Rattle.std.specs.Prelude.{◌≡◌, ◌⊎◌, ℕ, zero, suc, ◌+◌, ◌%◌, ◌<◌, ◌^◌, Bool, true, false, cond, ◌&&◌, ◌||◌, not, List, [], ◌∷◌, ◌++◌, map, slice_get, slice_set, Option, Some, None, is_some, if◌then◌else◌, ⊤}
 use Rattle.std.specs.Option.{option_map, option_map_or, option_and_then}
 use Rattle.std.specs.Ordering.{eq_by_cmp}
 use Rattle.std.specs.FinMap.{find, put}
 use Rattle.std.specs.FinMap.Entries.{find-put}
-use Rattle.std.proofs.Common.{refl, sym, ap, subst, ◌∙◌, arith, inl, inr}
+use Rattle.std.proofs.Common.{refl, sym, ap, ◌∙◌, arith, inl, inr}
 use Rattle.std.proofs.lemmas.Bool.{true≢false}
 use Rattle.std.proofs.lemmas.Option.{same_Some, none-some, slice_get-map}
 use Rattle.std.proofs.lemmas.List.Elements.{All-head, All-tail, Contains-append_left, Contains-append_right}
@@ -23,7 +23,7 @@ use Rattle.babel_packet.specs.declared.placements.Placed.{Placed}
 use Rattle.babel_packet.specs.Encodable.{is_encodable}
 use Rattle.babel_packet.specs.Meaning.{content_messages, messages_of}
 use Rattle.babel_table.specs.Entries.{without}
-use Rattle.babel_route.specs.Sources.{Sources, pair_of, collected}
+use Rattle.babel_route.specs.Sources.{pair_of, collected}
 use Rattle.babel_table.proofs.LookupLemmas.{equal, find_with_value}
 use Rattle.babel_state.specs.declared.interfaces.InterfaceEntry.{InterfaceEntry}
 use Rattle.babel_state.specs.Queueing.{counted}
@@ -32,9 +32,9 @@ use Rattle.babel_state.specs.Addresses.{address_of, transport_of, address_at, tr
 use Rattle.babel_state.specs.SeqnoRequests.{raised}
 use Rattle.babel_state.specs.Messages.{handle_message, handle_content, after_places}
 use Rattle.babel_state.specs.Ticks.{requests_ticked, interfaces_ticked, sources_ticked, routes_selected, ticked}
-use Rattle.babel_state.specs.Calls.{set_cost_fault, cost_set, is_prefix_too_many, announced_also, withdrawn, select_and_advertise}
-use Rattle.babel_state.specs.Seen.{UpdateValue, HeardValue, update_of, updates_among, heard_at, Seen, seen, IsSelecting, IsHeardFrom, announcing_also, announcing_without, Moves}
-use Rattle.babel_state.specs.StepLaws.{settings_of, settings_in, OwnValue, own_of, grown, KeepsOwn, GrowsOnce}
+use Rattle.babel_state.specs.Calls.{cost_set, announced_also, withdrawn, select_and_advertise}
+use Rattle.babel_state.specs.Seen.{UpdateValue, HeardValue, update_of, updates_among, heard_at, seen, IsSelecting, IsHeardFrom, Moves}
+use Rattle.babel_state.specs.StepLaws.{settings_of, settings_in, OwnValue, own_of, KeepsOwn, GrowsOnce}
 use Rattle.babel_state.specs.Invariants.{IsWellFormed}
 use Rattle.babel_state.specs.SeenLaws.{AreEncodable, PlacesMove, TicksMove, CostsMove, AnnouncingMoves, WithdrawingMoves, RaisingMoves}
 use Rattle.babel_state.proofs.Keeping.{message_own, before_sources, raised_own}

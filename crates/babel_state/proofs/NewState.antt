@@ -1,32 +1,29 @@
 -- A new speaker's state is well formed.
-use Rattle.std.specs.Prelude.{◌≡◌, ℕ, ◌+◌, ◌≤◌, ◌<◌, ◌^◌, Bool, true, false, cond, ◌&&◌, ◌||◌, not, nat_le, nat_lt, List, [], ◌∷◌, All, IsSome, map, length, Option, Some, None, is_some, if◌then◌else◌, T}
+use Rattle.std.specs.Prelude.{◌≡◌, ℕ, ◌+◌, ◌≤◌, Bool, true, false, cond, ◌||◌, not, nat_le, nat_lt, List, [], ◌∷◌, All, IsSome, map, length, Option, Some, None, is_some, if◌then◌else◌, T}
 use Rattle.std.specs.List.{list_any}
 use Rattle.std.specs.Option.{option_map}
 use Rattle.std.specs.FinMap.{find, put, is_sorted}
 use Rattle.std.specs.FinMap.Entries.{length-put}
-use Rattle.std.proofs.Common.{refl, sym, ap, subst, ◌∙◌, arith}
+use Rattle.std.proofs.Common.{refl, sym, subst, arith}
 use Rattle.std.proofs.lemmas.Bool.{and_parts, or_parts, leb-true, ltb-false, true≢false, false≢true}
 use Rattle.std.proofs.lemmas.Option.{none-some}
 use Rattle.std.proofs.lemmas.List.{length-map}
 use Rattle.std.proofs.lemmas.List.Elements.{All-nil, All-cons}
-use Rattle.babel_value.specs.declared.addresses.Addr.{Addr}
 use Rattle.babel_value.specs.declared.addresses.Addr.TheVariants.{V4, V6}
 use Rattle.babel_value.specs.declared.addresses.Family.{Family}
 use Rattle.babel_value.specs.declared.addresses.Family.TheVariants.{Ipv4, Ipv6}
-use Rattle.babel_value.specs.Orders.{prefix_cmp, peer_cmp, source_cmp}
+use Rattle.babel_value.specs.Orders.{prefix_cmp}
 use Rattle.babel_value.proofs.OrderLaws.{prefix_total}
 use Rattle.babel_value.specs.Prefixes.{PrefixValue}
-use Rattle.babel_route.specs.RouteKeys.{route_cmp}
-use Rattle.babel_state.specs.declared.configs.Config.{Config}
 use Rattle.babel_state.specs.declared.configs.Interface.{Interface}
 use Rattle.babel_state.specs.declared.errors.ConfigFault.{ConfigFault}
 use Rattle.babel_state.specs.declared.errors.ConfigFault.TheVariants.{ReservedRouterId, InterfaceCount, NominalCost, HelloInterval, Prefixes, InterfaceAddresses}
 use Rattle.babel_state.specs.Sameness.{is_same_family}
 use Rattle.babel_state.specs.Configs.{is_up_to, lacks_transport, has_global_address, has_long_network, has_foreign_peer, has_bad_addresses, has_bad_cost, has_bad_hello, repeats, has_cause, first_of_causes, config_fault}
 use Rattle.babel_state.specs.State.{PrefixSet, gathered}
-use Rattle.babel_state.specs.Addresses.{address_of, transport_of}
+use Rattle.babel_state.specs.Addresses.{address_of}
 use Rattle.babel_state.specs.Calls.{new_interface, first_state}
-use Rattle.babel_state.specs.Invariants.{IsUsable, HasCost, HasHops, HasShortWait, IsFinite, AreTables, NewSpeakersAreWellFormed}
+use Rattle.babel_state.specs.Invariants.{IsUsable, HasCost, HasHops, HasShortWait, IsFinite, NewSpeakersAreWellFormed}
 use Rattle.babel_state.proofs.Tables.{in_order_put}
 
 -- ---- no cause holds

@@ -1,8 +1,8 @@
 -- What is current is a candidate, and so it is what a network asks of a selected route.
-use Rattle.std.specs.Prelude.{◌≡◌, ◌<◌, ◌≤◌, ℕ, true, not, List, [], map, slice_get, Option, Some, None, nat_lt}
+use Rattle.std.specs.Prelude.{◌≡◌, ◌<◌, ◌≤◌, ℕ, true, not, [], map, slice_get, Option, Some, None, nat_lt}
 use Rattle.std.specs.FinMap.Entries.{is_some-find}
 use Rattle.std.specs.Option.{option_map, option_and_then}
-use Rattle.std.proofs.Common.{refl, sym, ◌∙◌, ap, subst, arith}
+use Rattle.std.proofs.Common.{refl, ◌∙◌, ap, subst, arith}
 use Rattle.std.proofs.lemmas.Bool.{and_parts, ltb-true, lt-ltb}
 use Rattle.std.proofs.lemmas.Option.{same_Some, none-some, slice_get-map}
 use Rattle.babel_value.specs.Orders.{prefix_cmp}
@@ -18,7 +18,6 @@ use Rattle.babel_state.proofs.CurrentLaws.{has_ascending}
 use Rattle.babel_state.specs.State.{State, gathered, announces, cost_at, pair_at, entry_at, selected_at}
 use Rattle.babel_state.specs.Addresses.{transport_of, address_of}
 use Rattle.babel_state.specs.Calls.{new_interface, first_state, reported_selected, selected_route}
-use Rattle.babel_state.specs.CurrentSelections.{AreCurrent, AreRoutesInOrder}
 use Rattle.babel_state.specs.Seen.{seen, heard_if_finite, heard_of, IsSelecting}
 use Rattle.babel_state.specs.SeenLaws.{NewSpeakersAreNew, AreCostsPositive, CurrentIsSelecting}
 use Rattle.babel_state.specs.Invariants.{AreSelectable, IsWellFormed}

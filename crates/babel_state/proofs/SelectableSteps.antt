@@ -1,32 +1,28 @@
 -- After each step every selected route is an entry and a candidate, and the selections that were current still are.
-use Rattle.std.specs.Prelude.{◌≡◌, ℕ, ◌-◌, Bool, true, false, cond, ◌&&◌, not, nat_lt, nat_le, List, [], ◌∷◌, map, slice_get, Option, Some, None, is_some, if◌then◌else◌}
-use Rattle.std.specs.Option.{option_map, option_map_or, option_and_then}
+use Rattle.std.specs.Prelude.{◌≡◌, ℕ, ◌-◌, Bool, true, false, cond, nat_lt, List, [], ◌∷◌, map, Option, Some, None, is_some, if◌then◌else◌}
+use Rattle.std.specs.Option.{option_map_or}
 use Rattle.std.specs.Ordering.{eq_by_cmp}
 use Rattle.std.specs.FinMap.{find, put, is_sorted}
 use Rattle.std.specs.FinMap.Entries.{find-put}
 use Rattle.std.proofs.Common.{refl, sym, ap, subst, ◌∙◌}
-use Rattle.std.proofs.lemmas.Bool.{and_parts, and_from}
-use Rattle.std.proofs.lemmas.Option.{slice_get-map}
 use Rattle.babel_value.specs.declared.addresses.Addr.{Addr}
 use Rattle.babel_value.specs.declared.distances.Distance.{Distance}
 use Rattle.babel_value.specs.declared.keys.Peer.{Peer}
 use Rattle.babel_value.specs.declared.keys.Source.{Source}
-use Rattle.babel_value.specs.Orders.{prefix_cmp, source_cmp}
-use Rattle.babel_value.proofs.OrderLaws.{prefix_total, prefix_exact, source_total, source_exact}
+use Rattle.babel_value.specs.Orders.{prefix_cmp}
+use Rattle.babel_value.proofs.OrderLaws.{prefix_total, prefix_exact}
 use Rattle.babel_value.specs.Prefixes.{PrefixValue}
 use Rattle.babel_link.specs.Neighbours.{hello_of, hello_verdict, ihu_of}
 use Rattle.babel_link.specs.declared.marks.Heard.{Heard}
 use Rattle.babel_link.specs.declared.marks.Heard.TheVariants.{Kept, Flush}
 use Rattle.babel_packet.specs.declared.messages.Message.{Message}
 use Rattle.babel_packet.specs.declared.messages.Message.TheVariants as messages
-use Rattle.babel_packet.specs.Encodable.{is_encodable}
 use Rattle.babel_route.specs.declared.routes.entries.Entry.{Entry}
 use Rattle.babel_route.specs.declared.routes.entries.Selection.{Selection}
 use Rattle.babel_route.specs.Distances.{is_feasible}
 use Rattle.babel_table.specs.Entries.{without}
 use Rattle.babel_route.specs.RouteKeys.{route_cmp, route_total}
 use Rattle.babel_route.specs.Routes.{RouteEntries, key_of, kept_without, retracted_from, updated, retracted, retracted_all, retracted_entry, entry_of_update, has_routes_from}
-use Rattle.babel_route.specs.Selections.{routes_of}
 use Rattle.babel_table.proofs.LookupLemmas.{eq_turned, find_with_value}
 use Rattle.babel_state.specs.declared.items.Item.{Item}
 use Rattle.babel_state.specs.declared.items.Item.TheVariants as items
@@ -35,7 +31,7 @@ use Rattle.babel_state.specs.declared.requests.Resend.TheVariants.{Never}
 use Rattle.babel_state.specs.Sameness.{is_same_router}
 use Rattle.babel_state.specs.PendingRequests.{is_redundant}
 use Rattle.babel_state.specs.State.{State, PrefixSet, announces, is_neighbour, reachable_prefixes, entry_at, pair_at, selected_at, with_entries}
-use Rattle.babel_state.specs.Reselection.{UnfeasibleUpdate, queue, update_to, updates_to_all, request_seqno, select, reselect, reselect_all}
+use Rattle.babel_state.specs.Reselection.{UnfeasibleUpdate, queue, update_to, updates_to_all, select, reselect, reselect_all}
 use Rattle.babel_state.specs.Hellos.{Step, forgets_flushed, hears, is_neighbour_too_many, is_for_interface, handle_hello, handle_ihu}
 use Rattle.babel_state.specs.Updates.{store, satisfy_request, handle_feasible, handle_unfeasible, judge, is_route_too_many, handle_update, handle_retraction, handle_retract_all}
 use Rattle.babel_state.specs.SeqnoRequests.{raised, outcomes, requested_of_own, forward, requested_of_route, receiver, handle_seqno_request}
@@ -43,12 +39,11 @@ use Rattle.babel_state.specs.Messages.{handle_from_neighbour, handle_message}
 use Rattle.babel_state.specs.Calls.{announced_also, withdrawn, select_and_advertise}
 use Rattle.babel_state.specs.CurrentSelections.{IsCurrentAt, AreRoutesInOrder, KeepsCurrent}
 use Rattle.babel_state.specs.StepLaws.{kept_of, base_of}
-use Rattle.babel_state.specs.Invariants.{AreTables, AreSelectable}
-use Rattle.babel_state.proofs.Reselecting.{requests_kept, asks_kept, reselects_kept, all_base}
+use Rattle.babel_state.specs.Invariants.{AreSelectable}
+use Rattle.babel_state.proofs.Reselecting.{asks_kept, reselects_kept, all_base}
 use Rattle.babel_state.proofs.CurrentLaws.{reselections_current, sorted_revised}
 use Rattle.babel_state.proofs.Hearing.{satisfy_kept}
-use Rattle.babel_state.proofs.Tables.{in_order_put, in_order_without}
-use Rattle.babel_state.proofs.TableLaws.{retracted_sorted}
+use Rattle.babel_state.proofs.Tables.{in_order_put}
 use Rattle.babel_state.proofs.Selecting.{changed, IsSameElsewhere, all_selectable, selected_selectable, selected_current, put_elsewhere, routes_put}
 
 -- Both facts of a step: the selections can be selected, and what was current is current.

@@ -1,44 +1,38 @@
 -- After a tick, a change of cost and a datagram every selected route is an entry and a candidate.
-use Rattle.std.specs.Prelude.{◌≡◌, ◌⊎◌, ℕ, zero, suc, ◌+◌, ◌≤◌, ◌<◌, Bool, true, false, cond, ◌&&◌, ◌||◌, ◌==◌, not, nat_lt, nat_le, List, [], ◌∷◌, map, slice_get, slice_set, Option, Some, None, if◌then◌else◌}
+use Rattle.std.specs.Prelude.{◌≡◌, ℕ, zero, suc, ◌≤◌, Bool, true, false, ◌&&◌, ◌||◌, ◌==◌, not, nat_lt, nat_le, List, [], ◌∷◌, map, slice_get, slice_set, Option, Some, None, if◌then◌else◌}
 use Rattle.std.specs.Option.{option_map, option_map_or, option_and_then}
-use Rattle.std.specs.Ordering.{eq_by_cmp}
 use Rattle.std.specs.FinMap.{find, is_sorted}
-use Rattle.std.proofs.Common.{refl, sym, ap, subst, ◌∙◌, arith, inl, inr}
-use Rattle.std.proofs.lemmas.Bool.{and_parts, and_from, or_right, or_left, ltb-true, leb-true, lt-ltb, true≢false, eq-eqb, ne_eqb}
+use Rattle.std.proofs.Common.{refl, sym, ap, subst, ◌∙◌, arith}
+use Rattle.std.proofs.lemmas.Bool.{and_parts, and_from, or_right, leb-true, ne_eqb}
 use Rattle.std.proofs.lemmas.Option.{same_Some, none-some, slice_get-map}
 use Rattle.babel_value.specs.declared.distances.Distance.{Distance}
 use Rattle.babel_value.specs.declared.keys.Peer.{Peer}
 use Rattle.babel_value.specs.declared.keys.Source.{Source}
-use Rattle.babel_value.specs.Distances.{is_better}
-use Rattle.babel_value.specs.Seqnos.{is_before}
-use Rattle.babel_value.specs.Metrics.{metric_sum}
-use Rattle.babel_value.specs.Orders.{prefix_cmp, source_cmp, peer_cmp}
+use Rattle.babel_value.specs.Orders.{source_cmp, peer_cmp}
 use Rattle.babel_value.proofs.OrderLaws.{source_total, source_exact}
 use Rattle.babel_value.specs.Prefixes.{PrefixValue}
 use Rattle.babel_link.specs.declared.links.Link.{Link}
 use Rattle.babel_link.specs.Links.{is_up_history, link_rxcost, link_cost}
 use Rattle.babel_link.specs.Neighbours.{Links, cost_of}
-use Rattle.babel_route.specs.declared.routes.entries.Entry.{Entry}
 use Rattle.babel_route.specs.declared.routes.entries.Selection.{Selection}
 use Rattle.babel_route.specs.declared.sources.SourceEntry.{SourceEntry}
-use Rattle.babel_route.specs.Distances.{improves_on, is_feasible, better_pair}
+use Rattle.babel_route.specs.Distances.{is_feasible}
 use Rattle.babel_route.specs.Routes.{Route, key_of}
 use Rattle.babel_route.specs.Selections.{is_candidate, is_feasible_route, route_metric, IsCurrent}
 use Rattle.babel_route.specs.Sources.{Sources, pair_of, collected, collected_entry}
 use Rattle.babel_table.proofs.PlaceLemmas.{find_revised}
 use Rattle.babel_state.specs.declared.interfaces.InterfaceEntry.{InterfaceEntry}
-use Rattle.babel_state.specs.State.{State, announces, interface_at, nominal_cost, cost_at, pair_at, entry_at, selected_at, with_interface}
+use Rattle.babel_state.specs.State.{State, announces, interface_at, nominal_cost, cost_at, entry_at, selected_at, with_interface}
 use Rattle.babel_state.specs.Reselection.{reselect_all}
 use Rattle.babel_state.specs.Ticks.{links_ticked, routes_ticked, requests_ticked, fired, interfaces_ticked, sources_ticked, routes_selected, ticked}
 use Rattle.babel_state.specs.Calls.{cost_set, set_cost_fault, set_cost_fault_on}
-use Rattle.babel_state.specs.CurrentSelections.{IsCurrentAt, AreRoutesInOrder}
 use Rattle.babel_state.specs.SeenLaws.{AreCostsPositive}
-use Rattle.babel_state.specs.Invariants.{IsUsable, AreTables, AreSelectable, IsWellFormed}
+use Rattle.babel_state.specs.Invariants.{AreTables, AreSelectable}
 use Rattle.babel_state.proofs.Tables.{each_find}
-use Rattle.babel_state.proofs.TickTables.{links_tables, expiry_tables, request_tick_tables, timer_tables, tick_tables, cost_free, usable_at}
+use Rattle.babel_state.proofs.TickTables.{links_tables, expiry_tables, request_tick_tables, timer_tables, cost_free, usable_at}
 use Rattle.babel_state.proofs.TableLaws.{all_tables}
 use Rattle.babel_state.proofs.Selecting.{all_selectable}
-use Rattle.babel_state.proofs.SelectableSteps.{IsGoodStep, sorted_all}
+use Rattle.babel_state.proofs.SelectableSteps.{IsGoodStep}
 use Rattle.babel_state.proofs.CurrentLaws.{cost_fired}
 
 -- ---- costs

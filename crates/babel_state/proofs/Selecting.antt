@@ -1,5 +1,5 @@
 -- A selection that is chosen is an entry and a candidate, and stays so at all other prefixes; so it is with the selections that are current.
-use Rattle.std.specs.Prelude.{◌≡◌, ℕ, Bool, true, false, cond, ◌&&◌, not, List, [], ◌∷◌, Option, Some, None, is_some, if◌then◌else◌}
+use Rattle.std.specs.Prelude.{◌≡◌, ℕ, Bool, true, false, cond, ◌&&◌, not, [], ◌∷◌, Option, Some, is_some, if◌then◌else◌}
 use Rattle.std.specs.List.{filter}
 use Rattle.std.specs.Option.{option_map}
 use Rattle.std.specs.declared.cmp.Ordering.{Ordering}
@@ -9,25 +9,24 @@ use Rattle.std.specs.Cmp.{tied_itself}
 use Rattle.std.specs.FinMap.{find, put, is_sorted}
 use Rattle.std.specs.FinMap.Entries.{by_order, find-put}
 use Rattle.std.proofs.Common.{refl, sym, ap, subst, ◌∙◌}
-use Rattle.std.proofs.lemmas.Bool.{and_from, and_parts, false≢true, or_left}
+use Rattle.std.proofs.lemmas.Bool.{and_from, false≢true, or_left}
 use Rattle.babel_value.specs.declared.keys.Peer.{Peer}
-use Rattle.babel_value.specs.Orders.{prefix_cmp, peer_cmp}
+use Rattle.babel_value.specs.Orders.{prefix_cmp}
 use Rattle.babel_value.proofs.OrderLaws.{prefix_total, prefix_exact}
 use Rattle.babel_value.specs.Prefixes.{PrefixValue}
 use Rattle.babel_route.specs.declared.routes.entries.Entry.{Entry}
 use Rattle.babel_route.specs.declared.routes.entries.Selection.{Selection}
 use Rattle.babel_route.specs.declared.routes.entries.RouteKey.{RouteKey}
 use Rattle.babel_route.specs.RouteKeys.{route_cmp, route_total, route_exact}
-use Rattle.babel_route.specs.Routes.{Route, RouteEntries, key_of}
+use Rattle.babel_route.specs.Routes.{RouteEntries, key_of}
 use Rattle.babel_table.specs.Firsts.{first_of}
 use Rattle.babel_route.specs.RouteLaws.{is_among}
-use Rattle.babel_route.specs.Selections.{RoutesValue, is_of, routes_of, is_candidate, choice, choice_at, selection_of, peer_before, preference, selection_at, IsCurrent, prefixes_of}
+use Rattle.babel_route.specs.Selections.{is_of, routes_of, is_candidate, choice, choice_at, selection_of, peer_before, preference, selection_at}
 use Rattle.babel_route.proofs.CurrentLemmas.{all_current, chosen_is_candidate}
 use Rattle.babel_table.proofs.LookupLemmas.{equal, find_with_value}
 use Rattle.babel_state.specs.State.{State, PrefixSet, announces, entry_at, selected_at, cost_at}
 use Rattle.babel_state.specs.Reselection.{select, reselect_all}
 use Rattle.babel_state.specs.CurrentSelections.{IsCurrentAt, AreCurrent, AreRoutesInOrder}
-use Rattle.babel_state.specs.StepLaws.{kept_of}
 use Rattle.babel_state.specs.Invariants.{IsSelectable, AreSelectable}
 use Rattle.babel_state.proofs.CurrentLaws.{reselections_current}
 

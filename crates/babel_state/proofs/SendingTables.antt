@@ -1,34 +1,32 @@
 -- What a datagram's messages advertise, and that a datagram leaves a well-formed state.
-use Rattle.std.specs.Prelude.{◌≡◌, ◌⊎◌, ℕ, ◌+◌, ◌*◌, ◌≤◌, ◌<◌, ◌^◌, Bool, true, false, cond, ◌&&◌, ◌||◌, ◌==◌, not, nat_lt, nat_eq, List, [], ◌∷◌, ◌++◌, All, IfSome, IsSome, length, slice_get, slice_set, is_none, Option, Some, None, if◌then◌else◌, ⊤}
+use Rattle.std.specs.Prelude.{◌≡◌, ◌⊎◌, ℕ, ◌*◌, ◌≤◌, ◌<◌, Bool, true, false, cond, ◌&&◌, ◌==◌, not, nat_lt, List, [], ◌∷◌, All, IfSome, IsSome, length, slice_set, Option, Some, None, if◌then◌else◌, ⊤}
 use Rattle.std.specs.Option.{option_map, option_map_or, option_and_then}
 use Rattle.std.specs.Ordering.{eq_by_cmp}
-use Rattle.std.specs.FinMap.{find, put, is_sorted}
+use Rattle.std.specs.FinMap.{find}
 use Rattle.std.proofs.Common.{refl, sym, ap, subst, ◌∙◌, arith, inl, inr, length-set}
-use Rattle.std.proofs.lemmas.Bool.{and_parts, and_from, or_right, or_left, ltb-true, lt-ltb, true≢false, false≢true, eq-eqb}
-use Rattle.std.proofs.lemmas.Option.{same_Some, none-some}
-use Rattle.std.proofs.lemmas.List.Elements.{All-nil, All-cons, All-tail, All-append, All-set, All-weaker}
+use Rattle.std.proofs.lemmas.Bool.{and_parts, and_from, or_right, ltb-true, lt-ltb, true≢false, eq-eqb}
+use Rattle.std.proofs.lemmas.Option.{same_Some}
+use Rattle.std.proofs.lemmas.List.Elements.{All-nil, All-tail, All-set}
 use Rattle.babel_value.specs.declared.addresses.Addr.{Addr}
 use Rattle.babel_value.specs.declared.addresses.Family.{Family}
 use Rattle.babel_value.specs.declared.addresses.Family.TheVariants.{Ipv4, Ipv6}
 use Rattle.babel_value.specs.declared.distances.Distance.{Distance}
-use Rattle.babel_value.specs.declared.keys.Peer.{Peer}
 use Rattle.babel_value.specs.declared.keys.Source.{Source}
 use Rattle.babel_value.specs.Addresses.{family_of}
 use Rattle.babel_value.specs.Distances.{is_better}
 use Rattle.babel_value.specs.Seqnos.{is_before}
 use Rattle.babel_value.specs.Metrics.{metric_sum}
-use Rattle.babel_value.specs.Orders.{prefix_cmp, source_cmp}
+use Rattle.babel_value.specs.Orders.{source_cmp}
 use Rattle.babel_value.proofs.OrderLaws.{source_total, source_exact}
 use Rattle.babel_value.specs.Prefixes.{PrefixValue}
 use Rattle.babel_packet.specs.declared.messages.Message.{Message}
 use Rattle.babel_packet.specs.declared.messages.Message.TheVariants as messages
-use Rattle.babel_route.specs.declared.routes.entries.Entry.{Entry}
 use Rattle.babel_route.specs.declared.routes.entries.Selection.{Selection}
 use Rattle.babel_route.specs.declared.sources.SourceEntry.{SourceEntry}
-use Rattle.babel_route.specs.Distances.{improves_on, is_feasible, better_pair}
+use Rattle.babel_route.specs.Distances.{is_feasible, better_pair}
 use Rattle.babel_route.specs.Routes.{Route, key_of}
 use Rattle.babel_route.specs.Selections.{is_candidate, is_feasible_route, route_metric}
-use Rattle.babel_route.specs.Sources.{Sources, pair_of, source_entry_after, lowered}
+use Rattle.babel_route.specs.Sources.{pair_of, source_entry_after, lowered}
 use Rattle.babel_state.specs.declared.interfaces.InterfaceEntry.{InterfaceEntry}
 use Rattle.babel_state.specs.declared.items.Item.{Item}
 use Rattle.babel_state.specs.declared.items.Item.TheVariants as items
@@ -36,11 +34,11 @@ use Rattle.babel_state.specs.declared.items.Outgoing.{Outgoing}
 use Rattle.babel_state.specs.declared.items.Outgoing.TheVariants as outgoings
 use Rattle.babel_state.specs.declared.items.Target.{Target}
 use Rattle.babel_state.specs.Queueing.{counted}
-use Rattle.babel_state.specs.State.{State, announces, is_neighbour, interface_at, cost_at, pair_at, entry_at, selected_at, with_interface}
-use Rattle.babel_state.specs.Addresses.{address_of, address_at, transport_of}
-use Rattle.babel_state.specs.OutgoingMessages.{Advertisement, own_advertisement, route_advertisement, advertisement, is_source_too_many, outgoing_ihu, outgoing_finite, outgoing_advertisement, outgoing_update, outgoing_over, outgoing}
+use Rattle.babel_state.specs.State.{State, announces, is_neighbour, interface_at, cost_at, selected_at, with_interface}
+use Rattle.babel_state.specs.Addresses.{address_of, address_at}
+use Rattle.babel_state.specs.OutgoingMessages.{Advertisement, own_advertisement, route_advertisement, is_source_too_many, outgoing_ihu, outgoing_finite, outgoing_advertisement, outgoing_update, outgoing_over, outgoing}
 use Rattle.babel_state.specs.NextDatagram.{Fits, Draft, next_hello, lower_source, after_message, with_message, goes_to, draft_with, left_out_more, without_first, drafted, next_datagram}
-use Rattle.babel_state.specs.Invariants.{IsUsable, AreInterfaces, AreSources, HasHops, IsQueue, AreTables, IsSelectable, AreSelectable, IsWellFormed, SendingKeepsWellFormed}
+use Rattle.babel_state.specs.Invariants.{IsUsable, HasHops, AreTables, IsSelectable, AreSelectable, IsWellFormed, SendingKeepsWellFormed}
 use Rattle.babel_state.proofs.Tables.{each_put, each_find, few_put, in_order_put}
 use Rattle.babel_state.proofs.TableLaws.{interfaces_tables, sources_tables, pending_tables, left_out_tables}
 use Rattle.babel_state.proofs.TickTables.{usable_at}

@@ -20,10 +20,10 @@ use Rattle.babel_route.specs.declared.routes.entries.Selection.{Selection}
 use Rattle.babel_route.specs.Selections.{RoutesValue, IsCurrent}
 use Rattle.babel_route.proofs.CurrentLemmas.{all_settled}
 use Rattle.babel_state.specs.State.{State, announces, cost_at, nominal_cost, selected_at, routed_prefixes}
-use Rattle.babel_state.specs.Hellos.{forgets_flushed, hears}
+use Rattle.babel_state.specs.Hellos.{forgets_flushed}
 use Rattle.babel_state.specs.Reselection.{select, follow_up, reselect, reselect_each, reselect_all}
-use Rattle.babel_state.specs.Ticks.{interfaces_ticked, requests_ticked}
-use Rattle.babel_state.specs.CurrentSelections.{IsCurrentAt, AreCurrent}
+use Rattle.babel_state.specs.Ticks.{requests_ticked}
+use Rattle.babel_state.specs.CurrentSelections.{AreCurrent}
 use Rattle.babel_state.specs.SettledLaws.{AreSelectionsInOrder, SettledReselectsNothing, HellosKeepCurrent, IhusKeepCurrent, TimersKeepCurrent}
 use Rattle.babel_state.proofs.CurrentLaws.{timers_current, requests_current}
 

@@ -1,11 +1,11 @@
 -- Each step leaves every table in order and within its room.
-use Rattle.std.specs.Prelude.{◌≡◌, ℕ, ◌+◌, ◌-◌, ◌≤◌, ◌<◌, ◌^◌, ◌*◌, Bool, true, false, ◌&&◌, ◌==◌, nat_lt, nat_le, List, [], ◌∷◌, ◌++◌, All, IfSome, map, filter, length, drop, not, is_none, is_some, Option, Some, None, if◌then◌else◌}
+use Rattle.std.specs.Prelude.{◌≡◌, ℕ, ◌-◌, ◌≤◌, ◌<◌, ◌^◌, Bool, true, false, ◌&&◌, ◌==◌, nat_lt, nat_le, List, [], ◌∷◌, ◌++◌, All, IfSome, map, length, not, is_none, is_some, Option, Some, None, if◌then◌else◌}
 use Rattle.std.specs.List.{range_with_len}
 use Rattle.std.specs.Option.{option_map, option_map_or, option_and_then, unwrap_or}
 use Rattle.std.specs.FinMap.{find, put, is_sorted}
-use Rattle.std.proofs.Common.{refl, sym, ap, subst, ◌∙◌, arith, length-append, length-drop}
+use Rattle.std.proofs.Common.{refl, sym, subst, arith, length-drop}
 use Rattle.std.proofs.lemmas.Bool.{and_parts, ltb-true, ltb-false}
-use Rattle.std.proofs.lemmas.List.Elements.{All-nil, All-cons, All-head, All-tail, All-append, All-drop, All-map, All-filter}
+use Rattle.std.proofs.lemmas.List.Elements.{All-nil, All-cons, All-append, All-drop, All-map, All-filter}
 use Rattle.babel_value.specs.declared.addresses.Addr.{Addr}
 use Rattle.babel_value.specs.declared.distances.Distance.{Distance}
 use Rattle.babel_value.specs.declared.keys.Peer.{Peer}
@@ -18,18 +18,18 @@ use Rattle.babel_link.specs.declared.links.History.{History}
 use Rattle.babel_link.specs.declared.marks.Heard.{Heard}
 use Rattle.babel_link.specs.declared.marks.Heard.TheVariants.{Kept, Flush}
 use Rattle.babel_link.specs.Links.{new_link, with_history, history_of, is_flushed_by, hello_link, ihu_link, fired_history, unless_silent, fired_link, expired_link, ticked_link}
-use Rattle.babel_link.specs.Neighbours.{Links, link_of, hello_of, hello_verdict, ihu_of, tick_of, gone_of}
+use Rattle.babel_link.specs.Neighbours.{Links, link_of, hello_of, hello_verdict, ihu_of, tick_of}
 use Rattle.babel_packet.specs.declared.messages.Message.{Message}
 use Rattle.babel_packet.specs.declared.messages.Message.TheVariants as messages
 use Rattle.babel_packet.specs.Encodable.{is_encodable}
 use Rattle.babel_route.specs.declared.routes.entries.Entry.{Entry}
 use Rattle.babel_route.specs.declared.routes.entries.Selection.{Selection}
 use Rattle.babel_route.specs.Distances.{is_feasible}
-use Rattle.babel_table.specs.Entries.{without, with_value, revised_entries}
+use Rattle.babel_table.specs.Entries.{without, with_value}
 use Rattle.babel_route.specs.RouteKeys.{route_cmp, route_total}
-use Rattle.babel_route.specs.Routes.{RouteEntries, key_of, updated, retracted, retracted_all, retracted_entry, forgotten, entry_of_update, kept_without, retracted_from, expired_entry, has_routes_from, expired}
+use Rattle.babel_route.specs.Routes.{RouteEntries, key_of, updated, retracted, retracted_all, retracted_entry, forgotten, entry_of_update, kept_without, retracted_from}
 use Rattle.babel_route.specs.Selections.{RoutesValue, reselected, choice_at}
-use Rattle.babel_route.specs.Sources.{Sources, collected, collected_entry}
+use Rattle.babel_route.specs.Sources.{Sources}
 use Rattle.babel_state.specs.declared.interfaces.InterfaceEntry.{InterfaceEntry}
 use Rattle.babel_state.specs.declared.items.Item.{Item}
 use Rattle.babel_state.specs.declared.items.Item.TheVariants as items
@@ -38,13 +38,13 @@ use Rattle.babel_state.specs.declared.requests.Resend.{Resend}
 use Rattle.babel_state.specs.declared.requests.Resend.TheVariants.{Never}
 use Rattle.babel_state.specs.declared.notes.Verdict.TheVariants as verdicts
 use Rattle.babel_state.specs.Sameness.{is_same_router}
-use Rattle.babel_state.specs.Queueing.{Pending, counted, queued, queued_at_once}
+use Rattle.babel_state.specs.Queueing.{Pending, queued, queued_at_once}
 use Rattle.babel_state.specs.PendingRequests.{PendingRequests, is_redundant, recorded, has_no_room, new_request}
-use Rattle.babel_state.specs.State.{State, PrefixSet, announces, is_neighbour, routed_prefixes, reachable_prefixes, entry_at, selected_at, pair_at, with_entries, cost_at}
+use Rattle.babel_state.specs.State.{State, PrefixSet, announces, is_neighbour, routed_prefixes, reachable_prefixes, selected_at, pair_at, with_entries, cost_at}
 use Rattle.babel_state.specs.Reselection.{UnfeasibleUpdate, queue, update_to, update_to_all, updates_to_all, request_items, request_seqno, request_for_update, request_from_sender, request_for_seqno, advertise_change, select, reselect, reselect_each, reselect_all}
 use Rattle.babel_state.specs.Hellos.{Step, forget_neighbour, forgets_flushed, hears, is_neighbour_too_many, is_for_interface, handle_hello, handle_ihu}
 use Rattle.babel_state.specs.Updates.{store, advertise_if_selected, satisfy_request, handle_feasible, handle_unfeasible, judge, is_route_too_many, handle_update, handle_retraction, handle_retract_all}
-use Rattle.babel_state.specs.SeqnoRequests.{raised, outcomes, requested_of_own, forward, requested_of_route, receiver, handle_route_request, handle_dump_request, handle_seqno_request}
+use Rattle.babel_state.specs.SeqnoRequests.{raised, outcomes, requested_of_own, forward, requested_of_route, receiver, handle_seqno_request}
 use Rattle.babel_state.specs.Messages.{handle_from_neighbour, handle_message}
 use Rattle.babel_state.specs.Invariants.{AreInterfaces, AreNeighbours, AreAnnounced, AreSources, AreRoutes, AreRequests, HasShortWait, HasHops, IsQueue, HasCost, AreTables, MessagesKeepTables}
 use Rattle.babel_state.proofs.Cutting.{queueing-cuts}

@@ -1,5 +1,5 @@
 -- What putting, removing and revising entries keep of all values of a table.
-use Rattle.std.specs.Prelude.{◌≡◌, ℕ, zero, suc, slice_get, ◌≤◌, ◌<◌, ◌+◌, Bool, true, false, cond, T, ◌&&◌, ◌==◌, not, List, [], ◌∷◌, ◌++◌, All, IfSome, length, Option, Some, None, is_some, is_none, filter}
+use Rattle.std.specs.Prelude.{◌≡◌, ℕ, zero, suc, slice_get, ◌≤◌, ◌+◌, Bool, true, false, cond, T, ◌&&◌, ◌==◌, not, List, [], ◌∷◌, All, IfSome, length, Option, Some, None, is_some, is_none}
 use Rattle.std.specs.List.{cons_option}
 use Rattle.std.specs.Option.{option_map}
 use Rattle.std.specs.declared.cmp.Ordering.{Ordering}
@@ -8,10 +8,10 @@ use Rattle.std.specs.Ordering.{eq_by_cmp, is_eq}
 use Rattle.std.specs.Cmp.{IsTotalOrder}
 use Rattle.std.specs.FinMap.{find, put, is_sorted}
 use Rattle.std.specs.FinMap.Entries.{by_order, is_sorted-put, is_sorted-where_key, length-put}
-use Rattle.std.proofs.Common.{refl, sym, ap, subst, ◌∙◌, arith}
+use Rattle.std.proofs.Common.{refl, sym, subst, arith}
 use Rattle.std.proofs.lemmas.Bool.{eqb-false}
 use Rattle.std.proofs.lemmas.Option.{same_Some, none-some}
-use Rattle.std.proofs.lemmas.List.Elements.{All-nil, All-cons, All-head, All-tail, All-filter}
+use Rattle.std.proofs.lemmas.List.Elements.{All-nil, All-cons, All-head, All-tail}
 use Rattle.babel_table.specs.Entries.{without, revised_entries}
 
 holds_from : (b : Bool) → T b → b ≡ true

@@ -1,13 +1,13 @@
 -- A tick and the calls that change a speaker leave every table in order and within its room.
-use Rattle.std.specs.Prelude.{◌≡◌, ℕ, ◌+◌, ◌*◌, ◌≤◌, ◌<◌, Bool, true, false, ◌&&◌, ◌==◌, not, nat_eq, nat_le, List, [], ◌∷◌, ◌++◌, All, IfSome, IsSome, map, length, is_none, is_some, slice_set, Option, Some, None, if◌then◌else◌}
+use Rattle.std.specs.Prelude.{◌≡◌, ℕ, ◌+◌, ◌*◌, ◌≤◌, ◌<◌, Bool, true, false, ◌&&◌, ◌==◌, not, nat_eq, nat_le, List, [], ◌∷◌, ◌++◌, All, IfSome, IsSome, map, length, is_none, slice_set, Option, Some, None, if◌then◌else◌}
 use Rattle.std.specs.List.{filter}
 use Rattle.std.specs.Option.{option_map_or}
 use Rattle.std.specs.FinMap.{find, put}
-use Rattle.std.proofs.Common.{refl, sym, ap, subst, ◌∙◌, arith, length-set}
+use Rattle.std.proofs.Common.{refl, sym, subst, arith, length-set}
 use Rattle.std.proofs.lemmas.List.{length-map}
 use Rattle.std.proofs.lemmas.Bool.{true≢false, and_parts, and_right, leb-true, leb-false}
-use Rattle.std.proofs.lemmas.Option.{same_Some, none-some}
-use Rattle.std.proofs.lemmas.List.Elements.{All-nil, All-cons, All-head, All-tail, All-append, All-map, All-weaker, All-set}
+use Rattle.std.proofs.lemmas.Option.{none-some}
+use Rattle.std.proofs.lemmas.List.Elements.{All-nil, All-append, All-map, All-weaker, All-set}
 use Rattle.babel_value.specs.declared.addresses.Family.{Family}
 use Rattle.babel_value.specs.declared.addresses.Family.TheVariants.{Ipv4, Ipv6}
 use Rattle.babel_value.specs.declared.keys.Peer.{Peer}
@@ -20,7 +20,7 @@ use Rattle.babel_route.specs.declared.sources.SourceEntry.{SourceEntry}
 use Rattle.babel_table.specs.Entries.{without, revised_entries}
 use Rattle.babel_route.specs.RouteKeys.{route_cmp}
 use Rattle.babel_route.specs.Routes.{expired, expired_entry}
-use Rattle.babel_route.specs.Sources.{Sources, collected, collected_entry}
+use Rattle.babel_route.specs.Sources.{collected, collected_entry}
 use Rattle.babel_state.specs.declared.errors.SetCostFault.TheVariants.{CostOutOfRange}
 use Rattle.babel_state.specs.declared.interfaces.InterfaceEntry.{InterfaceEntry}
 use Rattle.babel_state.specs.declared.items.Item.{Item}
@@ -29,14 +29,14 @@ use Rattle.babel_state.specs.declared.requests.PendingRequest.{PendingRequest}
 use Rattle.babel_state.specs.declared.requests.Resend.{Resend}
 use Rattle.babel_state.specs.declared.requests.Resend.TheVariants.{Unfeasible, Neighbour, Never}
 use Rattle.babel_state.specs.PendingRequests.{PendingRequests}
-use Rattle.babel_state.specs.State.{State, PrefixSet, announces, interface_at, reachable_prefixes}
-use Rattle.babel_state.specs.Reselection.{queue, request_items, update_to_all, updates_to_all, reselect_all, select}
+use Rattle.babel_state.specs.State.{State, announces, interface_at, reachable_prefixes}
+use Rattle.babel_state.specs.Reselection.{request_items, update_to_all, updates_to_all, select}
 use Rattle.babel_state.specs.Hellos.{forget_neighbour}
-use Rattle.babel_state.specs.Ticks.{forget_each, links_ticked, routes_ticked, is_due_request, is_last, repeated, waited, requested_again, repeated_items, all_repeated_items, requests_ticked, is_due, fired, ihu_items, update_items, timer_items, all_timer_items, interfaces_ticked, sources_ticked, routes_selected, ticked}
+use Rattle.babel_state.specs.Ticks.{forget_each, links_ticked, routes_ticked, is_due_request, is_last, repeated, waited, requested_again, repeated_items, all_repeated_items, requests_ticked, is_due, fired, ihu_items, update_items, timer_items, all_timer_items, interfaces_ticked, sources_ticked, ticked}
 use Rattle.babel_state.specs.Addresses.{address_of}
 use Rattle.babel_state.specs.Calls.{cost_set, set_cost_fault, set_cost_fault_on, is_prefix_too_many, announced_also, withdrawn, select_and_advertise}
 use Rattle.babel_state.specs.Configs.{is_up_to}
-use Rattle.babel_state.specs.Invariants.{IsUsable, AreInterfaces, AreAnnounced, AreSources, AreRequests, HasShortWait, HasHops, AreTables, TicksKeepTables}
+use Rattle.babel_state.specs.Invariants.{IsUsable, HasHops, AreTables, TicksKeepTables}
 use Rattle.babel_state.proofs.CurrentLaws.{sorted_revised}
 use Rattle.babel_state.proofs.Tables.{each_at, each_revised, few_put, few_revised, few_without, in_order_put, in_order_without}
 use Rattle.babel_state.proofs.TableLaws.{interfaces_tables, neighbours_tables, announced_tables, sources_tables, requests_tables, queue_tables, entries_tables, forget_tables, all_tables, select_tables, tick_neighbours, asked_hops, one_hops, to_all_hops}

@@ -1,6 +1,4 @@
 -- Each step keeps a state well formed.
-use Rattle.std.specs.Prelude.{◌≡◌, ℕ, false, None}
-use Rattle.std.proofs.Common.{arith}
 use Rattle.babel_state.specs.CurrentSelections.{MessagesKeepCurrent, AnnouncingKeepsCurrent, WithdrawingKeepsCurrent, RaisingKeepsCurrent}
 use Rattle.babel_state.specs.Invariants.{CostsKeepCurrent, MessagesKeepWellFormed, TicksKeepWellFormed, CostsKeepWellFormed, AnnouncingKeepsWellFormed, WithdrawingKeepsWellFormed, RaisingKeepsWellFormed}
 use Rattle.babel_state.proofs.TableLaws.{message_tables, raised_tables}

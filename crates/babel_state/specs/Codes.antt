@@ -5,6 +5,8 @@ use Rattle.babel_state.specs.declared.errors.ConfigFault.{ConfigFault}
 use Rattle.babel_state.specs.declared.errors.ConfigFault.TheVariants as config_faults
 use Rattle.babel_state.specs.declared.errors.RecvFault.{RecvFault}
 use Rattle.babel_state.specs.declared.errors.RecvFault.TheVariants as recv_faults
+use Rattle.babel_state.specs.declared.errors.RestoreFault.{RestoreFault}
+use Rattle.babel_state.specs.declared.errors.RestoreFault.TheVariants as restore_faults
 use Rattle.babel_state.specs.declared.errors.SetCostFault.{SetCostFault}
 use Rattle.babel_state.specs.declared.errors.SetCostFault.TheVariants as set_cost_faults
 
@@ -16,6 +18,16 @@ config_code config_faults.HelloInterval = codes "C4"
 config_code config_faults.Prefixes = codes "C5"
 config_code config_faults.InterfaceAddresses = codes "C6"
 config_code config_faults.Memory = codes "C7"
+
+abbrev pub restore_code : RestoreFault → List ℕ
+restore_code (restore_faults.Config fault) = config_code fault
+restore_code restore_faults.TooShort = codes "K1"
+restore_code restore_faults.Beginning = codes "K2"
+restore_code restore_faults.RouterId = codes "K3"
+restore_code restore_faults.TooManyRecords = codes "K4"
+restore_code restore_faults.Length = codes "K5"
+restore_code (restore_faults.Record index) = codes "K6"
+restore_code (restore_faults.Order index) = codes "K7"
 
 abbrev pub recv_code : RecvFault → List ℕ
 recv_code recv_faults.NoInterface = codes "S1"

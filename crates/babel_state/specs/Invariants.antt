@@ -1,5 +1,5 @@
 -- What holds of a speaker's state after every call (profile).
-use Rattle.std.specs.Prelude.{◌≡◌, ℕ, ◌<◌, ◌≤◌, ◌^◌, Bool, true, false, List, All, length, IsSome, None, Some, ⊤}
+use Rattle.std.specs.Prelude.{◌≡◌, ℕ, ◌<◌, ◌≤◌, ◌^◌, true, false, List, All, length, IsSome, None, Some, ⊤}
 use Rattle.std.specs.FinMap.{is_sorted}
 use Rattle.babel_value.specs.declared.keys.Peer.{Peer}
 use Rattle.babel_value.specs.declared.keys.Source.{Source}

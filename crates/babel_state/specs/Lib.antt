@@ -21,3 +21,4 @@ pub mod Invariants
 pub mod SeenLaws
 pub mod SettledLaws
 pub mod QueueLaws
+pub mod Restarts

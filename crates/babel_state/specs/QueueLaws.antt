@@ -1,5 +1,5 @@
 -- What is proved of the queue and of the items that mean nothing (profile).
-use Rattle.std.specs.Prelude.{◌≡◌, ℕ, Bool, true, false, List, [], ◌∷◌, ◌++◌, All, IsSome, Option, None, is_none}
+use Rattle.std.specs.Prelude.{◌≡◌, ℕ, Bool, true, false, List, [], ◌∷◌, ◌++◌, All, IsSome, is_none}
 use Rattle.std.specs.List.{list_all}
 use Rattle.babel_packet.specs.declared.messages.Message.{Message}
 use Rattle.babel_packet.specs.Encodable.{is_encodable}

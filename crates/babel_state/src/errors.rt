@@ -2,7 +2,7 @@
 //! program prints.
 
 ghost use Rattle.std.specs.Prelude.{◌≡◌, codes};
-ghost use Rattle.babel_state.specs.Codes.{config_code, set_cost_code, recv_code};
+ghost use Rattle.babel_state.specs.Codes.{config_code, restore_code, set_cost_code, recv_code};
 
 use babel_packet::Refusal;
 use thiserror::Error;
@@ -47,6 +47,54 @@ impl ConfigFault {
             ConfigFault::Prefixes => "C5",
             ConfigFault::InterfaceAddresses => "C6",
             ConfigFault::Memory => "C7",
+        }
+    }
+}
+
+/// Why no speaker is restored. C1 to C6 are tested first, then K1 to K7 in this order, and C7 comes
+/// last. Records of sources count from 0, and for each record K6 comes before K7.
+#[derive(Clone, Copy, Debug, PartialEq, Eq, Error)]
+pub enum RestoreFault {
+    /// C1 to C7: no speaker can be made of the configuration.
+    #[error("{0}")]
+    Config(#[from] ConfigFault),
+    /// K1: there are fewer than 24 octets.
+    #[error("the snapshot is shorter than its head")]
+    TooShort,
+    /// K2: the first 4 octets are others.
+    #[error("the octets are no snapshot")]
+    Beginning,
+    /// K3: the router-id isn't the configuration's.
+    #[error("the snapshot is of another router-id")]
+    RouterId,
+    /// K4: there are more than 512 records.
+    #[error("the snapshot has more than 512 sources")]
+    TooManyRecords,
+    /// K5: the length isn't 24 octets and 30 for each record.
+    #[error("the snapshot's length isn't that of its records")]
+    Length,
+    /// K6: the record with this index encodes no source, or its metric is infinite.
+    #[error("record {0} encodes no source with a finite metric")]
+    Record(usize),
+    /// K7: the record with this index isn't greater than the one before it.
+    #[error("record {0} isn't in order")]
+    Order(usize),
+}
+
+impl RestoreFault {
+    /// The code: `K1` to `K7`, or that of the configuration's fault, `C1` to `C7`.
+    pub fn code(self) -> &'static str
+        ensures { result.now ≡ restore_code self }
+    {
+        match self {
+            RestoreFault::Config(fault) => fault.code(),
+            RestoreFault::TooShort => "K1",
+            RestoreFault::Beginning => "K2",
+            RestoreFault::RouterId => "K3",
+            RestoreFault::TooManyRecords => "K4",
+            RestoreFault::Length => "K5",
+            RestoreFault::Record(_) => "K6",
+            RestoreFault::Order(_) => "K7",
         }
     }
 }

@@ -5,6 +5,7 @@ ghost use Rattle.babel_state.specs.declared.items.Item.{Item};
 ghost use Rattle.babel_state.specs.Invariants.{CostsKeepCurrent, SendingKeepsSelected, SendingKeepsSelections, SendingKeepsCurrentInHalf, NewSpeakersAreWellFormed, MessagesKeepWellFormed, TicksKeepWellFormed, SendingKeepsWellFormed, CostsKeepWellFormed, AnnouncingKeepsWellFormed, WithdrawingKeepsWellFormed, RaisingKeepsWellFormed};
 ghost use Rattle.babel_state.specs.Queueing.{Pending, queued, queued_at_once};
 ghost use Rattle.babel_state.specs.QueueLaws.{QueueingAppends, NothingIsSkipped, NoneIfNothingPending, ItemsAreEncodable, DatagramsAreEncodable, ItemsHaveInterfaces};
+ghost use Rattle.babel_state.specs.Restarts.{SnapshotsAreSeen, RestartsAreSeen, SnapshotsAreWhole, RestoredAreWellFormed, RestartsAreWellFormed, RestoredAreCurrent};
 ghost use Rattle.babel_state.specs.SettledLaws.{SettledReselectsNothing, HellosKeepCurrent, IhusKeepCurrent, TimersKeepCurrent};
 ghost use Rattle.babel_state.specs.SeenLaws.{DatagramsSend, NoDatagramChangesNothing, PlacesMove, TicksMove, CostsMove, AnnouncingMoves, WithdrawingMoves, RaisingMoves, MessagesAreHeard, NewSpeakersAreNew, CurrentIsSelecting, TicksHearNothing};
 ghost use Rattle.babel_state.specs.CurrentSelections.{MessagesKeepCurrent, PlacesKeepCurrent, AnnouncingKeepsCurrent, WithdrawingKeepsCurrent, RaisingKeepsCurrent, NewSpeakersAreCurrent, ReselectionsMakeCurrent, TicksMakeCurrent};
@@ -147,4 +148,16 @@ pub fn settled_speakers_reselect_nothing()
     ensures hello { HellosKeepCurrent }
     ensures ihu { IhusKeepCurrent }
     ensures timers { TimersKeepCurrent }
+{}
+
+/// What a network sees of a restart: the sources, the own seqno and the count of raises stay, and there is
+/// no route. What is restored of a snapshot is well formed, and its selections are current.
+#[inline]
+pub fn restarts_are_seen()
+    ensures restarted { RestartsAreSeen }
+    ensures restored { SnapshotsAreSeen }
+    ensures whole { SnapshotsAreWhole }
+    ensures restored_well_formed { RestoredAreWellFormed }
+    ensures restarted_well_formed { RestartsAreWellFormed }
+    ensures current { RestoredAreCurrent }
 {}
