@@ -12,3 +12,4 @@ pub mod QuietTicks
 pub mod Settling
 pub mod FirstFits
 pub mod SettledSends
+pub mod Restoring

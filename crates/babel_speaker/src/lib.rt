@@ -19,6 +19,7 @@ mod queueing;
 mod receiving;
 mod requests;
 mod reselection;
+mod restarts;
 mod scratch;
 mod sending;
 mod seqno_requests;

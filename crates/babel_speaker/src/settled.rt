@@ -11,14 +11,17 @@ ghost use Rattle.babel_state.specs.NextDatagram.{next_datagram};
 ghost use Rattle.babel_state.specs.SeqnoRequests.{raised};
 ghost use Rattle.babel_state.specs.State.{announces};
 ghost use Rattle.babel_state.specs.Ticks.{ticked};
-ghost use Rattle.babel_speaker.specs.Making.{IsMakingFault};
+ghost use Rattle.babel_state.specs.Restarts.{restored, IsSnapshot};
+ghost use Rattle.babel_snapshot.specs.Reading.{restore_fault, snapshot_in};
+ghost use Rattle.babel_speaker.specs.Making.{IsMakingFault, IsRestoreFault};
 ghost use Rattle.babel_state.specs.QueueLaws.{is_silent};
 ghost use Rattle.babel_speaker.specs.Sending.{are_encodable, fits_by, HaveTransports, MeansFrom};
 
 use crate::{Core, Scratch};
 use arrayvec::ArrayVec;
 use babel_state::{
-    Config, ConfigFault, NotAnnounced, Note, RecvFault, SetCostFault, Target, TooManyPrefixes,
+    Config, ConfigFault, NotAnnounced, Note, RecvFault, RestoreFault, SetCostFault, Target,
+    TooManyPrefixes,
 };
 use babel_tlv::DATAGRAM_LEN;
 use babel_value::{Addr, Prefix};
@@ -53,6 +56,28 @@ impl SettledCore {
         ensures refused { IfErr result (λ fault. IsMakingFault (config_fault config.now) fault) }
     {
         match Core::new(alloc, config) {
+            Ok(core) => Ok(SettledCore {
+                core,
+                is_settled: false,
+            }),
+            Err(fault) => Err(fault),
+        }
+    }
+
+    /// The state after a restart, as `Core::restore`.
+    pub(crate) fn restore(
+        alloc: Global,
+        config: &Config,
+        now: u64,
+        octets: &[u8],
+    ) -> Result<SettledCore, RestoreFault>
+        ensures ok { IfOk result (λ core. core ≡ restored now config.now (snapshot_in octets.now)) }
+        ensures valid { IsOk result → IsNone (config_fault config.now) }
+        ensures whole { IsOk result → IsNone (restore_fault config.now.router_id octets.now) }
+        ensures refused { IfErr result (λ fault. IsRestoreFault (config_fault config.now) (restore_fault config.now.router_id octets.now) fault) }
+        ensures snapshot { IfOk result (λ core. IsSnapshot (snapshot_in octets.now)) }
+    {
+        match Core::restore(alloc, config, now, octets) {
             Ok(core) => Ok(SettledCore {
                 core,
                 is_settled: false,

@@ -17,17 +17,22 @@ ghost use Rattle.babel_state.specs.SeqnoRequests.{raised};
 ghost use Rattle.babel_state.specs.State.{announces, pair_at};
 ghost use Rattle.babel_state.specs.Ticks.{ticked};
 ghost use Rattle.babel_value.specs.Prefixes.{PrefixValue};
-ghost use Rattle.babel_speaker.specs.Making.{IsMakingFault};
+ghost use Rattle.babel_state.specs.Restarts.{snapshot_of, restored, IsRestartedFrom};
+ghost use Rattle.babel_snapshot.specs.Octets.{snapshot_octets};
+ghost use Rattle.babel_snapshot.specs.Reading.{restore_fault, snapshot_in};
+ghost use Rattle.babel_snapshot.specs.SnapshotLaws.{IsRead};
+ghost use Rattle.babel_speaker.specs.Making.{IsMakingFault, IsRestoreFault};
 ghost use Rattle.babel_speaker.specs.Sending.{fits_by, MeansFrom};
 
 use crate::decoded::decoded_are_encodable;
 use crate::{Scratch, SettledCore};
 use arrayvec::ArrayVec;
-use babel_route::Entry;
+use babel_route::{Entry, Memory};
 use babel_state::{
-    Config, ConfigFault, NotAnnounced, Note, RecvFault, Selected, SetCostFault, Target,
-    TooManyPrefixes, calls_move, datagrams_send, items_mean_messages, selected_routes_are_good,
-    selections_are_current, selections_stay_current, states_are_well_formed,
+    Config, ConfigFault, NotAnnounced, Note, RecvFault, RestoreFault, Selected, SetCostFault,
+    Target, TooManyPrefixes, calls_move, datagrams_send, items_mean_messages, restarts_are_seen,
+    selected_routes_are_good, selections_are_current, selections_stay_current,
+    states_are_well_formed,
 };
 use babel_tlv::DATAGRAM_LEN;
 use babel_value::{Addr, Distance, Metric, Peer, Prefix, Source};
@@ -102,6 +107,77 @@ impl Speaker {
                 scratch,
             }),
             Err(_) => Err(ConfigFault::Memory),
+        }
+    }
+
+    /// The speaker's router-id, its own seqno, how often that grew, and its source table, as octets that
+    /// [`Speaker::restore`] reads.
+    ///
+    /// # Errors
+    ///
+    /// `Memory`: an allocation failed.
+    pub fn save(&self) -> Result<Vec<u8>, Memory>
+        ensures ok { IfOk result (λ octets. octets.items ≡ snapshot_octets (snapshot_of self.now)) }
+        ensures restorable { IfOk result (λ octets. IsRead self.now.router octets.items (snapshot_of self.now)) }
+    {
+        let octets = self.core.core.save(self.alloc)?;
+        Ok(octets)
+    }
+
+    /// A speaker of the configuration with the seqno, the count of raises and the source table that were
+    /// saved. Each source counts as sent at the moment `now`. Routes, neighbours, requests and pending
+    /// items aren't kept.
+    ///
+    /// # Errors
+    ///
+    /// The first of C1 to C6 that the configuration has, then the first of K1 to K7 that the octets have.
+    /// C7 if there is none and an allocation fails.
+    pub fn restore(
+        alloc: Global,
+        config: Config,
+        now: u64,
+        octets: &[u8],
+    ) -> Result<Speaker, RestoreFault>
+        ensures ok { IfOk result (λ speaker. speaker ≡ restored now config (snapshot_in octets.now)) }
+        ensures valid { IsOk result → IsNone (config_fault config) }
+        ensures whole { IsOk result → IsNone (restore_fault config.router_id octets.now) }
+        ensures refused { IfErr result (λ fault. IsRestoreFault (config_fault config) (restore_fault config.router_id octets.now) fault) }
+        ensures seen { IfOk result (λ speaker. IsRestartedFrom config (snapshot_in octets.now) speaker) }
+        ensures current { IfOk result (λ speaker. AreCurrent speaker) }
+    {
+        Speaker::restore_from(alloc, &config, now, octets)
+    }
+
+    /// The same of a configuration that the caller keeps.
+    ///
+    /// # Errors
+    ///
+    /// Those of [`Speaker::restore`].
+    pub fn restore_from(
+        alloc: Global,
+        config: &Config,
+        now: u64,
+        octets: &[u8],
+    ) -> Result<Speaker, RestoreFault>
+        ensures ok { IfOk result (λ speaker. speaker ≡ restored now config.now (snapshot_in octets.now)) }
+        ensures valid { IsOk result → IsNone (config_fault config.now) }
+        ensures whole { IsOk result → IsNone (restore_fault config.now.router_id octets.now) }
+        ensures refused { IfErr result (λ fault. IsRestoreFault (config_fault config.now) (restore_fault config.now.router_id octets.now) fault) }
+        ensures seen { IfOk result (λ speaker. IsRestartedFrom config.now (snapshot_in octets.now) speaker) }
+        ensures current { IfOk result (λ speaker. AreCurrent speaker) }
+    {
+        restarts_are_seen();
+        let core = match SettledCore::restore(alloc, config, now, octets) {
+            Ok(core) => core,
+            Err(fault) => return Err(fault),
+        };
+        match Scratch::new(alloc) {
+            Ok(scratch) => Ok(Speaker {
+                alloc,
+                core,
+                scratch,
+            }),
+            Err(_) => Err(RestoreFault::Config(ConfigFault::Memory)),
         }
     }
 
