@@ -58,6 +58,11 @@ pub receive_keeps : {A B : Type 0} (r : Result A B) (items : A → List Note) (n
 receive_keeps (Ok notes) items now peer fault read old new ok err sorted current = subst AreCurrent (sym ok.3) (places_current now peer ok.0 old sorted current)
 receive_keeps (Err e) items now peer fault read old new ok err sorted current = subst AreCurrent (sym err) current
 
+-- A speaker that was settled stays so, or it becomes so.
+pub settled_or_not : (old new : Bool) (t : State) → (old ≡ true → AreCurrent t) → (old ≡ false → new ≡ true → AreCurrent t) → new ≡ true → AreCurrent t
+settled_or_not true new t stays becomes is = stays refl
+settled_or_not false new t stays becomes is = becomes refl is
+
 -- ---- Hellos and IHUs
 
 not_false : (b : Bool) → not b ≡ false → b ≡ true

@@ -94,7 +94,7 @@ impl Core {
     }
 
     /// Handles a Hello (RFC 8966, section 3.4.1). Costs may change by it; then all routes are selected
-    /// again.
+    /// again. All selections are current then.
     #[tactic(auto, unfolding(babel_state::specs::Hellos::handle_hello))]
     pub(crate) fn handle_hello(
         &mut self,
@@ -107,7 +107,8 @@ impl Core {
         scratch: &mut Scratch,
     ) -> Verdict
         requires settled { IsTrue settled → AreCurrent self.old }
-        ensures { (self.new, result) ≡ handle_hello now peer.now unicast seqno interval self.old }
+        ensures state { (self.new, result) ≡ handle_hello now peer.now unicast seqno interval self.old }
+        ensures current { AreCurrent self.new }
     {
         match self.hear(now, peer, unicast, seqno, interval) {
             Ok(changed) => {
@@ -141,7 +142,7 @@ impl Core {
     }
 
     /// Handles an IHU (RFC 8966, section 3.4.2). A cost may change by it; then all routes are selected
-    /// again.
+    /// again. After an IHU for this speaker all selections are current, and the speaker is settled.
     #[tactic(auto, unfolding(babel_state::specs::Hellos::handle_ihu))]
     pub(crate) fn handle_ihu(
         &mut self,
@@ -150,17 +151,19 @@ impl Core {
         to: &Option<Addr>,
         rxcost: Metric,
         interval: u16,
-        settled: bool,
+        settled: &mut bool,
         scratch: &mut Scratch,
     ) -> Verdict
-        requires settled { IsTrue settled → AreCurrent self.old }
-        ensures { (self.new, result) ≡ handle_ihu now peer.now to.now rxcost interval self.old }
+        requires settled { IsTrue settled.old → AreCurrent self.old }
+        ensures state { (self.new, result) ≡ handle_ihu now peer.now to.now rxcost interval self.old }
+        ensures current { IsFalse settled.old → IsTrue settled.new → AreCurrent self.new }
     {
         if !self.is_for_interface(peer.iface, to) {
             return Verdict::OtherAddress;
         }
         let changed = self.hear_ihu(now, peer, rxcost, interval);
-        self.reselect_after(changed, settled, now, scratch);
+        self.reselect_after(changed, *settled, now, scratch);
+        *settled = true;
         Verdict::Taken
     }
 }

@@ -1,6 +1,6 @@
 //! The step of a speaker for each message of a datagram (RFC 8966, sections 3.3 to 3.8).
 
-ghost use Rattle.std.specs.Prelude.{◌≡◌, IsTrue};
+ghost use Rattle.std.specs.Prelude.{◌≡◌, IsTrue, IsFalse};
 ghost use Rattle.babel_state.specs.CurrentSelections.{AreCurrent};
 ghost use Rattle.babel_state.specs.Messages.{handle_from_neighbour, handle_message, handle_content};
 
@@ -16,11 +16,12 @@ impl Core {
         now: u64,
         peer: &Peer,
         message: &Message,
-        settled: bool,
+        settled: &mut bool,
         scratch: &mut Scratch,
     ) -> Verdict
-        requires settled { IsTrue settled → AreCurrent self.old }
-        ensures { (self.new, result) ≡ handle_from_neighbour now peer.now message.now self.old }
+        requires settled { IsTrue settled.old → AreCurrent self.old }
+        ensures state { (self.new, result) ≡ handle_from_neighbour now peer.now message.now self.old }
+        ensures current { IsFalse settled.old → IsTrue settled.new → AreCurrent self.new }
     {
         match message {
             Message::Ihu {
@@ -70,11 +71,12 @@ impl Core {
         now: u64,
         peer: &Peer,
         message: &Message,
-        settled: bool,
+        settled: &mut bool,
         scratch: &mut Scratch,
     ) -> Verdict
-        requires settled { IsTrue settled → AreCurrent self.old }
-        ensures { (self.new, result) ≡ handle_message now peer.now message.now self.old }
+        requires settled { IsTrue settled.old → AreCurrent self.old }
+        ensures state { (self.new, result) ≡ handle_message now peer.now message.now self.old }
+        ensures current { IsFalse settled.old → IsTrue settled.new → AreCurrent self.new }
     {
         match message {
             Message::AckRequest { opaque, .. } => {
@@ -88,7 +90,13 @@ impl Core {
                 unicast,
                 seqno,
                 interval,
-            } => self.handle_hello(now, peer, *unicast, *seqno, *interval, settled, scratch),
+            } => {
+                let verdict = self.handle_hello(
+                    now, peer, *unicast, *seqno, *interval, *settled, scratch,
+                );
+                *settled = true;
+                verdict
+            }
             _ => {
                 if self.is_neighbour(peer) {
                     self.handle_from_neighbour(now, peer, message, settled, scratch)
@@ -99,19 +107,20 @@ impl Core {
         }
     }
 
-    /// Handles one of the contents of a datagram. All selections stay current if they are.
+    /// Handles one of the contents of a datagram. All selections stay current if they are. After a Hello, or an IHU for
+    /// this speaker, they are current, and the speaker is settled.
     #[tactic(auto, using(crate::proofs::Settling::content_current))]
     pub(crate) fn handle_content(
         &mut self,
         now: u64,
         peer: &Peer,
         content: &Content,
-        settled: bool,
+        settled: &mut bool,
         scratch: &mut Scratch,
     ) -> Verdict
-        requires settled { IsTrue settled → AreCurrent self.old }
+        requires settled { IsTrue settled.old → AreCurrent self.old }
         ensures state { (self.new, result) ≡ handle_content now peer.now content.now self.old }
-        ensures current { IsTrue settled → AreCurrent self.new }
+        ensures current { IsTrue settled.new → AreCurrent self.new }
     {
         self.routes_are_in_order();
         match content {

@@ -34,14 +34,14 @@ impl Core {
         peer: &Peer,
         placed: &[Placed],
         notes: &mut Vec<Note>,
-        settled: bool,
+        settled: &mut bool,
         scratch: &mut Scratch,
     )
-        requires settled { IsTrue settled → AreCurrent self.old }
+        requires settled { IsTrue settled.old → AreCurrent self.old }
         requires room { vec_len notes.old + length placed.now ≤ vec_capacity notes.old }
         ensures state { self.new ≡ after_places now peer.now placed.now self.old }
         ensures notes { notes.new.items ≡ notes.old.items ++ notes_of now peer.now placed.now self.old }
-        ensures current { IsTrue settled → AreCurrent self.new }
+        ensures current { IsTrue settled.new → AreCurrent self.new }
     {
         for place in placed {
             let verdict = self.handle_content(now, peer, &place.content, settled, scratch);
@@ -51,7 +51,7 @@ impl Core {
 
     /// Takes a datagram that came over an interface from a source address at the moment `now`, in
     /// centiseconds. There is a note for each TLV. The memory is allocated before anything changes. If the
-    /// speaker is settled, it stays so: all its selections are current.
+    /// speaker is settled, it stays so, and it becomes so by a Hello or an IHU for it.
     pub(crate) fn receive(
         &mut self,
         alloc: Global,
@@ -59,14 +59,14 @@ impl Core {
         iface: u8,
         source: Addr,
         octets: &[u8],
-        settled: bool,
+        settled: &mut bool,
         scratch: &mut Scratch,
     ) -> Result<Vec<Note>, RecvFault>
-        requires settled { IsTrue settled → AreCurrent self.old }
+        requires settled { IsTrue settled.old → AreCurrent self.old }
         ensures ok { IfOk result (λ notes. Receives now (record { iface = iface; addr = source }) (source_fault iface source self.old) (meaning octets.now source) self.old self.new notes.items) }
         ensures refused { IfErr result (λ fault. IsRecvFault (source_fault iface source self.old) (meaning octets.now source) fault) }
         ensures unchanged { OnErr result (self.new ≡ self.old) }
-        ensures current { IsTrue settled → AreCurrent self.new }
+        ensures current { IsTrue settled.new → AreCurrent self.new }
     {
         if let Some(fault) = self.source_fault(iface, &source) {
             return Err(fault);

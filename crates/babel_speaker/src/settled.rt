@@ -100,9 +100,12 @@ impl SettledCore {
         ensures refused { IfErr result (λ fault. IsRecvFault (source_fault iface source self.old) (meaning octets.now source) fault) }
         ensures unchanged { OnErr result (self.new ≡ self.old) }
     {
-        let settled = self.is_settled;
-        self.core
-            .receive(alloc, now, iface, source, octets, settled, scratch)
+        let mut settled = self.is_settled;
+        let notes = self
+            .core
+            .receive(alloc, now, iface, source, octets, &mut settled, scratch);
+        self.is_settled = settled;
+        notes
     }
 
     /// Takes all deadlines that are due.
