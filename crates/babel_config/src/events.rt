@@ -77,6 +77,10 @@ pub(crate) fn parse_event(text: &str) -> Option<Event> {
             node: parse_usize(node)?,
             prefix: parse_prefix(prefix)?,
         }),
+        ["restart", node, now] => Some(Event::Restart {
+            node: parse_usize(node)?,
+            now: parse_u64(now)?,
+        }),
         _ => None,
     }
 }

@@ -29,7 +29,7 @@ transport = "ipv4"
 const EACH_EVENT: &[u8] = br#"
 events = [
     "tick 0 18446744073709551615", "emit 1 2", "deliver 3 0 255 4", "cost 1 0 65535", "raise 1",
-    "announce 0 10.1.2.3/16", "withdraw 1 fd00::/8",
+    "announce 0 10.1.2.3/16", "withdraw 1 fd00::/8", "restart 1 18446744073709551615",
 ]
 [[node]]
 router-id = "0000000000000001"
@@ -180,6 +180,10 @@ fn events_of_each_kind(rt: HostRuntime) -> Result<(), Fail> {
             node: 1,
             prefix: fd00,
         },
+        Event::Restart {
+            node: 1,
+            now: u64::MAX,
+        },
     ];
     assert_eq!(rt; scenario.events.as_slice(), events.as_slice());
     assert_eq!(rt; scenario.configs.len(), 2);
@@ -207,7 +211,11 @@ fn events_of_each_kind(rt: HostRuntime) -> Result<(), Fail> {
         "withdraw 0 10.0.0.0/33",
         "announce 0",
         "emit 0",
-        "restart 0 0",
+        "restart 0",
+        "restart 0 0 0",
+        "restart 0 -1",
+        "restart 0 18446744073709551616",
+        "Restart 0 0",
         "tick 0 0\\n",
     ] {
         let file = format!(in rt.alloc(); "events = [\"raise 0\", \"{text}\", \"x\"]\n")?;
@@ -277,7 +285,7 @@ fn refused_memory_is_a_fault_of_its_own(rt: HostRuntime) -> Result<(), Fail> {
         Err(fault) => assert_eq!(rt; fault, FileFault::Memory),
     }
     match read_scenario(rt.alloc(), EACH_EVENT) {
-        Ok(scenario) => assert_eq!(rt; scenario.events.len(), 7),
+        Ok(scenario) => assert_eq!(rt; scenario.events.len(), 8),
         Err(fault) => assert_eq!(rt; fault, FileFault::Memory),
     }
     match read_file(rt.alloc(), EACH_KEY) {

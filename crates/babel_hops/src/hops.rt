@@ -106,6 +106,7 @@ pub(crate) fn node_of(event: &Event) -> usize {
         | Event::SetCost { node, .. }
         | Event::Raise { node }
         | Event::Announce { node, .. }
-        | Event::Withdraw { node, .. } => *node,
+        | Event::Withdraw { node, .. }
+        | Event::Restart { node, .. } => *node,
     }
 }

@@ -55,7 +55,7 @@ address_listed Ipv6 i addr is =
 pub contains_slice_get : {X : Type 0} → (xs : List X) (i : ℕ) (x : X) → slice_get xs i ≡ Some x → Contains xs x
 contains_slice_get xs i x is = (i, slice_get_within xs i x is, get_or_from_slice_get xs i x x is)
 
-owned : (configs : List Config) (b : ℕ) (c : Config) (family : Family) (iface : ℕ) (addr : Addr) → AreApart configs → slice_get configs b ≡ Some c → option_and_then (λ i. address_of family (new_interface i)) (slice_get c.interfaces.items iface) ≡ Some addr → owner_of configs addr ≡ Some b
+pub owned : (configs : List Config) (b : ℕ) (c : Config) (family : Family) (iface : ℕ) (addr : Addr) → AreApart configs → slice_get configs b ≡ Some c → option_and_then (λ i. address_of family (new_interface i)) (slice_get c.interfaces.items iface) ≡ Some addr → owner_of configs addr ≡ Some b
 owned configs b c family iface addr apart is of_iface = by (slice_get c.interfaces.items iface) refl of_iface
   where
     by : (o : Option Interface) → slice_get c.interfaces.items iface ≡ o → option_and_then (λ i. address_of family (new_interface i)) o ≡ Some addr → owner_of configs addr ≡ Some b
@@ -63,7 +63,7 @@ owned configs b c family iface addr apart is of_iface = by (slice_get c.interfac
     by (Some i) at h =
         All-contains (λ a. owner_of configs a ≡ Some b) (addresses_of c) addr (apart.addresses b c is) (Contains-flat_map interface_addresses c.interfaces.items i addr (contains_slice_get c.interfaces.items iface i at) (address_listed family i addr h))
 
-owned_transport : (configs : List Config) (b : ℕ) (c : Config) (iface : ℕ) (addr : Addr) → AreApart configs → slice_get configs b ≡ Some c → option_and_then (λ i. transport_of (new_interface i)) (slice_get c.interfaces.items iface) ≡ Some addr → owner_of configs addr ≡ Some b
+pub owned_transport : (configs : List Config) (b : ℕ) (c : Config) (iface : ℕ) (addr : Addr) → AreApart configs → slice_get configs b ≡ Some c → option_and_then (λ i. transport_of (new_interface i)) (slice_get c.interfaces.items iface) ≡ Some addr → owner_of configs addr ≡ Some b
 owned_transport configs b c iface addr apart is of_iface = by (slice_get c.interfaces.items iface) refl of_iface
   where
     by : (o : Option Interface) → slice_get c.interfaces.items iface ≡ o → option_and_then (λ i. transport_of (new_interface i)) o ≡ Some addr → owner_of configs addr ≡ Some b
@@ -73,7 +73,7 @@ owned_transport configs b c iface addr apart is of_iface = by (slice_get c.inter
 
 -- ---- what holds at first
 
-selecting_none : (x : Seen) → ((prefix : PrefixValue) → x.selected_at prefix ≡ None) → IsSelecting x
+pub selecting_none : (x : Seen) → ((prefix : PrefixValue) → x.selected_at prefix ≡ None) → IsSelecting x
 selecting_none x none = record {
   entry = λ prefix c is. absurd (none-some c (sym (none prefix) ∙ is));
   feasible = λ prefix c is. absurd (none-some c (sym (none prefix) ∙ is));

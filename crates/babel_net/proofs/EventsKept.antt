@@ -1,5 +1,5 @@
 -- What every event keeps, and the machine steps that it is.
-use Rattle.std.proofs.Common.{◌≡◌, ◌⊎◌, ◌<◌, ◌≤◌, ℕ, Bool, true, false, ◌&&◌, ◌||◌, not, List, [], ◌∷◌, Option, Some, None, Contains, All, slice_get, refl, sym, ap, ◌∙◌, subst, inl, inr, arith}
+use Rattle.std.proofs.Common.{◌≡◌, ◌⊎◌, ℕ, Bool, true, false, ◌&&◌, ◌||◌, not, List, [], Some, Contains, refl, sym, subst, inl, inr, arith}
 use Rattle.std.proofs.lemmas.Bool.{false≢true}
 use Rattle.std.proofs.lemmas.List.Elements.{All-contains}
 use Rattle.std.proofs.lemmas.Map.Views.{tells_apart}
@@ -7,31 +7,33 @@ use Rattle.babel_value.proofs.OrderLaws.{prefix_exact}
 use Rattle.babel_value.specs.Prefixes.{PrefixValue}
 use Rattle.babel_state.specs.declared.configs.Config.{Config}
 use Rattle.babel_state.specs.Sameness.{is_same_prefix}
-use Rattle.babel_state.specs.Seen.{Seen, UpdateValue, Moves, announcing_also, announcing_without}
+use Rattle.babel_state.specs.Seen.{Seen, announcing_also, announcing_without}
 use Rattle.babel_net.specs.declared.events.Event.{Event}
 use Rattle.babel_net.specs.declared.events.Event.TheVariants as events
 use Rattle.babel_net.specs.Owners.{owner_of, Lists, AreApart}
-use Rattle.babel_net.specs.Worlds.{World, SentDatagram, speaker_at, with_speaker, updates_if, updates_of}
-use Rattle.babel_net.specs.Happenings.{StepsAlone, Receives, Emits, Happens}
+use Rattle.babel_net.specs.Worlds.{World, SentDatagram, speaker_at, with_speaker, updates_if}
+use Rattle.babel_net.specs.Happenings.{StepsAlone, Receives, Emits, Restarts, Happens}
 use Rattle.babel_net.specs.Views.{NetSource, IsSource, IsCounted, IsRun}
-use Rattle.babel_net.specs.Invariants.{Holds, HoldsFor, IsInvariant}
+use Rattle.babel_net.specs.Invariants.{Holds, IsInvariant}
 use Rattle.babel_net.proofs.Membership.{Contains-nil, Contains-flat_map}
 use Rattle.babel_net.proofs.MachineCycle.{no_cycle}
-use Rattle.babel_net.proofs.Moving.{Moved, moved, Holds-moved}
+use Rattle.babel_net.proofs.Moving.{Moved, Holds-moved}
+use Rattle.babel_net.proofs.MovingCalls.{AreSentBy, AreListed, moved_by_call}
 use Rattle.babel_net.proofs.MovedRuns.{MovedRun, moved_run, start_word}
-use Rattle.babel_net.proofs.Emitting.{emitted, Holds-emitted}
+use Rattle.babel_net.proofs.Emitting.{Holds-emitted}
 use Rattle.babel_net.proofs.EmittedRuns.{emitted_run}
 use Rattle.babel_net.proofs.Beginning.{contains_slice_get}
+use Rattle.babel_net.proofs.Restarting.{moved_by_restart}
 
 -- what an event keeps
 pub record IsKept (configs : List Config) (old new : World) : Type 0 where
   pub holds : Holds configs new
   pub run : (s : NetSource) → IsSource configs s → IsCounted s new → MovedRun configs s old new
 
-kept_moved : (configs : List Config) (node : ℕ) (old new : World) (m : Moved configs node old) → AreApart configs → IsInvariant configs old → new ≡ moved configs node old m → IsKept configs old new
-kept_moved configs node old new m apart inv is = subst (IsKept configs old) (sym is) (record {
-  holds = Holds-moved configs node old m inv.holds;
-  run = λ s source counted. moved_run configs node old m s inv.holds (start_word configs s apart source) (inv.counted s source) counted;
+kept_moved : (configs : List Config) (node : ℕ) (old new : World) (speaker : Seen) (m : Moved configs node old speaker) → AreApart configs → IsInvariant configs old → new ≡ with_speaker old node speaker → IsKept configs old new
+kept_moved configs node old new speaker m apart inv is = subst (IsKept configs old) (sym is) (record {
+  holds = Holds-moved configs node old speaker m inv.holds;
+  run = λ s source counted. moved_run configs node old speaker m s inv.holds (start_word configs s apart source) (inv.counted s source) counted;
 })
 
 kept_emitted : (configs : List Config) (node : ℕ) (old new : World) → Emits node old new → AreApart configs → IsInvariant configs old → IsKept configs old new
@@ -47,19 +49,9 @@ kept_same configs old new inv is = subst (IsKept configs old) (sym is) (record {
 })
 
 -- a step in which nothing is received
-alone : (configs : List Config) (node growths : ℕ) (announced : PrefixValue → Bool) (old new : World) → AreApart configs → IsInvariant configs old → ((p : PrefixValue) → announced p ≡ true → ((speaker_at old node).announces p ≡ true) ⊎ Lists configs node p) → StepsAlone node growths announced old new → IsKept configs old new
+alone : (configs : List Config) (node growths : ℕ) (announced : PrefixValue → Bool) (old new : World) → AreApart configs → IsInvariant configs old → AreListed configs node old announced → StepsAlone node growths announced old new → IsKept configs old new
 alone configs node growths announced old new apart inv listed h =
-    kept_moved configs node old new (record {
-      inside = h.inside;
-      peer = h.peer;
-      updates = [];
-      growths = growths;
-      announced = announced;
-      speaker = h.speaker;
-      moves = h.moves;
-      known = λ u there. absurd (Contains-nil u there);
-      listed = listed;
-    }) apart inv h.next
+    kept_moved configs node old new h.speaker (moved_by_call configs node old h.peer [] growths announced h.speaker inv.holds h.inside h.moves (λ u there. absurd (Contains-nil u there)) listed) apart inv h.next
 
 same_announced : (configs : List Config) (node : ℕ) (old : World) (p : PrefixValue) → (speaker_at old node).announces p ≡ true → ((speaker_at old node).announces p ≡ true) ⊎ Lists configs node p
 same_announced configs node old p is = inl is
@@ -84,23 +76,22 @@ own_updates d = grind arith
 
 received : (configs : List Config) (number node iface : ℕ) (old new : World) → AreApart configs → IsInvariant configs old → Receives number node iface old new → IsKept configs old new
 received configs number node iface old new apart inv h =
-    kept_moved configs node old new (record {
-      inside = h.inside;
-      peer = record { iface = iface; addr = h.datagram.source };
-      updates = h.datagram.updates;
-      growths = h.growths;
-      announced = (speaker_at old node).announces;
-      speaker = h.speaker;
-      moves = h.moves;
-      known = λ u there. (h.datagram.node, owner, Contains-flat_map (updates_if h.datagram.node) old.sent h.datagram u recorded (subst (λ us. Contains us u) (sym (own_updates h.datagram)) there));
-      listed = λ p is. inl is;
-    }) apart inv h.next
+    kept_moved configs node old new h.speaker (moved_by_call configs node old (record { iface = iface; addr = h.datagram.source }) h.datagram.updates h.growths (speaker_at old node).announces h.speaker inv.holds h.inside h.moves known (λ p is. inl is)) apart inv h.next
   where
     recorded : Contains old.sent h.datagram
     recorded = contains_slice_get old.sent number h.datagram h.is
 
     owner : owner_of configs h.datagram.source ≡ Some h.datagram.node
     owner = All-contains (λ (d : SentDatagram). owner_of configs d.source ≡ Some d.node) old.sent h.datagram inv.holds.sources recorded
+
+    known : AreSentBy configs old (record { iface = iface; addr = h.datagram.source }) h.datagram.updates
+    known u there =
+        (h.datagram.node, owner, Contains-flat_map (updates_if h.datagram.node) old.sent h.datagram u recorded (subst (λ us. Contains us u) (sym (own_updates h.datagram)) there))
+
+-- a restart
+restarted : (configs : List Config) (node : ℕ) (old new : World) → AreApart configs → IsInvariant configs old → Restarts configs node old new → IsKept configs old new
+restarted configs node old new apart inv h =
+    kept_moved configs node old new h.speaker (moved_by_restart configs node old new apart inv.holds h) apart inv h.next
 
 pub event_kept : (configs : List Config) (event : Event) (old new : World) → AreApart configs → IsInvariant configs old → Happens configs event old new → IsKept configs old new
 event_kept configs (events.Tick node now) old new apart inv h = alone configs node 0 _ old new apart inv (same_announced configs node old) h
@@ -112,6 +103,7 @@ event_kept configs (events.SetCost node iface cost) old new apart inv h = alone 
 event_kept configs (events.Raise node) old new apart inv h = alone configs node 1 _ old new apart inv (same_announced configs node old) h
 event_kept configs (events.Announce node prefix) old new apart inv h = alone configs node 0 _ old new apart inv (also_announced configs node old prefix h.0) h.1
 event_kept configs (events.Withdraw node prefix) old new apart inv h = alone configs node 0 _ old new apart inv (less_announced configs node old prefix) h
+event_kept configs (events.Restart node now) old new apart inv h = restarted configs node old new apart inv h
 
 pub event_invariant : (configs : List Config) (event : Event) (old new : World) → AreApart configs → IsInvariant configs old → Happens configs event old new → IsInvariant configs new
 event_invariant configs event old new apart inv h =

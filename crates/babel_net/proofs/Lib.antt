@@ -11,10 +11,12 @@ mod SourceEntries
 mod ViewRuns
 mod Picking
 mod Moving
+mod MovingCalls
 mod MovedRuns
 mod Emitting
 mod EmittedRuns
 mod Beginning
+mod Restarting
 mod EventsKept
 mod Following
 mod Joining

@@ -4,6 +4,7 @@ use Rattle.babel_value.specs.declared.addresses.Addr.{Addr}
 use Rattle.babel_value.specs.declared.keys.Peer.{Peer}
 use Rattle.babel_value.specs.Prefixes.{PrefixValue}
 use Rattle.babel_state.specs.declared.configs.Config.{Config}
+use Rattle.babel_state.specs.Restarts.{IsRestarted}
 use Rattle.babel_state.specs.Seen.{Seen, UpdateValue, Moves, Sends, announcing_also, announcing_without}
 use Rattle.babel_net.specs.declared.events.Event.{Event}
 use Rattle.babel_net.specs.declared.events.Event.TheVariants as events
@@ -42,6 +43,15 @@ pub record Emits (node : ℕ) (old new : World) : Type 0 where
   pub sends : Sends iface updates (speaker_at old node) speaker
   pub next : new ≡ with_datagram (with_speaker old node speaker) (record { node = node; source = source; updates = updates })
 
+-- The node's speaker is restarted with the node's configuration. Nothing else changes, and nothing is sent.
+pub record Restarts (configs : List Config) (node : ℕ) (old new : World) : Type 0 where
+  pub inside : node < length old.speakers
+  pub config : Config
+  pub is : slice_get configs node ≡ Some config
+  pub speaker : Seen
+  pub restarted : IsRestarted config (speaker_at old node) speaker
+  pub next : new ≡ with_speaker old node speaker
+
 -- An event that isn't refused leads from one world to another.
 abbrev pub Happens : List Config → Event → World → World → Type 0
 Happens configs (events.Tick node now) old new = StepsAlone node 0 (speaker_at old node).announces old new
@@ -55,6 +65,7 @@ Happens configs (events.Announce node prefix) old new =
     Lists configs node prefix × StepsAlone node 0 (announcing_also prefix (speaker_at old node)) old new
 Happens configs (events.Withdraw node prefix) old new =
     StepsAlone node 0 (announcing_without prefix (speaker_at old node)) old new
+Happens configs (events.Restart node now) old new = Restarts configs node old new
 
 -- The events happen one after the other, and these are the worlds after each of them.
 abbrev pub HappenAll : List Config → List Event → World → List World → Type 0

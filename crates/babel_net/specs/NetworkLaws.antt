@@ -6,8 +6,10 @@ use Rattle.babel_value.specs.Distances.{is_better}
 use Rattle.babel_state.specs.declared.configs.Config.{Config}
 use Rattle.babel_state.specs.Seen.{UpdateValue, is_of_source}
 use Rattle.babel_net.specs.declared.events.Event.{Event}
+use Rattle.babel_net.specs.declared.events.Event.TheVariants as events
 use Rattle.babel_net.specs.declared.machine.step.Step.{Step}
-use Rattle.babel_net.specs.Machine.{IsBetterPair, SourceState, MachineRun, first_state}
+use Rattle.babel_net.specs.declared.machine.step.Step.TheVariants.{Drop}
+use Rattle.babel_net.specs.Machine.{IsBetterPair, SourceState, MachineRun, Run, first_state}
 use Rattle.babel_net.specs.Cycle.{NoCycle, next_hop_of}
 use Rattle.babel_net.specs.Owners.{AreApart, Lists}
 use Rattle.babel_net.specs.Worlds.{World, IsFirst, speaker_at, updates_of, next_hop_in, router_in, NoLoopNaming, NoLoop}
@@ -38,6 +40,13 @@ EventsAreRuns =
     (configs : List Config) (event : Event) (old new : World) (s : NetSource) →
     AreApart configs → IsInvariant configs old → Happens configs event old new →
     IsSource configs s → IsCounted s new → IsRun configs s old new
+
+-- A restart drops the node's picks, and changes nothing else: neither what was sent, nor how often a router-id was raised.
+abbrev pub RestartsAreDrops : Type 0
+RestartsAreDrops =
+    (configs : List Config) (node now : ℕ) (old new : World) (s : NetSource) →
+    AreApart configs → IsInvariant configs old → Happens configs (events.Restart node now) old new →
+    Run (view configs s old) (Drop node ∷ []) (view configs s new)
 
 -- On all that was ever sent for a counted source, the circular order of seqnos is that of whole numbers.
 abbrev pub OrdersAgree : Type 0

@@ -2,7 +2,7 @@
 //! contract of a function that does nothing.
 
 ghost use Rattle.babel_net.specs.Acceptance.{AcceptedAreApart};
-ghost use Rattle.babel_net.specs.NetworkLaws.{FirstIsSound, FirstViews, EventsAreSound, EventsAreRuns, OrdersAgree, NextHopsArePicks, NoLoopAfterAnyEvents, NoLoopWithOneOrigin, SourcesRunTogether, SoundHasNoLoop, SoundHasNoLoopWithOneOrigin, SoundRunsTogether};
+ghost use Rattle.babel_net.specs.NetworkLaws.{FirstIsSound, FirstViews, EventsAreSound, EventsAreRuns, RestartsAreDrops, OrdersAgree, NextHopsArePicks, NoLoopAfterAnyEvents, NoLoopWithOneOrigin, SourcesRunTogether, SoundHasNoLoop, SoundHasNoLoopWithOneOrigin, SoundRunsTogether};
 
 /// Configurations without a fault, M5 to M2, are apart: no two nodes share an address or a router-id, and none
 /// collects sources.
@@ -26,6 +26,12 @@ pub fn events_keep_the_invariant()
 /// leaves no cycle.
 pub fn events_are_machine_runs()
     ensures { EventsAreRuns }
+{}
+
+/// A restart that keeps the source table and the own seqno is one machine step for each source: the node drops its
+/// pick. Nothing is sent, and no router-id is raised.
+pub fn restarts_are_drops()
+    ensures { RestartsAreDrops }
 {}
 
 /// On everything that was ever sent for such a source, the circular order of seqnos is that of whole numbers.

@@ -28,10 +28,11 @@ pub fault_past : (event : Event) (n : NetworkState) → length n.speakers ≤ no
 unfolding step_fault
 fault_past event n past = ap (λ (o : Option State). fault_at o (slice_get n.configs (node_of event)) event n) (slice_get_past n.speakers (node_of event) past)
 
--- an event without a datagram
+-- an event without a datagram that takes no memory
 abbrev pub IsCall : Event → Type 0
 IsCall (events.Emit node now) = ⊥
 IsCall (events.Deliver number node iface now) = ⊥
+IsCall (events.Restart node now) = ⊥
 IsCall event = Unit {0}
 
 pub call_made : (event : Event) (old new : NetworkState) → IsCall event → MakesCall (node_of event) event old new → Makes event old new
@@ -42,6 +43,7 @@ call_made (events.SetCost node iface cost) old new is made = made
 call_made (events.Raise node) old new is made = made
 call_made (events.Announce node prefix) old new is made = made
 call_made (events.Withdraw node prefix) old new is made = made
+call_made (events.Restart node now) old new is made = absurd is
 
 pub call_fault_is : (event : Event) (n : NetworkState) (s : State) (c : Config) → IsCall event → event_fault c s event n ≡ call_fault c s event
 call_fault_is (events.Tick node now) n s c is = refl
@@ -51,6 +53,7 @@ call_fault_is (events.SetCost node iface cost) n s c is = refl
 call_fault_is (events.Raise node) n s c is = refl
 call_fault_is (events.Announce node prefix) n s c is = refl
 call_fault_is (events.Withdraw node prefix) n s c is = refl
+call_fault_is (events.Restart node now) n s c is = absurd is
 
 not_below : (a b : ℕ) → b ≤ a → nat_lt a b ≡ false
 not_below a b h = grind (arith, nat_tests)
@@ -100,14 +103,15 @@ node_is n node net inside = by (slice_get_cases n.speakers node).1 (slice_get_ca
 
 -- ---- an event without a datagram
 
-pub is_call : (event : Event) → ((node now : ℕ) → event ≡ events.Emit node now → ⊥) → ((number node iface now : ℕ) → event ≡ events.Deliver number node iface now → ⊥) → IsCall event
-is_call (events.Tick node now) a b = tt
-is_call (events.Emit node now) a b = a node now refl
-is_call (events.Deliver number node iface now) a b = b number node iface now refl
-is_call (events.SetCost node iface cost) a b = tt
-is_call (events.Raise node) a b = tt
-is_call (events.Announce node prefix) a b = tt
-is_call (events.Withdraw node prefix) a b = tt
+pub is_call : (event : Event) → ((node now : ℕ) → event ≡ events.Emit node now → ⊥) → ((number node iface now : ℕ) → event ≡ events.Deliver number node iface now → ⊥) → ((node now : ℕ) → event ≡ events.Restart node now → ⊥) → IsCall event
+is_call (events.Tick node now) a b d = tt
+is_call (events.Emit node now) a b d = a node now refl
+is_call (events.Deliver number node iface now) a b d = b number node iface now refl
+is_call (events.SetCost node iface cost) a b d = tt
+is_call (events.Raise node) a b d = tt
+is_call (events.Announce node prefix) a b d = tt
+is_call (events.Withdraw node prefix) a b d = tt
+is_call (events.Restart node now) a b d = d node now refl
 
 -- its node, and what is known of it
 pub record IsCalled (event : Event) (n : NetworkState) (s : State) (c : Config) : Type 0 where
@@ -135,7 +139,7 @@ pub called_same : {T : Type 0} (r : Result T StepFault) (event : Event) (old new
 called_same (Ok done) event old new s t c at next same = tt
 called_same (Err fault) event old new s t c at next same = next ∙ ap (with_speaker_state old (node_of event)) same ∙ written_back old (node_of event) s at.speaker
 
--- ---- an event with a datagram
+-- ---- an event that takes memory
 
 emit_free : (node now : ℕ) (n : NetworkState) → IsNetwork n → node < length n.speakers → step_fault (events.Emit node now) n ≡ None
 emit_free node now n net inside =
@@ -146,6 +150,16 @@ pub emit_accepted : {T : Type 0} (r : Result T StepFault) (event : Event) (node 
 emit_accepted (Ok done) event node now n net is inside =
     subst (λ (e : Event). step_fault e n ≡ None) (sym is) (emit_free node now n net (subst (λ (e : Event). node_of e < length n.speakers) is inside))
 emit_accepted (Err fault) event node now n net is inside = tt
+
+restart_free : (node now : ℕ) (n : NetworkState) → IsNetwork n → node < length n.speakers → step_fault (events.Restart node now) n ≡ None
+restart_free node now n net inside =
+    let at = node_is n node net inside in
+    fault_is (events.Restart node now) n at.state at.config at.has_state at.has_config
+
+pub restart_accepted : {T : Type 0} (r : Result T StepFault) (event : Event) (node now : ℕ) (n : NetworkState) → IsNetwork n → event ≡ events.Restart node now → node_of event < length n.speakers → OnOk r (step_fault event n ≡ None)
+restart_accepted (Ok done) event node now n net is inside =
+    subst (λ (e : Event). step_fault e n ≡ None) (sym is) (restart_free node now n net (subst (λ (e : Event). node_of e < length n.speakers) is inside))
+restart_accepted (Err fault) event node now n net is inside = tt
 
 pub deliver_refused_at : {T : Type 0} (r : Result T StepFault) (event : Event) (number node iface now : ℕ) (n : NetworkState) → IsNetwork n → event ≡ events.Deliver number node iface now → node_of event < length n.speakers → IfErr r (λ fault. (s : State) → slice_get n.speakers (node_of event) ≡ Some s → IsFaultOrMemory (deliver_fault number iface s n) fault) → IfErr r (IsStepFault (step_fault event n) event n)
 deliver_refused_at (Ok done) event number node iface now n net is inside h = tt

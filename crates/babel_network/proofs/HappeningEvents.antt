@@ -23,6 +23,7 @@ use Rattle.babel_state.specs.Invariants.{IsWellFormed}
 use Rattle.babel_state.specs.Messages.{after_places}
 use Rattle.babel_state.specs.NextDatagram.{Draft}
 use Rattle.babel_state.specs.Queueing.{counted}
+use Rattle.babel_state.specs.Restarts.{IsRestarted, RestartsAreSeen, restarted}
 use Rattle.babel_state.specs.Sameness.{has_prefix}
 use Rattle.babel_state.specs.Seen.{Seen, UpdateValue, seen, updates_among, IsSelecting, Moves, Sends, announcing_also, announcing_without}
 use Rattle.babel_state.specs.SeenLaws.{AreEncodable, PlacesMove, MovesAlone, TicksMove, CostsMove, AnnouncingMoves, WithdrawingMoves, RaisingMoves, DatagramsSend, NoDatagramChangesNothing}
@@ -32,11 +33,11 @@ use Rattle.babel_net.specs.declared.events.Event.{Event}
 use Rattle.babel_net.specs.declared.events.Event.TheVariants as events
 use Rattle.babel_net.specs.declared.errors.StepFault.{StepFault}
 use Rattle.babel_net.specs.declared.errors.StepFault.TheVariants.{NotListed, NoNode}
-use Rattle.babel_net.specs.Happenings.{StepsAlone, Receives, Emits}
+use Rattle.babel_net.specs.Happenings.{StepsAlone, Receives, Emits, Restarts}
 use Rattle.babel_net.specs.Owners.{Lists}
 use Rattle.babel_net.specs.Worlds.{World, SentDatagram, speaker_at, with_speaker, with_datagram}
 use Rattle.babel_network.specs.Networks.{NetworkState, SentOctets, with_speaker_state, with_octets, updates_read, datagram_seen, world_of}
-use Rattle.babel_network.specs.Steps.{MakesEmit, MakesDeliver, IsSent, IsSentBy, Received, recorded, next_of}
+use Rattle.babel_network.specs.Steps.{MakesEmit, MakesDeliver, MakesRestart, IsSent, IsSentBy, Received, recorded, next_of}
 use Rattle.babel_network.specs.EventRefusals.{node_of, event_fault, fault_at, step_fault, cost_fault}
 use Rattle.babel_network.specs.Invariants.{IsNetwork, IsReadable}
 use Rattle.babel_network.specs.Laws.{EventsHappen}
@@ -53,11 +54,23 @@ pub record SpeakerLaws : Type 0 where
   pub raise : RaisingMoves
   pub sent : DatagramsSend
   pub none : NoDatagramChangesNothing
+  pub restart : RestartsAreSeen
 
 -- ---- what is known of a node
 
 pub well_at : (n : NetworkState) (node : ℕ) (s : State) → IsNetwork n → slice_get n.speakers node ≡ Some s → IsWellFormed s
 well_at n node s net is = All-contains IsWellFormed n.speakers s net.well_formed (node, slice_get_within n.speakers node s is, get_or_from_slice_get n.speakers node s s is)
+
+-- the configuration of a node has no fault
+pub valid_at : (n : NetworkState) (node : ℕ) (c : Config) → IsNetwork n → slice_get n.configs node ≡ Some c → config_fault c ≡ None
+valid_at n node c net is =
+    All-contains (λ (d : Config). config_fault d ≡ None) n.configs c net.valid (node, slice_get_within n.configs node c is, get_or_from_slice_get n.configs node c c is)
+
+-- and its router-id is the speaker's
+pub router_at : (n : NetworkState) (node : ℕ) (s : State) (c : Config) → IsNetwork n → slice_get n.speakers node ≡ Some s → slice_get n.configs node ≡ Some c → s.router ≡ c.router_id
+unfolding seen
+router_at n node s c net is configured =
+    subst (λ (x : Seen). x.router ≡ c.router_id) (speaker_seen n node s is) (net.sound.holds.router node c configured)
 
 pub readable_at : (n : NetworkState) (number : ℕ) (d : SentOctets) → IsNetwork n → slice_get n.sent number ≡ Some d → IsReadable d
 readable_at n number d net is = All-contains IsReadable n.sent d net.readable (number, slice_get_within n.sent number d is, get_or_from_slice_get n.sent number d d is)
@@ -104,7 +117,7 @@ few_listed c none =
 pub room_to_announce : (n : NetworkState) (node : ℕ) (s : State) (c : Config) (prefix : PrefixValue) → IsNetwork n → slice_get n.speakers node ≡ Some s → slice_get n.configs node ≡ Some c → has_prefix prefix c.prefixes.items ≡ true → is_prefix_too_many prefix s ≡ false
 unfolding seen
 room_to_announce n node s c prefix net is config here =
-    not_too_many prefix s c.prefixes.items (well_at n node s net is).tables.announced.in_order (few_listed c (All-contains (λ (d : Config). config_fault d ≡ None) n.configs c net.valid (node, slice_get_within n.configs node c config, get_or_from_slice_get n.configs node c c config))) here all
+    not_too_many prefix s c.prefixes.items (well_at n node s net is).tables.announced.in_order (few_listed c (valid_at n node c net config)) here all
   where
     of_this : (q : PrefixValue) → Lists n.configs node q → has_prefix q c.prefixes.items ≡ true
     of_this q l = subst (λ (d : Config). has_prefix q d.prefixes.items ≡ true) (same_Some l.0 c (sym l.1 ∙ config)) l.2
@@ -234,6 +247,18 @@ delivered laws number node iface now old new net made = by (source_fault iface m
     by None h = inl (taken h.0 h.1 h.2)
     by (Some fault) after = inr (ap world_of (made.next ∙ ap (with_speaker_state old node) after ∙ written_back old node made.speaker made.is))
 
+-- ---- a restart
+
+restarts : SpeakerLaws → (node now : ℕ) (old new : NetworkState) → IsNetwork old → MakesRestart node now old new → Restarts old.configs node (world_of old) (world_of new)
+restarts laws node now old new net made = record {
+  inside = node_inside old node made.speaker made.is;
+  config = made.config;
+  is = made.configured;
+  speaker = seen (restarted now made.config made.speaker);
+  restarted = subst (λ (x : Seen). IsRestarted made.config x (seen (restarted now made.config made.speaker))) (sym (speaker_seen old node made.speaker made.is)) (laws.restart now made.config made.speaker (well_at old node made.speaker net made.is) (valid_at old node made.config net made.configured));
+  next = ap world_of made.next ∙ world_with_speaker old node (restarted now made.config made.speaker);
+}
+
 -- ---- each event
 
 listed_at : (event : Event) (n : NetworkState) (s : State) (prefix : PrefixValue) (allowed : IsAllowed event n s) → has_prefix prefix allowed.config.prefixes.items ≡ true → Lists n.configs (node_of event) prefix
@@ -255,3 +280,4 @@ happens laws (events.Announce node prefix) old new net made ok =
     (listed_at (events.Announce node prefix) old made.speaker prefix allowed here, alone node 0 (announcing_also prefix) old new made.speaker _ made.is (laws.announce prefix made.speaker (room_to_announce old node made.speaker allowed.config prefix net made.is allowed.is here) (well_at old node made.speaker net made.is)) made.next)
 happens laws (events.Withdraw node prefix) old new net made ok =
     alone node 0 (announcing_without prefix) old new made.speaker _ made.is (laws.withdraw prefix made.speaker (well_at old node made.speaker net made.is)) made.next
+happens laws (events.Restart node now) old new net made ok = restarts laws node now old new net made

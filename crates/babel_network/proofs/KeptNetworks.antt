@@ -12,6 +12,7 @@ use Rattle.babel_state.specs.Calls.{set_cost_fault}
 use Rattle.babel_state.specs.Configs.{config_fault}
 use Rattle.babel_state.specs.Invariants.{IsWellFormed, TicksKeepWellFormed, SendingKeepsWellFormed, CostsKeepWellFormed, AnnouncingKeepsWellFormed, WithdrawingKeepsWellFormed, RaisingKeepsWellFormed}
 use Rattle.babel_state.specs.QueueLaws.{DatagramsAreEncodable}
+use Rattle.babel_state.specs.Restarts.{RestartsAreWellFormed, restarted}
 use Rattle.babel_state.specs.Sameness.{has_prefix}
 use Rattle.babel_state.specs.SeenLaws.{AreEncodable}
 use Rattle.babel_state.specs.State.{State}
@@ -22,11 +23,11 @@ use Rattle.babel_net.specs.NetworkLaws.{EventsAreSound}
 use Rattle.babel_net.specs.Invariants.{IsInvariant}
 use Rattle.babel_net.specs.Owners.{AreApart}
 use Rattle.babel_network.specs.Networks.{NetworkState, SentOctets, with_speaker_state, with_octets, world_of}
-use Rattle.babel_network.specs.Steps.{MakesCall, MakesEmit, MakesDeliver, Makes, IsSent, IsSentBy, recorded, next_of, step_of}
+use Rattle.babel_network.specs.Steps.{MakesCall, MakesEmit, MakesDeliver, MakesRestart, Makes, IsSent, IsSentBy, recorded, next_of, step_of}
 use Rattle.babel_network.specs.EventRefusals.{node_of, step_fault}
 use Rattle.babel_network.specs.Invariants.{IsNetwork, IsReadable}
 use Rattle.babel_network.specs.Laws.{EventsKeepNetworks}
-use Rattle.babel_network.proofs.HappeningEvents.{SpeakerLaws, happens, well_at, well_received, allowed_at, no_cost_fault, if_listed, room_to_announce}
+use Rattle.babel_network.proofs.HappeningEvents.{SpeakerLaws, happens, well_at, well_received, allowed_at, no_cost_fault, if_listed, room_to_announce, valid_at}
 
 -- What is proved of one speaker's state, and of networks that are seen.
 pub record StateLaws : Type 0 where
@@ -37,6 +38,7 @@ pub record StateLaws : Type 0 where
   pub announce : AnnouncingKeepsWellFormed
   pub withdraw : WithdrawingKeepsWellFormed
   pub raise : RaisingKeepsWellFormed
+  pub restart : RestartsAreWellFormed
   pub encodable : DatagramsAreEncodable
   pub sound : EventsAreSound
 
@@ -77,6 +79,7 @@ well_called laws (events.Announce node prefix) old s net is ok =
     let allowed = allowed_at (events.Announce node prefix) old s is ok in
     laws.announce prefix s (room_to_announce old node s allowed.config prefix net is allowed.is (if_listed (has_prefix prefix allowed.config.prefixes.items) None allowed.allowed)) (well_at old node s net is)
 well_called laws (events.Withdraw node prefix) old s net is ok = laws.withdraw prefix s (well_at old node s net is)
+well_called laws (events.Restart node now) old s net is ok = well_at old node s net is
 
 -- ---- each event
 
@@ -128,6 +131,12 @@ built_deliver laws number node iface now old new net made = record {
   built = subst IsBuilt (sym made.next) (built_with_speaker old node made.after net (well_received laws.speaker now iface old node number made.speaker made.after made.datagram (source_fault iface made.datagram.source made.speaker) net made.is made.was_sent made.received));
 }
 
+built_restart : StateLaws → (node now : ℕ) (old new : NetworkState) → IsNetwork old → MakesRestart node now old new → IsBuiltFrom old new
+built_restart laws node now old new net made = record {
+  configs = ap (λ (n : NetworkState). n.configs) made.next;
+  built = subst IsBuilt (sym made.next) (built_with_speaker old node (restarted now made.config made.speaker) net (laws.restart now made.config made.speaker (well_at old node made.speaker net made.is) (valid_at old node made.config net made.configured)));
+}
+
 built_from : StateLaws → (event : Event) (old new : NetworkState) → IsNetwork old → Makes event old new → step_fault event old ≡ None → IsBuiltFrom old new
 built_from laws (events.Tick node now) old new net made ok = built_call laws (events.Tick node now) old new net made ok
 built_from laws (events.Emit node now) old new net made ok = built_emit laws node now old new net made
@@ -136,6 +145,7 @@ built_from laws (events.SetCost node iface cost) old new net made ok = built_cal
 built_from laws (events.Raise node) old new net made ok = built_call laws (events.Raise node) old new net made ok
 built_from laws (events.Announce node prefix) old new net made ok = built_call laws (events.Announce node prefix) old new net made ok
 built_from laws (events.Withdraw node prefix) old new net made ok = built_call laws (events.Withdraw node prefix) old new net made ok
+built_from laws (events.Restart node now) old new net made ok = built_restart laws node now old new net made
 
 pub kept : StateLaws → EventsKeepNetworks
 kept laws event old new net made ok =

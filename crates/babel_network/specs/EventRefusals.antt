@@ -23,6 +23,7 @@ node_of (events.SetCost node iface cost) = node
 node_of (events.Raise node) = node
 node_of (events.Announce node prefix) = node
 node_of (events.Withdraw node prefix) = node
+node_of (events.Restart node now) = node
 
 abbrev pub interface_fault : ℕ → State → Option StepFault
 interface_fault iface s = if is_some (interface_at iface s) then None else Some NoInterface
@@ -61,11 +62,12 @@ abbrev pub IsFaultOrMemory : Option StepFault → StepFault → Type 0
 IsFaultOrMemory (Some cause) fault = fault ≡ cause
 IsFaultOrMemory None fault = fault ≡ Memory
 
--- Only a datagram that is sent or received takes memory. One that is received can always be read.
+-- Only a restart, and a datagram that is sent or received, take memory. A datagram that is received can always be read.
 abbrev pub TakesMemory : Event → NetworkState → Type 0
 TakesMemory (events.Emit node now) n = Unit {0}
 TakesMemory (events.Deliver number node iface now) n =
     (d : SentOctets) × (slice_get n.sent number ≡ Some d) × IsOk (meaning d.octets d.source)
+TakesMemory (events.Restart node now) n = Unit {0}
 TakesMemory event n = ⊥
 
 -- The event's first cause; or N6, if it has none and an allocation failed.

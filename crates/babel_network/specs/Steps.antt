@@ -3,12 +3,14 @@ use Rattle.std.specs.Prelude.{◌≡◌, ℕ, List, slice_get, Option, Some, Non
 use Rattle.babel_packet.specs.BodyMeanings.{Means}
 use Rattle.babel_packet.specs.Meaning.{meaning}
 use Rattle.babel_packet.specs.declared.placements.Placed.{Placed}
+use Rattle.babel_state.specs.declared.configs.Config.{Config}
 use Rattle.babel_state.specs.declared.errors.RecvFault.{RecvFault}
 use Rattle.babel_state.specs.declared.items.Target.{Target}
 use Rattle.babel_state.specs.Addresses.{source_fault, transport_at}
 use Rattle.babel_state.specs.Calls.{cost_set, announced_also, withdrawn}
 use Rattle.babel_state.specs.Messages.{after_places}
 use Rattle.babel_state.specs.NextDatagram.{Draft, next_datagram}
+use Rattle.babel_state.specs.Restarts.{restarted}
 use Rattle.babel_state.specs.SeqnoRequests.{raised}
 use Rattle.babel_state.specs.State.{State}
 use Rattle.babel_state.specs.Ticks.{ticked}
@@ -85,6 +87,16 @@ pub record MakesDeliver (number node iface now : ℕ) (old new : NetworkState) :
   pub received : Received now iface datagram (source_fault iface datagram.source speaker) speaker after
   pub next : new ≡ with_speaker_state old node after
 
+-- ---- a restart
+
+-- The node's speaker is saved and restored with the node's configuration at the moment, and all else is unchanged.
+pub record MakesRestart (node now : ℕ) (old new : NetworkState) : Type 0 where
+  pub speaker : State
+  pub is : slice_get old.speakers node ≡ Some speaker
+  pub config : Config
+  pub configured : slice_get old.configs node ≡ Some config
+  pub next : new ≡ with_speaker_state old node (restarted now config speaker)
+
 -- ---- events
 
 -- An event that isn't refused leads from one network to another.
@@ -96,3 +108,4 @@ Makes (events.SetCost node iface cost) old new = MakesCall node (events.SetCost 
 Makes (events.Raise node) old new = MakesCall node (events.Raise node) old new
 Makes (events.Announce node prefix) old new = MakesCall node (events.Announce node prefix) old new
 Makes (events.Withdraw node prefix) old new = MakesCall node (events.Withdraw node prefix) old new
+Makes (events.Restart node now) old new = MakesRestart node now old new

@@ -1,9 +1,11 @@
 //! The calls of one speaker of a network.
 
-ghost use Rattle.std.specs.Prelude.{◌≡◌, true, false, option_map, if◌then◌else◌, IfErr, OnOk, OnErr};
+ghost use Rattle.std.specs.Prelude.{◌≡◌, None, true, false, option_map, if◌then◌else◌, IfOk, IfErr, OnOk, OnErr};
 ghost use Rattle.babel_value.specs.Prefixes.{PrefixValue};
 ghost use Rattle.babel_state.specs.Addresses.{source_fault};
 ghost use Rattle.babel_state.specs.Calls.{is_prefix_too_many, set_cost_fault, cost_set, announced_also, withdrawn};
+ghost use Rattle.babel_state.specs.Configs.{config_fault};
+ghost use Rattle.babel_state.specs.Restarts.{restarted};
 ghost use Rattle.babel_state.specs.State.{announces};
 ghost use Rattle.babel_state.specs.Invariants.{IsWellFormed};
 ghost use Rattle.babel_state.specs.Sameness.{has_prefix};
@@ -15,8 +17,11 @@ use crate::sent::Sent;
 use arrayvec::ArrayVec;
 use babel_net::{Event, StepFault};
 use babel_speaker::Speaker;
-use babel_state::{Config, RecvFault, SetCostFault, datagrams_send, items_mean_messages};
+use babel_state::{
+    Config, ConfigFault, RecvFault, RestoreFault, SetCostFault, datagrams_send, items_mean_messages,
+};
 use babel_value::Prefix;
+use std::alloc::Global;
 
 /// The node that an event is of.
 pub(crate) fn node_of(event: &Event) -> usize
@@ -30,10 +35,11 @@ pub(crate) fn node_of(event: &Event) -> usize
         Event::Raise { node } => node,
         Event::Announce { node, .. } => node,
         Event::Withdraw { node, .. } => node,
+        Event::Restart { node, .. } => node,
     }
 }
 
-/// Makes the event's step of its node's speaker, if it is a call without a datagram.
+/// Makes the event's step of its node's speaker, if it is a call that takes no memory.
 pub(crate) fn call(speaker: &mut Speaker, config: &Config, event: &Event) -> Result<(), StepFault>
     requires { (prefix : PrefixValue) → has_prefix prefix config.now.prefixes.items ≡ true → is_prefix_too_many prefix speaker.old ≡ false }
     ensures ok { OnOk result (speaker.new ≡ step_of event.now speaker.old) }
@@ -55,6 +61,7 @@ pub(crate) fn call(speaker: &mut Speaker, config: &Config, event: &Event) -> Res
         Event::Withdraw { prefix, .. } => withdraw(speaker, config, prefix),
         Event::Emit { .. } => Ok(()),
         Event::Deliver { .. } => Ok(()),
+        Event::Restart { .. } => Ok(()),
     }
 }
 
@@ -152,5 +159,27 @@ pub(crate) fn receive(
         Err(RecvFault::ForeignSource) => Ok(()),
         Err(RecvFault::OwnSource) => Ok(()),
         Err(RecvFault::Refused(_)) => Err(StepFault::Memory),
+    }
+}
+
+/// The speaker after a restart: it is saved, and restored with its configuration.
+pub(crate) fn restart(
+    alloc: Global,
+    speaker: &Speaker,
+    config: &Config,
+    now: u64,
+) -> Result<Speaker, StepFault>
+    requires router { speaker.now.router ≡ config.now.router_id }
+    requires valid { config_fault config.now ≡ None }
+    ensures ok { IfOk result (λ new. new ≡ restarted now config.now speaker.now) }
+    ensures refused { IfErr result (λ fault. fault ≡ StepFault.Memory) }
+{
+    let Ok(octets) = speaker.save() else {
+        return Err(StepFault::Memory);
+    };
+    match Speaker::restore_from(alloc, config, now, &octets) {
+        Ok(speaker) => Ok(speaker),
+        Err(RestoreFault::Config(ConfigFault::Memory)) => Err(StepFault::Memory),
+        Err(_) => unreachable!(),
     }
 }

@@ -5,7 +5,7 @@ ghost use Rattle.babel_network.specs.Laws.{FirstNetworksAreSound, EventsHappen, 
 
 use babel_net::{accepted_configs_are_apart, events_keep_the_invariant, networks_begin_sound};
 use babel_state::{
-    calls_move, datagrams_send, items_mean_messages, selected_routes_are_good,
+    calls_move, datagrams_send, items_mean_messages, restarts_are_seen, selected_routes_are_good,
     states_are_well_formed,
 };
 
@@ -28,5 +28,6 @@ pub fn networks_go_on()
     datagrams_send();
     states_are_well_formed();
     items_mean_messages();
+    restarts_are_seen();
     events_keep_the_invariant();
 }

@@ -23,7 +23,8 @@ use std::alloc::Global;
 use std::marker::Model;
 
 /// A network of speakers. What a node sends is recorded, and each recorded datagram may be delivered to any
-/// node, late, more than once, or never.
+/// node, late, more than once, or never. A node that restarts keeps its source table and own seqno, and is otherwise
+/// as configured.
 ///
 /// A clause sees the configurations, the states of the speakers, and the datagrams that were sent.
 #[derive(Drop)]

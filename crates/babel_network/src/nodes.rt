@@ -10,9 +10,9 @@ ghost use Rattle.babel_network.specs.EventRefusals.{deliver_fault, step_fault, I
 ghost use Rattle.babel_network.specs.Invariants.{IsNetwork};
 ghost use Rattle.babel_network.specs.Making.{IsOutOfMemory};
 ghost use Rattle.babel_network.specs.Promises.{first_network};
-ghost use Rattle.babel_network.specs.Steps.{Makes, MakesEmit, MakesDeliver};
+ghost use Rattle.babel_network.specs.Steps.{Makes, MakesEmit, MakesDeliver, MakesRestart};
 
-use crate::calls::{call, node_of, receive, send};
+use crate::calls::{call, node_of, receive, restart, send};
 use crate::sent::Sent;
 use babel_net::{Event, NetFault, StepFault};
 use babel_speaker::Speaker;
@@ -24,6 +24,7 @@ use std::marker::Model;
 /// The speakers by their nodes' numbers, their configurations, and all that was ever sent, in order.
 #[derive(Drop)]
 pub struct Nodes {
+    alloc: Global,
     configs: Vec<Config>,
     speakers: Vec<Speaker>,
     sent: Vec<Sent>,
@@ -47,6 +48,7 @@ impl Nodes {
     {
         let speakers = speakers_of(alloc, &configs)?;
         Ok(Nodes {
+            alloc,
             configs,
             speakers,
             sent: Vec::new(alloc),
@@ -74,6 +76,7 @@ impl Nodes {
                 now,
                 ..
             } => self.deliver(datagram, node, iface, now),
+            Event::Restart { now, .. } => self.restart(node, now),
             _ => call(&mut self.speakers[node], &self.configs[node], event),
         }
     }
@@ -108,6 +111,19 @@ impl Nodes {
             return Err(StepFault::NoDatagram);
         }
         receive(&mut self.speakers[node], &self.sent[number], iface, now)
+    }
+
+    /// The node's speaker is saved, and restored with its configuration.
+    fn restart(&mut self, node: usize, now: u64) -> Result<(), StepFault>
+        requires inside { node < length self.old.speakers }
+        requires sound { IsNetwork self.old }
+        ensures ok { OnOk result (MakesRestart node now self.old self.new) }
+        ensures refused { IfErr result (λ fault. fault ≡ StepFault.Memory) }
+        ensures err { OnErr result (self.new ≡ self.old) }
+    {
+        let speaker = restart(self.alloc, &self.speakers[node], &self.configs[node], now)?;
+        self.speakers[node] = speaker;
+        Ok(())
     }
 
     /// The configurations.

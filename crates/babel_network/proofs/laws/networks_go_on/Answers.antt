@@ -12,6 +12,7 @@ returns-clause-happens c = happens (record {
   raise = c.calls_move.ensures.raise;
   sent = c.datagrams_send.ensures.sent;
   none = c.datagrams_send.ensures.none;
+  restart = c.restarts_are_seen.ensures.restarted;
 })
 
 pub returns-clause-kept : goal.returns-clause-kept
@@ -25,6 +26,7 @@ returns-clause-kept c = kept (record {
     raise = c.calls_move.ensures.raise;
     sent = c.datagrams_send.ensures.sent;
     none = c.datagrams_send.ensures.none;
+    restart = c.restarts_are_seen.ensures.restarted;
   };
   tick = c.states_are_well_formed.ensures.tick;
   next_datagram = c.states_are_well_formed.ensures.next_datagram;
@@ -32,6 +34,7 @@ returns-clause-kept c = kept (record {
   announce = c.states_are_well_formed.ensures.announce;
   withdraw = c.states_are_well_formed.ensures.withdraw;
   raise = c.states_are_well_formed.ensures.raise;
+  restart = c.restarts_are_seen.ensures.restarted_well_formed;
   encodable = c.items_mean_messages.ensures.datagrams;
   sound = c.events_keep_the_invariant.ensures;
 })

@@ -3,7 +3,7 @@ use Rattle.babel_state.specs.State.{State}
 use Rattle.babel_network.specs.Networks.{NetworkState, with_speaker_state}
 use Rattle.babel_network.specs.EventRefusals.{node_of, deliver_fault, IsFaultOrMemory}
 use Rattle.babel_network.proofs.HappeningEvents.{room_to_announce}
-use Rattle.babel_network.proofs.CallFaults.{speaker_read, config_read, is_call, IsCalled, called_ok, called_accepted, called_refused, called_same, emit_accepted, deliver_refused_at}
+use Rattle.babel_network.proofs.CallFaults.{speaker_read, config_read, is_call, IsCalled, called_ok, called_accepted, called_refused, called_same, emit_accepted, restart_accepted, deliver_refused_at}
 use Rattle.babel_network.proofs.nodes.Nodes.step.Goals as goal
 
 pub call-requires : goal.call-requires
@@ -24,6 +24,13 @@ returns-in-Emit-clause-accepted c =
     let here : node_of c.args.event.now < length c.self.inside.speakers.items = omega (arith, c.self.inside.speakers.ok.0) in
     let inside : node_of c.args.event.now < length n.speakers = subst (λ (m : NetworkState). node_of c.args.event.now < length m.speakers) c.self.view_is here in
     emit_accepted c.emit.result c.args.event.now c.in-Emit.node c.in-Emit.now n c.requires c.in-Emit.is inside
+
+pub returns-in-Restart-clause-accepted : goal.returns-in-Restart-clause-accepted
+returns-in-Restart-clause-accepted c =
+    let n = c.args.self.now in
+    let here : node_of c.args.event.now < length c.self.inside.speakers.items = omega (arith, c.self.inside.speakers.ok.0) in
+    let inside : node_of c.args.event.now < length n.speakers = subst (λ (m : NetworkState). node_of c.args.event.now < length m.speakers) c.self.view_is here in
+    restart_accepted c.restart.result c.args.event.now c.in-Restart.node c.in-Restart.now n c.requires c.in-Restart.is inside
 
 pub returns-in-Deliver-clause-refused : goal.returns-in-Deliver-clause-refused
 returns-in-Deliver-clause-refused c =
@@ -46,7 +53,7 @@ returns-in_default c =
     let s_read : s ≡ get_or c.self.inside.speakers.items (node_of c.args.event.now) s = c.index_mut.ensures.value ∙ ap (λ (k : ℕ). get_or c.self.inside.speakers.items k s) c.node_of-node.ensures in
     let c_read : config ≡ get_or c.self.inside.configs.items (node_of c.args.event.now) config = c.index.ensures ∙ ap (λ (k : ℕ). get_or c.self.inside.configs.items k config) c.node_of-node.ensures in
     let at : IsCalled c.args.event.now c.args.self.now c.index_mut.result.now c.index.result.now = record {
-      is = is_call event c.in_default.not-Emit c.in_default.not-Deliver;
+      is = is_call event c.in_default.not-Emit c.in_default.not-Deliver c.in_default.not-Restart;
       speaker = speaker_read n (node_of event) s inside (subst (λ (m : NetworkState). s ≡ get_or m.speakers (node_of event) s) c.self.view_is s_read);
       config = config_read n (node_of event) config c.requires inside (subst (λ (m : NetworkState). config ≡ get_or m.configs (node_of event) config) c.self.view_is c_read);
     } in
