@@ -1,0 +1,62 @@
+//! Why the file of a snapshot can't be read or written.
+
+ghost use Rattle.std.specs.Prelude.{◌≡◌, ◌≢◌};
+ghost use Rattle.babel_snapshot_file.specs.Codes.{snapshot_file_code};
+ghost use Rattle.babel_snapshot_file.specs.declared.errors.SnapshotFileFault.TheVariants.{Unreadable, Unwritable};
+
+use std::alloc::AllocError;
+use std::io;
+use thiserror::Error;
+
+/// Why the file of a snapshot can't be read or written.
+#[derive(Clone, Copy, Debug, PartialEq, Eq, Error)]
+pub enum SnapshotFileFault {
+    /// K8: the file can't be read, or has more than 15,384 octets.
+    #[error("the snapshot's file can't be read, or has more than 15384 octets")]
+    Unreadable,
+    /// K9: the file can't be written.
+    #[error("the snapshot's file can't be written")]
+    Unwritable,
+    /// L8: an allocation failed.
+    #[error("out of memory")]
+    Memory,
+}
+
+impl SnapshotFileFault {
+    /// The code that the program prints, as `K8`.
+    pub fn code(self) -> &'static str
+        ensures { result.now ≡ snapshot_file_code self }
+    {
+        match self {
+            SnapshotFileFault::Unreadable => "K8",
+            SnapshotFileFault::Unwritable => "K9",
+            SnapshotFileFault::Memory => "L8",
+        }
+    }
+
+    /// The fault of a call that opens or reads the file.
+    pub fn of_reading(error: io::Error) -> SnapshotFileFault
+        ensures { result ≢ Unwritable }
+    {
+        match error.kind() {
+            io::ErrorKind::OutOfMemory => SnapshotFileFault::Memory,
+            _ => SnapshotFileFault::Unreadable,
+        }
+    }
+
+    /// The fault of a call that writes the file.
+    pub(crate) fn of_writing(error: io::Error) -> SnapshotFileFault
+        ensures { result ≢ Unreadable }
+    {
+        match error.kind() {
+            io::ErrorKind::OutOfMemory => SnapshotFileFault::Memory,
+            _ => SnapshotFileFault::Unwritable,
+        }
+    }
+}
+
+impl From<AllocError> for SnapshotFileFault {
+    fn from(_error: AllocError) -> SnapshotFileFault {
+        SnapshotFileFault::Memory
+    }
+}
