@@ -1,6 +1,7 @@
 //! The command line.
 
 use crate::help;
+use crate::opening::{open_config_and_snapshot, report_open, restore_arg};
 use crate::speaking::{run_speak, speak_command};
 use babel_check::check;
 use babel_config::FileFault;
@@ -137,10 +138,9 @@ fn run_check<F: AllocGlobal + Files, W: Write, E: Write>(
     out: &mut W,
     err: &mut E,
 ) -> Status {
-    let path = arguments.get_str("config").unwrap_or("");
-    match fs::open(rt, path) {
-        Ok(file) => check(rt.alloc(), file, out, err),
-        Err(error) => report_file(FileFault::from(error), err),
+    match open_config_and_snapshot(rt, arguments) {
+        Ok((config, snapshot)) => check(rt.alloc(), config, snapshot, out, err),
+        Err(fault) => report_open(fault, err),
     }
 }
 
@@ -265,9 +265,12 @@ fn log_arg<'a>(alloc: Global) -> Arg<'a> {
 
 fn check_command<'a>(alloc: Global) -> Result<Command<'a>, AllocError> {
     Command::new(alloc, "check")
-        .about("Checks whether a speaker can be made of a configuration")
+        .about(
+            "Checks whether a speaker can be made of a configuration, or restored from a snapshot",
+        )
         .after_help(help::CHECK)
-        .arg(config_arg(alloc))
+        .arg(config_arg(alloc))?
+        .arg(restore_arg(alloc))
 }
 
 fn replay_command<'a>(alloc: Global) -> Result<Command<'a>, AllocError> {

@@ -8,7 +8,7 @@ pub(crate) const PROGRAM: &str = "Examples:
   babel replay router.toml router.log
   babel explain router.toml router.log 10.0.0.0/8
   babel show --help      units, and what each code means
-  babel check --help     the keys of a configuration
+  babel check --help     the keys of a configuration, and of a snapshot
   babel replay --help    the lines of a log, and of its report
 
 Exit status:
@@ -69,6 +69,10 @@ pub(crate) const CHECK: &str =
     "Prints ok if a speaker can be made of the configuration. Else the first code that applies is on
 standard error.
 
+With --restore, a speaker is restored from the snapshot too, and ok is followed by what it restored:
+  ok <n> sources seqno <n> raises <n>
+babel speak --save writes snapshots, and babel speak --help explains when it is safe to restore one.
+
 Keys of the file, which is TOML of at most 1048576 octets:
   router-id   16 hexadecimal digits, not all 0 and not all f; required
   seqno       the speaker's first sequence number, 0 to 65535 [default: 0]
@@ -97,6 +101,8 @@ Example, a file router.toml:
 
   babel check router.toml
     ok
+  babel check router.toml --restore router.saved
+    ok 1 sources seqno 0 raises 0
 
 Exit status:
   0  ok
@@ -115,6 +121,15 @@ Codes of a configuration, in the order of test:
   C3  a cost outside 1 to 65534         address outside fe80::/10, a length above 32, more than 16
   C4  a Hello interval outside          peers, or a peer of another family than the transport
       1 to 4000
+
+Codes of a snapshot, in the order of test after C1 to C6 and before C7. Records count from 0:
+  K8  the file can't be read, or has more than 15384 octets
+  K1  fewer than 24 octets          K6 i  record i is no source, or its metric is infinite
+  K2  it is no snapshot             K7 i  record i is not greater than the one before it
+  K3  another router-id             C7    out of memory
+  K4  more than 512 sources
+  K5  a length other than that of its records
+A snapshot that can't be opened is K8 before the configuration is read.
 
 Codes of writing:
   L7  writing failed                L8  out of memory";
@@ -228,15 +243,32 @@ and `select`, for each prefix to which the speaker has a route.
 Example, 30 seconds with one interface:
   babel speak router.toml --turns 3000 --routes
 
+Restarts: --save writes a snapshot after the last turn, with the own seqno and the source table. It is
+written to FILE.tmp, which then replaces FILE: after a crash, FILE is whole, the old one or the new one.
+--restore reads a snapshot before the first turn. Both may name one file.
+
+A snapshot is safe to restore if its speaker sent nothing after the save. So it is safe once, and only if
+the run that saved it ended by itself. A run that was killed saved nothing: FILE is from an earlier run,
+and a loop may come of it. Move FILE away before the run:
+  mv router.saved router.restore
+  babel speak router.toml --turns 3000 --restore router.restore --save router.saved
+If router.saved is missing after that, the snapshot is lost: wait until the routers around have no route
+through this one, at least 3 minutes, and start without --restore.
+
 Exit status:
   0  all turns were made; the counts have what failed
   1  refused: the code is on standard error
   2  the command line is not one of the commands
 
-Codes, in the order of test: those of a file and of a configuration (babel check --help), then
-  W1  an interface has IPv6 transport
-  W2  a socket can't be made
-  L7  writing failed                L8  out of memory";
+Codes, in the order of test: those of a file, C1 to C6 (babel check --help), then
+  W1        an interface has IPv6 transport
+  K8        the snapshot can't be read, or has more than 15384 octets; tested first if it can't be opened
+  K1 to K7  the snapshot is refused (babel check --help)
+  C7        out of memory
+  W2        a socket can't be made
+At the end, after the counts:
+  K9        the snapshot can't be written; FILE is as it was
+  L7        writing failed          L8  out of memory";
 
 /// After the help of `net`.
 pub(crate) const NET: &str =

@@ -6,6 +6,7 @@
 
 mod command_line;
 mod help;
+mod opening;
 mod speaking;
 
 use command_line::{arguments, report, run};

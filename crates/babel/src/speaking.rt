@@ -1,13 +1,14 @@
 //! The command `speak`: its arguments, and what it writes if it is refused.
 
 use crate::help;
+use crate::opening::{OpenFault, open_config_and_snapshot, restore_arg};
 use babel_config::{FileFault, read_config, read_file};
 use babel_show::Status;
 use babel_udp::{SpeakFault, SpeakOptions, speak};
 use clap::builder::ValueParser;
 use clap::{Arg, ArgAction, ArgMatches, Command};
 use std::alloc::{AllocError, Global};
-use std::fs::{self, Files};
+use std::fs::Files;
 use std::io::Write;
 use std::net::Net;
 use std::time::Clock;
@@ -20,11 +21,12 @@ const DEFAULT_PORT: u16 = 6696;
 
 /// Why a speaker doesn't speak, or stops.
 enum Fault {
+    Open(OpenFault),
     File(FileFault),
     Speak(SpeakFault),
 }
 
-/// Reads the configuration and speaks. A fault is written to `err`.
+/// Reads the configuration, restores the speaker, and speaks. A fault is written to `err`.
 pub(crate) fn run_speak<F: AllocGlobal + Files + Net + Clock, W: Write, E: Write>(
     rt: &F,
     arguments: &ArgMatches<'_>,
@@ -34,6 +36,7 @@ pub(crate) fn run_speak<F: AllocGlobal + Files + Net + Clock, W: Write, E: Write
     // If writing fails too, the status still reports the fault.
     let _ = match try_speak(rt, arguments, out) {
         Ok(()) => return Status::Done,
+        Err(Fault::Open(fault)) => writeln!(err, "babel: {fault}"),
         Err(Fault::File(fault)) => writeln!(err, "babel: {}", fault.code()),
         Err(Fault::Speak(fault)) => writeln!(err, "babel: {}", fault.code()),
     };
@@ -46,16 +49,16 @@ fn try_speak<F: AllocGlobal + Files + Net + Clock, W: Write>(
     out: &mut W,
 ) -> Result<(), Fault> {
     let alloc = rt.alloc();
-    let path = arguments.get_str("config").unwrap_or("");
-    let file = fs::open(rt, path).map_err(|error| Fault::File(FileFault::from(error)))?;
+    let (file, snapshot) = open_config_and_snapshot(rt, arguments).map_err(Fault::Open)?;
     let octets = read_file(alloc, file).map_err(Fault::File)?;
     let config = read_config(alloc, octets.as_slice()).map_err(Fault::File)?;
     let options = SpeakOptions {
         turns: arguments.get_one::<u32>("turns").unwrap_or(1),
         port: arguments.get_one::<u16>("port").unwrap_or(DEFAULT_PORT),
         routes: arguments.get_flag("routes"),
+        save: arguments.get_str("save"),
     };
-    speak(alloc, rt, config, options, out).map_err(Fault::Speak)
+    speak(alloc, rt, config, snapshot, options, out).map_err(Fault::Speak)
 }
 
 /// The arguments of the command.
@@ -82,11 +85,18 @@ pub(crate) fn speak_command<'a>(alloc: Global) -> Result<Command<'a>, AllocError
         .long("routes")
         .help("Prints each change of a selected route, and all of them at the end")
         .action(ArgAction::SetTrue);
+    let save = Arg::new(alloc, "save")
+        .long("save")
+        .value_name("FILE")
+        .help("The file to which the speaker is saved after its last turn")
+        .action(ArgAction::Set);
     Command::new(alloc, "speak")
         .about("Speaks Babel over UDP and IPv4")
         .after_help(help::SPEAK)
         .arg(config)?
         .arg(turns)?
         .arg(port)?
-        .arg(routes)
+        .arg(routes)?
+        .arg(restore_arg(alloc))?
+        .arg(save)
 }

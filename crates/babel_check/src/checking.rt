@@ -1,54 +1,77 @@
-//! `babel check CONFIG`.
+//! `babel check CONFIG --restore FILE`.
 
-use babel_config::{FileFault, read_config, read_file};
+use crate::CheckFault;
+use babel_config::{read_config, read_file};
 use babel_show::{Fault, Status};
-use babel_state::ConfigFault;
+use babel_snapshot::SavedState;
+use babel_snapshot_file::read_snapshot;
+use babel_speaker::Speaker;
+use babel_state::Config;
 use std::alloc::Global;
 use std::io::{Read, Write};
 
-/// Why a configuration isn't accepted.
-#[derive(Clone, Copy, Debug, PartialEq, Eq)]
-enum CheckFault {
-    /// The file holds no configuration.
-    File(FileFault),
-    /// No speaker can be made of the configuration.
-    Config(ConfigFault),
-    /// Writing failed.
-    Output(Fault),
-}
+/// The moment at which a speaker is restored.
+const MOMENT: u64 = 0;
 
-/// Writes `ok` if a speaker can be made of the configuration in the file. Else its code is written to
-/// `err`.
-pub fn check<R: Read + Drop, W: Write, E: Write>(
+/// Writes `ok` if a speaker can be made of the configuration in the file. With the file of a snapshot, the
+/// speaker is restored from it, and what it restored is written too: `ok <n> sources seqno <n> raises <n>`.
+/// Else the code is written to `err`.
+pub fn check<C: Read + Drop, S: Read + Drop, W: Write, E: Write>(
     alloc: Global,
-    config: R,
+    config: C,
+    snapshot: Option<S>,
     out: &mut W,
     err: &mut E,
 ) -> Status {
-    let Err(fault) = try_check(alloc, config, out) else {
-        return Status::Done;
-    };
-    // If writing fails too, the status still reports the fault.
-    let _ = match fault {
-        CheckFault::File(fault) => writeln!(err, "babel: {}", fault.code()),
-        CheckFault::Config(fault) => writeln!(err, "babel: {}", fault.code()),
-        CheckFault::Output(fault) => writeln!(err, "babel: {}", fault.code()),
-    };
-    Status::Refused
+    match try_check(alloc, config, snapshot, out) {
+        Ok(()) => Status::Done,
+        Err(fault) => {
+            // If writing fails too, the status still reports the fault.
+            let _ = writeln!(err, "babel: {}", fault);
+            Status::Refused
+        }
+    }
 }
 
-fn try_check<R: Read + Drop, W: Write>(
+fn try_check<C: Read + Drop, S: Read + Drop, W: Write>(
     alloc: Global,
-    config: R,
+    config: C,
+    snapshot: Option<S>,
     out: &mut W,
 ) -> Result<(), CheckFault> {
-    let octets = read_file(alloc, config).map_err(CheckFault::File)?;
-    let config = read_config(alloc, octets.as_slice()).map_err(CheckFault::File)?;
-    config.check().map_err(CheckFault::Config)?;
-    write_ok(out).map_err(CheckFault::Output)
+    let octets = read_file(alloc, config)?;
+    let config = read_config(alloc, octets.as_slice())?;
+    config.check()?;
+    match snapshot {
+        Some(file) => check_snapshot(alloc, config, file, out),
+        None => Ok(write_ok(out)?),
+    }
+}
+
+/// Restores a speaker, and writes what it restored.
+fn check_snapshot<S: Read + Drop, W: Write>(
+    alloc: Global,
+    config: Config,
+    snapshot: S,
+    out: &mut W,
+) -> Result<(), CheckFault> {
+    let octets = read_snapshot(alloc, snapshot)?;
+    let octets = octets.as_slice();
+    let router_id = config.router_id;
+    Speaker::restore(alloc, config, MOMENT, octets)?;
+    let saved = SavedState::read(&router_id, octets)?;
+    Ok(write_restored(&saved, out)?)
 }
 
 fn write_ok<W: Write>(out: &mut W) -> Result<(), Fault> {
     writeln!(out, "ok").map_err(Fault::of_writing)?;
+    out.flush().map_err(Fault::of_writing)
+}
+
+fn write_restored<W: Write>(saved: &SavedState<'_>, out: &mut W) -> Result<(), Fault> {
+    let sources = saved.len();
+    let seqno = saved.seqno();
+    let raises = saved.raises();
+    writeln!(out, "ok {sources} sources seqno {seqno} raises {raises}").map_err(Fault::of_writing)?;
     out.flush().map_err(Fault::of_writing)
 }

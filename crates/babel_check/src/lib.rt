@@ -1,9 +1,12 @@
-//! The command `check`: whether a speaker can be made of a configuration file.
+//! The command `check`: whether a speaker can be made of a configuration file, and restored from the file
+//! of a snapshot.
 #![tactic(auto)]
 
 mod checking;
+mod errors;
 
 pub use checking::check;
+pub(crate) use errors::CheckFault;
 
 #[cfg(test)]
 mod tests;

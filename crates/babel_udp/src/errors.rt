@@ -1,8 +1,10 @@
 //! Why the command `speak` ends early.
 
 use babel_show::Fault;
-use babel_state::ConfigFault;
+use babel_snapshot_file::{RestoreCode, SnapshotFileFault};
+use babel_state::{ConfigFault, RestoreFault};
 use std::alloc::AllocError;
+use std::fmt;
 use thiserror::Error;
 
 /// Why a speaker can't speak, or stops.
@@ -14,6 +16,12 @@ pub enum SpeakFault {
     /// W1: an interface has IPv6 transport.
     #[error("an interface has IPv6 transport")]
     Transport,
+    /// K8, K9 and L8: the file of a snapshot can't be read or written.
+    #[error("{0}")]
+    SnapshotFile(#[from] SnapshotFileFault),
+    /// K1 to K7, or C7: no speaker can be restored from the snapshot.
+    #[error("{0}")]
+    Restore(#[from] RestoreFault),
     /// W2: a socket can't be made, for instance since the address isn't one of this machine.
     #[error("a socket can't be made")]
     Socket,
@@ -29,13 +37,28 @@ impl From<AllocError> for SpeakFault {
 }
 
 impl SpeakFault {
-    /// The code that the program prints, as `W2`.
-    pub fn code(self) -> &'static str {
-        match self {
-            SpeakFault::Config(fault) => fault.code(),
-            SpeakFault::Transport => "W1",
-            SpeakFault::Socket => "W2",
-            SpeakFault::Output(fault) => fault.code(),
+    /// The code that the program prints, as `W2` or `K6 0`.
+    pub fn code(self) -> SpeakCode {
+        SpeakCode { fault: self }
+    }
+}
+
+/// The code of a fault as text, with the number of the record after `K6` and `K7`.
+#[derive(Clone, Copy, Debug, PartialEq, Eq)]
+pub struct SpeakCode {
+    /// The fault.
+    pub fault: SpeakFault,
+}
+
+impl fmt::Display for SpeakCode {
+    fn fmt<W: fmt::Write>(&self, f: &mut fmt::Formatter<W>) -> fmt::Result {
+        match self.fault {
+            SpeakFault::Config(fault) => f.write_str(fault.code()),
+            SpeakFault::Transport => f.write_str("W1"),
+            SpeakFault::SnapshotFile(fault) => f.write_str(fault.code()),
+            SpeakFault::Restore(fault) => write!(f, "{}", RestoreCode { fault }),
+            SpeakFault::Socket => f.write_str("W2"),
+            SpeakFault::Output(fault) => f.write_str(fault.code()),
         }
     }
 }

@@ -37,4 +37,9 @@ impl Links {
         }
         Ok(Links { links })
     }
+
+    /// Whether each interface has IPv4 transport.
+    pub(crate) fn have_addresses(&self) -> bool {
+        self.links.iter().all(|link| link.address.is_some())
+    }
 }

@@ -43,7 +43,7 @@ impl<'a, R: Clock + Net> UdpWire<'a, R> {
     ///
     /// # Errors
     ///
-    /// W1 if an interface has IPv6 transport, else W2 if a socket can't be made, or L8.
+    /// W1 if an interface has IPv6 transport, W2 if a socket can't be made, or L8.
     pub(crate) fn bind(
         alloc: Global,
         rt: &'a R,
@@ -52,9 +52,6 @@ impl<'a, R: Clock + Net> UdpWire<'a, R> {
     ) -> Result<UdpWire<'a, R>, SpeakFault>
         ensures { IfOk result (λ wire. wire.faults ≡ 0) }
     {
-        if links.links.iter().any(|link| link.address.is_none()) {
-            return Err(SpeakFault::Transport);
-        }
         let start = Instant::now(rt).map_err(|_| SpeakFault::Socket)?;
         let mut ports = Vec::new(alloc);
         for link in links.links {

@@ -5,54 +5,86 @@ ghost use Rattle.std.specs.Prelude.{◌≡◌};
 use crate::SpeakFault;
 use crate::links::Links;
 use crate::selections::Selections;
+use crate::snapshots::{make_speaker, save};
 use crate::sockets::UdpWire;
 use babel_show::Fault;
 use babel_speaker::Speaker;
 use babel_state::Config;
 use babel_wire::{Report, drive};
 use std::alloc::Global;
-use std::io::Write;
+use std::fs::Files;
+use std::io::{Read, Write};
 use std::net::Net;
 use std::time::Clock;
 
 /// The most octets that a datagram may have.
 const MAX_DATAGRAM_LEN: usize = 65535;
 
-/// How long a speaker speaks, on which port, and whether it prints the selected routes.
+/// How long a speaker speaks, on which port, what it prints, and where it is saved.
 #[derive(Clone, Copy, Debug)]
-pub struct SpeakOptions {
+pub struct SpeakOptions<'a> {
     /// How many turns it has.
     pub turns: u32,
     /// The UDP port of all speakers (RFC 8966, section 4).
     pub port: u16,
     /// Whether each change of a selected route is printed, and all selected routes at the end.
     pub routes: bool,
+    /// The file to which the speaker is saved after the last turn, if any.
+    pub save: Option<&'a str>,
 }
 
-/// Runs a speaker of the configuration over UDP, one socket for each interface. At the end a line with the
-/// counts is written.
+/// Runs a speaker of the configuration over UDP, one socket for each interface. With the file of a snapshot
+/// the speaker is restored from it. At the end a line with the counts is written.
+///
+/// The speaker is saved after its last turn, also if writing to `out` failed and it was the last one for
+/// that reason. So nothing is sent after the save.
 ///
 /// # Errors
 ///
-/// C1 to C7, W1, W2, L7 and L8, by the first cause in this order.
-pub fn speak<R: Net + Clock, W: Write>(
+/// C1 to C6, W1, K8, K1 to K7, C7, W2, by the first cause in this order, before anything is sent. Then
+/// K9, L7 and L8.
+pub fn speak<R: Net + Clock + Files, S: Read + Drop, W: Write>(
     alloc: Global,
     rt: &R,
     config: Config,
-    options: SpeakOptions,
+    snapshot: Option<S>,
+    options: SpeakOptions<'_>,
     out: &mut W,
 ) -> Result<(), SpeakFault> {
+    config.check()?;
     let links = Links::of(alloc, &config)?;
-    let mut speaker = Speaker::new(alloc, config)?;
+    if !links.have_addresses() {
+        return Err(SpeakFault::Transport);
+    }
+    let mut speaker = make_speaker(alloc, config, snapshot)?;
     let mut wire = UdpWire::bind(alloc, rt, links, options.port)?;
-    let mut buf = vec![in alloc; 0u8; MAX_DATAGRAM_LEN]?;
-    let report = if options.routes {
-        speak_with_routes(alloc, &mut speaker, &mut wire, &mut buf, options.turns, out)?
-    } else {
-        drive(&mut speaker, &mut wire, &mut buf, options.turns)
+    let report = take_turns(alloc, &mut speaker, &mut wire, options, out);
+    let saved = save(alloc, rt, &speaker, options.save);
+    // The counts are written also if the speaker can't be saved.
+    let written = match report {
+        Ok(report) => write_report(options.turns, report, out),
+        Err(fault) => Err(fault),
     };
-    write_report(options.turns, report, out)?;
-    Ok(())
+    saved?;
+    Ok(written?)
+}
+
+/// Drives the speaker for all turns.
+fn take_turns<R: Net + Clock, W: Write>(
+    alloc: Global,
+    speaker: &mut Speaker,
+    wire: &mut UdpWire<'_, R>,
+    options: SpeakOptions<'_>,
+    out: &mut W,
+) -> Result<Report, Fault>
+    requires { wire.old.faults ≡ 0 }
+{
+    let mut buf = vec![in alloc; 0u8; MAX_DATAGRAM_LEN]?;
+    if options.routes {
+        speak_with_routes(alloc, speaker, wire, &mut buf, options.turns, out)
+    } else {
+        Ok(drive(speaker, wire, &mut buf, options.turns))
+    }
 }
 
 /// Drives the speaker turn by turn. After each one the changes of the selected routes are written, and at
