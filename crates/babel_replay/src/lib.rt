@@ -7,6 +7,7 @@
 //! that they write.
 #![tactic(auto)]
 
+mod counting;
 mod explaining;
 mod faults;
 mod log_lines;

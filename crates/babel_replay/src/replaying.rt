@@ -1,20 +1,25 @@
 //! A log replayed: what the speaker makes of each line.
 
-ghost use Rattle.std.specs.Prelude.{◌≡◌, OnOk, IfErr, IfSome};
+ghost use Rattle.std.specs.Prelude.{◌≡◌, [], slice_get, OnOk, IfOk, IfErr, IfSome};
 ghost use Rattle.std.specs.Fmt.{with_newline};
 ghost use Rattle.std.specs.Io.KnownBytes.{Appends};
+ghost use Rattle.std.specs.Option.{option_map_or};
+ghost use Rattle.indexmap.specs.IndexMap.{set_value_at};
+ghost use Rattle.babel_replay.specs.Report.{places_in, note_lines, select_line, select_lines, Sends, table_line, table_lines};
+ghost use Rattle.babel_replay.specs.Seen.{choice_at, choice_printed, printed_all};
 
+use crate::counting::count_messages;
 use crate::log_lines::is_skipped;
 use crate::reading::read_line;
-use crate::seen::{Choice, SeenPrefixes};
+use crate::seen::{Choice, SeenPrefixes, is_same};
 use crate::stepping::{Outcome, step};
 use crate::texts::{CostRefusedLine, NoteLine, OutLine, RefusedLine, SelectLine, TableLine};
 use crate::{Action, Event, LineFault, MAX_LINE_LEN, ReplayFault, parse_line};
 use arrayvec::ArrayVec;
-use babel_packet::{HEADER_LEN, NEXT_HOP, Placed, ROUTER_ID, Refusal, decode};
+use babel_packet::{Placed, Refusal, decode};
 use babel_speaker::Speaker;
 use babel_state::{Config, MAX_PENDING, Note};
-use babel_tlv::{DATAGRAM_LEN, walk};
+use babel_value::Prefix;
 use std::alloc::{AllocError, Global};
 use std::fmt::Display;
 use std::io::{BufRead, Write};
@@ -130,11 +135,14 @@ impl Replayer {
             Outcome::CostRefused(fault) => write_line(out, CostRefusedLine { time, fault })?,
         }
         self.write_selections(time, out)?;
-        self.send_datagrams(time, out)
+        send_datagrams(&mut self.speaker, time, out)
     }
 
     /// What the line's datagram means, if it has one that can be read.
-    fn decode(&self, event: &Event<'_>) -> Result<Vec<Placed>, LineFault> {
+    fn decode(&self, event: &Event<'_>) -> Result<Vec<Placed>, LineFault>
+        ensures ok { IfOk result (λ placed. placed.items ≡ places_in event.now.action) }
+        ensures memory { IfErr result (λ fault. fault ≡ LineFault.Memory) }
+    {
         let Action::Receive { source, octets, .. } = event.action else {
             return Ok(Vec::new(self.alloc));
         };
@@ -147,57 +155,79 @@ impl Replayer {
 
     /// Writes a `select` line for each seen prefix whose selected route isn't the one that was last
     /// printed.
-    fn write_selections<W: Write>(&mut self, time: u64, out: &mut W) -> Result<(), LineFault> {
+    fn write_selections<W: Write>(&mut self, time: u64, out: &mut W) -> Result<(), LineFault>
+        ensures written { OnOk result (Appends (W.contents out.old) (W.contents out.new) (select_lines time self.old.speaker self.old.seen.choices.entries)) }
+        ensures seen { OnOk result (self.new.seen.choices.entries ≡ printed_all self.old.speaker self.old.seen.choices.entries) }
+        ensures speaker { self.new.speaker ≡ self.old.speaker }
+        ensures failed { IfErr result (λ fault. fault ≡ LineFault.Write) }
+    {
         for index in 0..self.seen.len() {
-            let Some((prefix, last)) = self.seen.get(index) else {
-                return Ok(());
-            };
-            let choice = self.speaker.selected(&prefix).map(Choice::of);
-            if choice != last {
-                self.seen.set(index, choice);
-                write_line(
-                    out,
-                    SelectLine {
-                        time,
-                        prefix,
-                        choice,
-                    },
-                )?;
-            }
+            self.write_selection(index, time, out)?;
         }
         Ok(())
     }
 
-    /// Takes datagrams from the speaker until there is none, and writes an `out` line for each.
-    fn send_datagrams<W: Write>(&mut self, time: u64, out: &mut W) -> Result<(), LineFault> {
-        let mut datagram = ArrayVec::new();
-        for _ in 0..MAX_PENDING + 1 {
-            let Some(target) = self.speaker.next_datagram(time, &mut datagram) else {
-                return Ok(());
-            };
-            let messages = count_messages(&datagram);
-            write_line(
-                out,
-                OutLine {
-                    time,
-                    target,
-                    messages,
-                },
-            )?;
+    /// The same for the seen prefix at the index.
+    fn write_selection<W: Write>(
+        &mut self,
+        index: usize,
+        time: u64,
+        out: &mut W,
+    ) -> Result<(), LineFault>
+        ensures written { OnOk result (Appends (W.contents out.old) (W.contents out.new) (option_map_or (select_line time self.old.speaker) (slice_get self.old.seen.choices.entries index) [])) }
+        ensures seen { OnOk result (self.new.seen.choices.entries ≡ option_map_or (λ e. set_value_at self.old.seen.choices.entries index (choice_printed self.old.speaker e)) (slice_get self.old.seen.choices.entries index) self.old.seen.choices.entries) }
+        ensures speaker { self.new.speaker ≡ self.old.speaker }
+        ensures failed { IfErr result (λ fault. fault ≡ LineFault.Write) }
+    {
+        let Some((prefix, last)) = self.seen.get(index) else {
+            return Ok(());
+        };
+        let choice = self.choice(&prefix);
+        self.seen.set(index, choice);
+        if is_same(&choice, &last) {
+            return Ok(());
         }
-        Ok(())
+        write_line(
+            out,
+            SelectLine {
+                time,
+                prefix,
+                choice,
+            },
+        )
+    }
+
+    /// What is printed of the prefix's selected route.
+    fn choice(&self, prefix: &Prefix) -> Option<Choice>
+        ensures { result ≡ choice_at self.now.speaker prefix.now }
+    {
+        self.speaker.selected(prefix).map(Choice::of)
     }
 
     /// Writes a `table` line for each seen prefix, and flushes.
-    fn write_table<W: Write>(&self, out: &mut W) -> Result<(), LineFault> {
+    fn write_table<W: Write>(&self, out: &mut W) -> Result<(), LineFault>
+        ensures written { OnOk result (Appends (W.contents out.old) (W.contents out.new) (table_lines self.now.speaker self.now.seen.choices.entries)) }
+        ensures failed { IfErr result (λ fault. fault ≡ LineFault.Write) }
+    {
         for index in 0..self.seen.len() {
-            let Some((prefix, _)) = self.seen.get(index) else {
-                return Ok(());
-            };
-            let choice = self.speaker.selected(&prefix).map(Choice::of);
-            write_line(out, TableLine { prefix, choice })?;
+            self.write_table_line(index, out)?;
         }
-        out.flush().map_err(|_| LineFault::Write)
+        match out.flush() {
+            Ok(()) => Ok(()),
+            Err(_) => Err(LineFault::Write),
+        }
+    }
+
+    /// The line of the seen prefix at the index.
+    fn write_table_line<W: Write>(&self, index: usize, out: &mut W) -> Result<(), LineFault>
+        ensures written { OnOk result (Appends (W.contents out.old) (W.contents out.new) (option_map_or (table_line self.now.speaker) (slice_get self.now.seen.choices.entries index) [])) }
+        ensures failed { IfErr result (λ fault. fault ≡ LineFault.Write) }
+    {
+        let Some((prefix, _)) = self.seen.get(index) else {
+            return Ok(());
+        };
+        let choice = self.choice(&prefix);
+        write_line(out, TableLine { prefix, choice })
     }
 }
 
@@ -207,13 +237,16 @@ fn write_notes<W: Write>(
     placed: &[Placed],
     notes: &[Note],
     out: &mut W,
-) -> Result<(), LineFault> {
-    for (placed, note) in placed.iter().zip(notes) {
+) -> Result<(), LineFault>
+    ensures written { OnOk result (Appends (W.contents out.old) (W.contents out.new) (note_lines time placed.now notes.now)) }
+    ensures failed { IfErr result (λ fault. fault ≡ LineFault.Write) }
+{
+    for (place, note) in placed.iter().zip(notes) {
         write_line(
             out,
             NoteLine {
                 time,
-                placed: *placed,
+                placed: *place,
                 verdict: note.verdict,
             },
         )?;
@@ -221,16 +254,25 @@ fn write_notes<W: Write>(
     Ok(())
 }
 
-/// How many messages a datagram of the builder has. Router-Id and Next Hop only set state for Updates.
-fn count_messages(datagram: &ArrayVec<u8, DATAGRAM_LEN>) -> usize {
-    let Some(body) = datagram.get(HEADER_LEN..) else {
-        return 0;
-    };
-    let mut count = 0usize;
-    for tlv in walk(body) {
-        if !matches!(tlv.kind, ROUTER_ID | NEXT_HOP) {
-            count = count.saturating_add(1);
-        }
+/// Takes datagrams from the speaker until there is none, and writes an `out` line for each.
+fn send_datagrams<W: Write>(speaker: &mut Speaker, time: u64, out: &mut W) -> Result<(), LineFault>
+    ensures sent { OnOk result (Sends time speaker.old speaker.new (W.contents out.old) (W.contents out.new)) }
+    ensures failed { IfErr result (λ fault. fault ≡ LineFault.Write) }
+{
+    let mut datagram = ArrayVec::new();
+    for _ in 0..MAX_PENDING + 1 {
+        let Some(target) = speaker.next_datagram(time, &mut datagram) else {
+            return Ok(());
+        };
+        let messages = count_messages(&datagram);
+        write_line(
+            out,
+            OutLine {
+                time,
+                target,
+                messages,
+            },
+        )?;
     }
-    count
+    Ok(())
 }

@@ -1,0 +1,7 @@
+pub mod Comparing
+pub mod MessageCounts
+pub mod Printing
+pub mod Seeing
+pub mod Sending
+pub mod Writing
+pub mod Zips
