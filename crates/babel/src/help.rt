@@ -292,6 +292,7 @@ Events:
   raise N           the seqno of node N grows by 1
   announce N P      node N announces the prefix P, which its configuration lists
   withdraw N P      node N announces the prefix P no longer
+  restart N T       node N is saved, and restored at the moment T
 A datagram may be delivered to any node, late, more than once, or never.
 
 Exit status:
