@@ -1,6 +1,6 @@
 -- The orders of the keys are total, and only equal keys compare as equal.
-use Rattle.std.specs.Prelude.{◌≡◌, ℕ, List, ◌∷◌}
-use Rattle.std.proofs.Common.{refl, ap, subst}
+use Rattle.std.specs.Prelude.{ℕ, List}
+use Rattle.std.proofs.Common.{ap}
 use Rattle.std.specs.Ordering.{nat_cmp}
 use Rattle.std.specs.Cmp.{IsTotalOrder, on_total, then_total, nat_cmp_total}
 use Rattle.std.specs.Cmp.Lexicographic.{nat_list_cmp_total}
@@ -9,27 +9,11 @@ use Rattle.std.proofs.lemmas.Map.Lookups.{exact_bytes, exact_unsigned, exact_pai
 use Rattle.babel_value.specs.declared.addresses.Addr.{Addr}
 use Rattle.babel_value.specs.declared.addresses.Addr.TheVariants.{V4, V6}
 use Rattle.babel_value.specs.Prefixes.{PrefixValue}
+pub use Rattle.babel_value.specs.OrderLaws.{octets_total, addr_total}
 use Rattle.babel_value.specs.Orders.{octets_cmp, addr_cmp, prefix_cmp, source_cmp, peer_cmp}
-
--- The octets of an address after the number of its family, which orders addresses as lists.
-abbrev pub tagged : Addr → List ℕ
-tagged (V4 octets) = 4 ∷ octets
-tagged (V6 octets) = 6 ∷ octets
-
-pub addr_cmp-tagged : (a b : Addr) → octets_cmp (tagged a) (tagged b) ≡ addr_cmp a b
-addr_cmp-tagged (V4 a) (V4 b) = refl
-addr_cmp-tagged (V4 a) (V6 b) = refl
-addr_cmp-tagged (V6 a) (V4 b) = refl
-addr_cmp-tagged (V6 a) (V6 b) = refl
-
-pub octets_total : IsTotalOrder octets_cmp
-octets_total = nat_list_cmp_total
 
 pub octets_exact : IsAntisymmetric octets_cmp
 octets_exact = exact_bytes
-
-pub addr_total : IsTotalOrder addr_cmp
-addr_total = subst IsTotalOrder (λ i a b. addr_cmp-tagged a b i) (on_total tagged nat_list_cmp_total)
 
 pub prefix_total : IsTotalOrder prefix_cmp
 prefix_total = then_total (on_total (λ p. p.addr) addr_total) (on_total (λ p. p.length) nat_cmp_total)

@@ -6,5 +6,6 @@ pub mod RouterIds
 pub mod Addresses
 pub mod Prefixes
 pub mod Orders
+pub mod OrderLaws
 pub mod Moments
 pub mod Texts

@@ -1,9 +1,14 @@
 //! Addresses and their families (RFC 8966, section 4.1.4).
 
-ghost use Rattle.std.specs.Prelude.{◌≡◌, ◌<◌, ◌+◌, ◌*◌, Some, replicate, slice_index, if◌then◌else◌};
+ghost use Rattle.std.specs.Prelude.{◌≡◌, ◌<◌, ◌+◌, ◌*◌, Some, replicate, slice_index, if◌then◌else◌, refl};
+ghost use Rattle.std.specs.Ordering.{as_partial_cmp};
 ghost use Rattle.babel_value.specs.Addresses.{family_of, width_of};
+ghost use Rattle.babel_value.specs.Orders.{addr_cmp};
 ghost use Rattle.babel_value.specs.Texts.{addr_text, groups_text};
+ghost use Rattle.babel_value.specs.OrderLaws.{addr_total, addr_ties, addr_partial_order};
 
+use crate::orders::{compare4, compare16};
+use std::cmp::Ordering;
 use std::fmt;
 
 /// A family of addresses. IPv4 comes before IPv6.
@@ -16,7 +21,7 @@ pub enum Family {
 }
 
 /// An address, in the order of the wire.
-#[derive(Clone, Copy, Debug, PartialEq, Eq, PartialOrd, Ord, Hash)]
+#[derive(Clone, Copy, Debug, PartialEq, Eq, Hash)]
 pub enum Addr {
     /// An IPv4 address.
     V4([u8; 4]),
@@ -30,6 +35,38 @@ impl Default for Addr {
         ensures { result ≡ Addr.V4 (replicate 4 0) }
     {
         Addr::V4([0; 4])
+    }
+}
+
+/// IPv4 comes before IPv6.
+impl Ord for Addr {
+    ghost cmp = { addr_cmp };
+
+    ghost total = { addr_total };
+
+    ghost matches_partial_cmp = { λ one other. refl };
+
+    ghost matches_eq = { addr_ties };
+
+    #[inline]
+    fn cmp(&self, other: &Addr) -> Ordering {
+        match (self, other) {
+            (Addr::V4(one), Addr::V4(other)) => compare4(one, other),
+            (Addr::V4(_), Addr::V6(_)) => Ordering::Less,
+            (Addr::V6(_), Addr::V4(_)) => Ordering::Greater,
+            (Addr::V6(one), Addr::V6(other)) => compare16(one, other),
+        }
+    }
+}
+
+impl PartialOrd for Addr {
+    ghost partial_cmp = { as_partial_cmp addr_cmp };
+
+    ghost laws = { addr_partial_order };
+
+    #[inline]
+    fn partial_cmp(&self, other: &Addr) -> Option<Ordering> {
+        Some(self.cmp(other))
     }
 }
 

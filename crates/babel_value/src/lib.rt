@@ -10,6 +10,7 @@ mod keys;
 pub mod laws;
 mod metrics;
 mod moments;
+mod orders;
 mod prefixes;
 mod router_ids;
 mod seqnos;

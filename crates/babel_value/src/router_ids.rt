@@ -1,15 +1,20 @@
 //! Router-ids (RFC 8966, section 4.1.3).
 
-ghost use Rattle.std.specs.Prelude.{◌≡◌, Some, false};
+ghost use Rattle.std.specs.Prelude.{◌≡◌, Some, false, refl};
+ghost use Rattle.std.specs.Ordering.{as_partial_cmp};
 ghost use Rattle.babel_value.specs.RouterIds.{router_id_of, is_reserved};
+ghost use Rattle.babel_value.specs.Orders.{octets_cmp};
 ghost use Rattle.babel_value.specs.Texts.{router_text};
+ghost use Rattle.babel_value.specs.OrderLaws.{octets_total, router_ties, router_partial_order};
 
+use crate::orders::compare8;
+use std::cmp::Ordering;
 use std::fmt;
 use std::marker::Model;
 
 /// A router-id: 8 octets that name a router in the whole network. All zeros and all ones are
 /// reserved (RFC 8966, section 4.1.3), and no `RouterId` is one of the two.
-#[derive(Clone, Copy, Debug, PartialEq, Eq, PartialOrd, Ord, Hash)]
+#[derive(Clone, Copy, Debug, PartialEq, Eq, Hash)]
 pub struct RouterId {
     octets: [u8; 8],
 }
@@ -25,6 +30,32 @@ impl Model for RouterId {
     ghost invariant = { λ r. is_reserved r.octets ≡ false };
 
     ghost inverse = { λ octets. record { octets = octets } };
+}
+
+impl Ord for RouterId {
+    ghost cmp = { octets_cmp };
+
+    ghost total = { octets_total };
+
+    ghost matches_partial_cmp = { λ one other. refl };
+
+    ghost matches_eq = { router_ties };
+
+    #[inline]
+    fn cmp(&self, other: &RouterId) -> Ordering {
+        compare8(&self.octets, &other.octets)
+    }
+}
+
+impl PartialOrd for RouterId {
+    ghost partial_cmp = { as_partial_cmp octets_cmp };
+
+    ghost laws = { router_partial_order };
+
+    #[inline]
+    fn partial_cmp(&self, other: &RouterId) -> Option<Ordering> {
+        Some(self.cmp(other))
+    }
 }
 
 impl RouterId {
