@@ -1,3 +1,4 @@
+pub mod WordLemmas
 pub mod PlaceLemmas
 pub mod PeerCmp
 pub mod TickLemmas

@@ -1,7 +1,7 @@
 -- What look-ups give after each change of the neighbours.
-use Rattle.std.proofs.Common.{◌≡◌, ◌≢◌, ℕ, Bool, true, false, cond, ◌||◌, List, [], ◌∷◌, Option, Some, None, refl, sym, ap, ◌∙◌}
+use Rattle.std.proofs.Common.{◌≡◌, ◌≢◌, ℕ, true, cond, [], ◌∷◌, Some, None, refl, sym, ◌∙◌}
 use Rattle.std.specs.List.{cons_option}
-use Rattle.std.specs.Option.{option_map, option_map_or, option_and_then}
+use Rattle.std.specs.Option.{option_map, option_and_then}
 use Rattle.std.specs.declared.cmp.Ordering.TheVariants.{Less, Equal, Greater}
 use Rattle.std.specs.Ordering.{is_lt, is_eq}
 use Rattle.std.specs.Cmp.{tied_itself, first_so, second_so}
@@ -11,8 +11,8 @@ use Rattle.babel_value.specs.declared.keys.Peer.{Peer}
 use Rattle.babel_value.specs.Orders.{peer_cmp}
 use Rattle.babel_value.proofs.OrderLaws.{peer_total, peer_exact}
 use Rattle.babel_link.specs.declared.links.Link.{Link}
-use Rattle.babel_link.specs.Links.{ihu_link, ticked_link}
-use Rattle.babel_link.specs.Neighbours.{Links, ihu_of, tick_of}
+use Rattle.babel_link.specs.Links.{ticked_link}
+use Rattle.babel_link.specs.Neighbours.{Links, tick_of}
 use Rattle.babel_link.proofs.PlaceLemmas.{less}
 use Rattle.babel_link.proofs.TickLemmas.{below-tick_of}
 

@@ -1,13 +1,12 @@
 -- When a tick removes a neighbour, and what it makes of its txcost.
-use Rattle.std.proofs.Common.{◌≡◌, ◌↔◌, ℕ, zero, suc, leb, Bool, true, false, cond, ◌||◌, List, [], ◌∷◌, take, Option, Some, None, IsNone, IsTrue, IsFalse, refl, sym, ap, ◌∙◌}
+use Rattle.std.proofs.Common.{◌≡◌, ◌↔◌, ℕ, zero, suc, leb, Bool, true, false, cond, ◌||◌, List, [], ◌∷◌, take, Option, Some, None, IsNone, refl, sym, ap, ◌∙◌}
 use Rattle.std.specs.Bool.{⊤}
 use Rattle.std.specs.List.{list_any}
 use Rattle.std.specs.Option.{option_map, option_map_or, option_and_then}
-use Rattle.babel_link.specs.declared.links.Timer.{Timer}
 use Rattle.babel_link.specs.declared.links.History.{History}
 use Rattle.babel_link.specs.declared.links.Link.{Link}
 use Rattle.babel_link.specs.Histories.{has_received, missed_marks}
-use Rattle.babel_link.specs.Links.{fired_history, fired_link, unless_silent, expired_link, ticked_link, is_heard, with_history, is_txcost_due, is_hello_due, after_deadline, FallsSilent, again}
+use Rattle.babel_link.specs.Links.{fired_history, fired_link, unless_silent, expired_link, ticked_link, is_heard, with_history, is_txcost_due, FallsSilent, again}
 
 none_in_front : (n : ℕ) (marks : List Bool) → list_any (λ mark. mark) marks ≡ false → list_any (λ mark. mark) (take n marks) ≡ false
 none_in_front zero marks none = refl

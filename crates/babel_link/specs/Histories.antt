@@ -10,22 +10,30 @@ pub record MarksValue : Type 0 where
   pub marks : List Bool
   pub expected : ℕ
 
--- A list of marks is cut to its newest 16 (profile).
+-- How many marks a history has at most (profile).
+abbrev pub max_marks : ℕ
+max_marks = 16
+
+-- A list of marks is cut to its newest ones (profile).
 abbrev pub newest : List Bool → List Bool
-newest marks = take 16 marks
+newest marks = take max_marks marks
 
 -- What the first Hello of a kind makes (RFC 8966, appendix A.1).
 abbrev pub first_marks : ℕ → MarksValue
 first_marks n = record { marks = true ∷ []; expected = next_seqno n }
 
--- Hello n is more than 16 away from the expected one, either way: the sender seems to have restarted (RFC 8966, appendix A.1).
+-- How far a Hello may be from the expected one, either way (RFC 8966, appendix A.1).
+abbrev pub max_gap : ℕ
+max_gap = 16
+
+-- Hello n is further away from the expected one, either way: the sender seems to have restarted (RFC 8966, appendix A.1).
 abbrev pub is_far : ℕ → MarksValue → Bool
-is_far n m = nat_lt 16 (ahead m.expected n) && nat_lt 16 (ahead n m.expected)
+is_far n m = nat_lt max_gap (ahead m.expected n) && nat_lt max_gap (ahead n m.expected)
 
 -- The marks before the mark of Hello n, if it isn't far away. If it's ahead of the expected one, those between were missed. If it's late, marks were made for Hellos that weren't due, and they go (RFC 8966, appendix A.1).
 abbrev pub marks_before : ℕ → MarksValue → List Bool
 marks_before n m =
-    if nat_le (ahead m.expected n) 16 then replicate (ahead m.expected n) false ++ m.marks
+    if nat_le (ahead m.expected n) max_gap then replicate (ahead m.expected n) false ++ m.marks
     else drop (ahead n m.expected) m.marks
 
 -- The marks after a later Hello, with seqno n (RFC 8966, appendix A.1).

@@ -6,13 +6,14 @@ use Rattle.babel_link.specs.declared.links.History.{History}
 use Rattle.babel_link.specs.declared.links.Link.{Link}
 use Rattle.babel_link.specs.declared.marks.Heard.{Heard}
 use Rattle.babel_link.specs.declared.marks.Heard.TheVariants.{Kept}
+use Rattle.babel_value.specs.Metrics.{infinity}
 use Rattle.babel_value.specs.Moments.{later, hold_time}
 use Rattle.babel_link.specs.Moments.{hello_patience}
 use Rattle.babel_link.specs.Histories.{is_far, first_marks, heard_marks, heard_verdict, missed_marks, is_up, has_received}
 
 -- A neighbour of which nothing is known: no Hello of either kind, no IHU (RFC 8966, section 3.2.4).
 abbrev pub new_link : Link
-new_link = record { multicast = None; unicast = None; txcost = 65535; txcost_due = None }
+new_link = record { multicast = None; unicast = None; txcost = infinity; txcost_due = None }
 
 -- The history of one kind of Hellos (RFC 8966, section 3.2.4).
 abbrev pub history_of : Bool → Link → Option History
@@ -97,7 +98,7 @@ is_txcost_due now link = option_map_or (λ due. nat_le due now) link.txcost_due 
 unfoldable pub expired_link : ℕ → Link → Link
 expired_link now link =
     if is_txcost_due now link
-    then record link { txcost = 65535; txcost_due = None } else link
+    then record link { txcost = infinity; txcost_due = None } else link
 
 -- The link after a tick: first the multicast Hellos, then the unicast ones, then the txcost (profile). None: the neighbour is flushed.
 unfoldable pub ticked_link : ℕ → Link → Option Link
@@ -130,8 +131,8 @@ is_up_history history = option_map_or (λ h. is_up h.marks.marks) history false
 
 -- The cost of receiving: the interface's nominal cost while either history is up, else infinity (RFC 8966, appendix A.2.1).
 unfoldable pub link_rxcost : ℕ → Link → ℕ
-link_rxcost nominal link = if is_up_history link.multicast || is_up_history link.unicast then nominal else 65535
+link_rxcost nominal link = if is_up_history link.multicast || is_up_history link.unicast then nominal else infinity
 
 -- The cost of the link: infinity if receiving costs that, else the cost of sending (RFC 8966, appendix A.2.1).
 unfoldable pub link_cost : ℕ → Link → ℕ
-link_cost nominal link = if link_rxcost nominal link == 65535 then 65535 else link.txcost
+link_cost nominal link = if link_rxcost nominal link == infinity then infinity else link.txcost

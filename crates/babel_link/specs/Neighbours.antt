@@ -5,6 +5,7 @@ use Rattle.std.specs.Option.{option_map, option_map_or, unwrap_or}
 use Rattle.std.specs.Ordering.{is_lt}
 use Rattle.std.specs.FinMap.{find, put, is_sorted}
 use Rattle.babel_value.specs.declared.keys.Peer.{Peer}
+use Rattle.babel_value.specs.Metrics.{infinity}
 use Rattle.babel_value.specs.Orders.{peer_cmp}
 use Rattle.babel_link.specs.declared.links.Link.{Link}
 use Rattle.babel_link.specs.declared.marks.Heard.{Heard}
@@ -12,6 +13,10 @@ use Rattle.babel_link.specs.Links.{new_link, hello_link, link_verdict, ihu_link,
 
 abbrev pub Links : Type 0
 Links = List (Peer × Link)
+
+-- How many neighbours there are at most (profile).
+abbrev pub max_neighbours : ℕ
+max_neighbours = 64
 
 -- What is known of the peer: nothing, if it's no neighbour (RFC 8966, section 3.2.4).
 abbrev pub link_of : Peer → Links → Link
@@ -54,10 +59,10 @@ AreQuietUntil moment links = All (λ e. IsQuietUntil moment e.1) links
 
 -- The costs of a peer's link, infinite if it's no neighbour (RFC 8966, appendix A.2.1).
 unfoldable pub rxcost_of : Peer → ℕ → Links → ℕ
-rxcost_of peer nominal links = option_map_or (link_rxcost nominal) (find peer_cmp peer links) 65535
+rxcost_of peer nominal links = option_map_or (link_rxcost nominal) (find peer_cmp peer links) infinity
 
 unfoldable pub cost_of : Peer → ℕ → Links → ℕ
-cost_of peer nominal links = option_map_or (link_cost nominal) (find peer_cmp peer links) 65535
+cost_of peer nominal links = option_map_or (link_cost nominal) (find peer_cmp peer links) infinity
 
 -- Each peer comes before all later ones (profile).
 abbrev pub are_ascending : List Peer → Bool

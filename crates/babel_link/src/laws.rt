@@ -3,6 +3,7 @@
 ghost use Rattle.std.specs.Prelude.{◌≡◌, ◌<◌, ◌↔◌, ℕ, Bool, [], Some, IsNone, IsTrue, if◌then◌else◌};
 ghost use Rattle.std.specs.FinMap.{find, is_sorted};
 ghost use Rattle.std.specs.Option.{option_map, option_and_then};
+ghost use Rattle.babel_value.specs.Metrics.{infinity};
 ghost use Rattle.babel_value.specs.Orders.{peer_cmp};
 ghost use Rattle.babel_value.specs.declared.keys.Peer.{Peer};
 ghost use Rattle.babel_link.specs.declared.links.Link.{Link};
@@ -35,7 +36,7 @@ pub fn neighbours_by_their_peers()
 pub fn neighbours_fall_silent()
     ensures gone { (now : ℕ) (link : Link) → IsNone (ticked_link now link) ↔ FallsSilent now link }
     ensures txcost { (now : ℕ) (link after : Link) → ticked_link now link ≡ Some after
-        → after.txcost ≡ (if is_txcost_due now link then 65535 else link.txcost) }
+        → after.txcost ≡ (if is_txcost_due now link then infinity else link.txcost) }
     ensures nothing_due { (now moment : ℕ) (links : Links) → AreQuietUntil moment links → now < moment
         → (tick_of now links ≡ links) × (gone_of now links ≡ []) }
 {}

@@ -7,7 +7,7 @@
 #![tactic(auto)]
 
 mod errors;
-mod laws;
+pub mod laws;
 mod links;
 mod marks;
 mod neighbours;
@@ -16,7 +16,6 @@ mod words;
 
 pub use babel_value::Memory;
 pub use errors::Full;
-pub use laws::{neighbours_by_their_peers, neighbours_fall_silent, neighbours_stay_in_order};
 pub use links::{History, Link, Timer};
 pub use marks::{Heard, Marks};
 pub use neighbours::{MAX_NEIGHBOURS, Neighbours};

@@ -8,7 +8,7 @@ ghost use Rattle.babel_link.specs.Moments.{hello_patience};
 ghost use Rattle.babel_link.specs.Histories.{heard_verdict};
 
 use crate::{Heard, Marks};
-use babel_value::{Metric, Seqno};
+use babel_value::{Metric, Seqno, hold_time};
 
 /// When the next Hello is missed.
 #[derive(Clone, Copy, Debug)]
@@ -200,7 +200,7 @@ impl Link {
         ensures { self.new ≡ ihu_link now rxcost interval self.old }
     {
         self.txcost = rxcost;
-        self.txcost_due = Some(later_by(now, u64::from(interval) * 7 / 2));
+        self.txcost_due = Some(later_by(now, hold_time(interval)));
     }
 
     /// The link, if a Hello of either kind is remembered.

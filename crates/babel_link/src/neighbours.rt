@@ -5,7 +5,7 @@ ghost use Rattle.std.specs.FinMap.{find, put, is_sorted};
 ghost use Rattle.std.specs.Option.{option_map};
 ghost use Rattle.std.specs.Vec.{vec_len, vec_capacity};
 ghost use Rattle.babel_value.specs.Orders.{peer_cmp};
-ghost use Rattle.babel_link.specs.Neighbours.{link_of, hello_of, hello_verdict, ihu_of, tick_of, gone_of, rxcost_of, cost_of, are_ascending, comes_before, peers_of, AreQuietUntil};
+ghost use Rattle.babel_link.specs.Neighbours.{max_neighbours, link_of, hello_of, hello_verdict, ihu_of, tick_of, gone_of, rxcost_of, cost_of, are_ascending, comes_before, peers_of, AreQuietUntil};
 ghost use Rattle.babel_link.specs.Places.{IsPlaceOf, IsGapFor};
 
 use crate::{Full, Heard, Link, Memory, Peers};
@@ -31,13 +31,13 @@ impl Model for Neighbours {
     ghost use Rattle.std.specs.FinMap.{is_sorted};
     ghost use Rattle.std.specs.Vec.{vec_len, vec_capacity};
     ghost use Rattle.babel_value.specs.Orders.{peer_cmp};
-    ghost use Rattle.babel_link.specs.Neighbours.{Links, AreQuietUntil};
+    ghost use Rattle.babel_link.specs.Neighbours.{max_neighbours, Links, AreQuietUntil};
 
     ghost Value = { Links };
 
     ghost view = { λ n. n.links.items };
 
-    ghost invariant = { λ n. (vec_len n.links ≤ 64) × (64 ≤ vec_capacity n.links) × IsTrue (is_sorted peer_cmp n.links.items) × AreQuietUntil n.due n.links.items };
+    ghost invariant = { λ n. (vec_len n.links ≤ max_neighbours) × (max_neighbours ≤ vec_capacity n.links) × IsTrue (is_sorted peer_cmp n.links.items) × AreQuietUntil n.due n.links.items };
 }
 
 /// Inserts into a vector that has room, which takes no memory.
@@ -52,8 +52,12 @@ fn insert_reserved<T: Drop>(items: &mut Vec<T>, place: usize, item: T)
 }
 
 /// Handles the deadlines of the neighbours, in one pass. Returns a moment before which none is due again.
-fn tick_links(links: &mut Vec<(Peer, Link)>, now: u64, gone: &mut ArrayVec<Peer, 64>) -> u64
-    requires { vec_len links.old ≤ 64 }
+fn tick_links(
+    links: &mut Vec<(Peer, Link)>,
+    now: u64,
+    gone: &mut ArrayVec<Peer, MAX_NEIGHBOURS>,
+) -> u64
+    requires { vec_len links.old ≤ max_neighbours }
     ensures links { links.new.items ≡ tick_of now links.old.items }
     ensures gone { gone.new.items ≡ gone_of now links.old.items }
     ensures len { vec_len links.new ≤ vec_len links.old }
@@ -125,7 +129,7 @@ impl Neighbours {
     fn put(&mut self, peer: Peer, place: Result<usize, usize>, link: Link)
         requires found { IfOk place (IsPlaceOf peer self.old) }
         requires absent { IfErr place (IsGapFor peer self.old) }
-        requires room { IsNone (find peer_cmp peer self.old) → length self.old < 64 }
+        requires room { IsNone (find peer_cmp peer self.old) → length self.old < max_neighbours }
         ensures { self.new ≡ put peer_cmp peer link self.old }
     {
         // The proof's plan for the write below needs these types named first.
@@ -151,7 +155,7 @@ impl Neighbours {
         seqno: Seqno,
         interval: u16,
     ) -> Result<Heard, Full>
-        ensures full { IsErr result ↔ (IsNone (find peer_cmp peer self.old) × (length self.old ≡ 64)) }
+        ensures full { IsErr result ↔ (IsNone (find peer_cmp peer self.old) × (length self.old ≡ max_neighbours)) }
         ensures heard { IfOk result (λ heard. heard ≡ hello_verdict peer unicast seqno self.old) }
         ensures ok { OnOk result (self.new ≡ hello_of now peer unicast seqno interval self.old) }
         ensures err { OnErr result (self.new ≡ self.old) }
@@ -190,7 +194,7 @@ impl Neighbours {
     /// missed, a txcost is too old. A neighbour of which no Hello is remembered any more is flushed:
     /// `gone` is emptied, and then has the flushed neighbours in ascending order. Returns `false` if no
     /// deadline is due; then it looks at no neighbour.
-    pub fn tick(&mut self, now: u64, gone: &mut ArrayVec<Peer, 64>) -> bool
+    pub fn tick(&mut self, now: u64, gone: &mut ArrayVec<Peer, MAX_NEIGHBOURS>) -> bool
         ensures links { self.new ≡ tick_of now self.old }
         ensures gone { gone.new.items ≡ gone_of now self.old }
         ensures ascending { IsTrue (are_ascending gone.new.items) }
@@ -248,7 +252,7 @@ impl Neighbours {
     pub fn peers(&self) -> Peers<'_>
         ensures peers { result ≡ peers_of self.now }
         ensures order { IsTrue (is_sorted peer_cmp self.now) }
-        ensures few { length self.now ≤ 64 }
+        ensures few { length self.now ≤ max_neighbours }
     {
         Peers::new(&self.links)
     }

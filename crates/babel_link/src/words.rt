@@ -1,7 +1,7 @@
 //! Marks as a word of bits.
 
 ghost use Rattle.std.specs.Prelude.{◌≡◌, ◌++◌, true, false, [], ◌∷◌, drop, replicate, nat_le, if◌then◌else◌};
-ghost use Rattle.babel_link.specs.Histories.{newest, is_up, has_received};
+ghost use Rattle.babel_link.specs.Histories.{max_gap, newest, is_up, has_received};
 
 use std::marker::Model;
 
@@ -11,7 +11,7 @@ const ROOM: u8 = 16;
 /// How far a Hello may be from the expected one, either way.
 pub(crate) const NEAR: u16 = 16;
 
-/// At most 16 marks, newest first: the lowest bit is the newest mark, and a 1 a Hello that came.
+/// The newest marks, at most as many as there is room for: the lowest bit is the newest mark, and a 1 a Hello that came.
 #[derive(Clone, Copy, Debug)]
 pub(crate) struct Word {
     pub(crate) bits: u16,
@@ -20,6 +20,7 @@ pub(crate) struct Word {
 
 impl Model for Word {
     ghost use Rattle.std.specs.Prelude.{◌<◌, ◌≤◌, ◌^◌, List, Bool, length};
+    ghost use Rattle.babel_link.specs.Histories.{max_marks};
     ghost use Rattle.babel_link.specs.Words.{marks_of, word_of};
     ghost use Rattle.babel_link.specs.WordLaws.{word_of-marks_of, length-marks_of};
 
@@ -27,7 +28,7 @@ impl Model for Word {
 
     ghost view = { λ w. marks_of w.count w.bits };
 
-    ghost invariant = { λ w. (w.count ≤ 16) × (w.bits < 2 ^ w.count) };
+    ghost invariant = { λ w. (w.count ≤ max_marks) × (w.bits < 2 ^ w.count) };
 
     ghost inverse = { λ marks. record { bits = word_of marks; count = length marks } };
 
@@ -82,10 +83,10 @@ impl Word {
 
     /// Adds the mark of a Hello that came. If `ahead` is near, as many were missed before it. Else it is
     /// `late`, and as many of the newest marks go.
-    #[tactic(auto, using(crate::specs::WordLaws::newest_newest))]
+    #[tactic(auto, using(crate::proofs::WordLemmas::newest_newest))]
     pub(crate) fn hear(&mut self, ahead: u16, late: u16)
         ensures { self.new
-            ≡ newest (true ∷ (if nat_le ahead 16 then replicate ahead false ++ self.old else drop late self.old)) }
+            ≡ newest (true ∷ (if nat_le ahead max_gap then replicate ahead false ++ self.old else drop late self.old)) }
     {
         if ahead <= NEAR {
             self.push_missed(ahead);

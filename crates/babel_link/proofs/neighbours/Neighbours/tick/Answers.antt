@@ -2,7 +2,7 @@
 use Rattle.std.proofs.Common.{◌≡◌, [], refl, sym, arith}
 use Rattle.babel_link.proofs.DueLemmas.{quiet_tick, quiet_gone}
 use Rattle.babel_link.proofs.TickLemmas.{is_sorted-tick_of, are_ascending-gone_of}
-use Rattle.babel_link.specs.Neighbours.{tick_of, gone_of}
+use Rattle.babel_link.specs.Neighbours.{gone_of}
 use Rattle.babel_link.proofs.neighbours.Neighbours.tick.Goals as goal
 
 pub returns-then-now-self-clause-links : goal.returns-then-now-self-clause-links

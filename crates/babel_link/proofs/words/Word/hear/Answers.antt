@@ -2,7 +2,7 @@
 use Rattle.std.proofs.Common.{◌≡◌, ◌∙◌, ◌∷◌, true, false, leb, ap, arith}
 use Rattle.std.proofs.lemmas.Bool.Decides.{nat_tests}
 use Rattle.babel_link.specs.Histories.{newest}
-use Rattle.babel_link.specs.WordLaws.{newest_newest}
+use Rattle.babel_link.proofs.WordLemmas.{newest_newest}
 use Rattle.babel_link.proofs.words.Word.hear.Goals as goal
 use Rattle.babel_link.proofs.words.Word.hear.Goals.{then-ahead-le-NEAR, else-ahead-le-NEAR}
 

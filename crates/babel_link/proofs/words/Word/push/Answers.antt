@@ -1,6 +1,6 @@
 -- A bit put under the others is a mark put before the others, and it fits.
 use Rattle.std.proofs.Common.{◌≡◌, arith}
-use Rattle.babel_link.specs.WordLaws.{marks_of-push, marks_of-push_full, pushed_fits}
+use Rattle.babel_link.proofs.WordLemmas.{marks_of-push, marks_of-push_full, pushed_fits}
 use Rattle.babel_link.proofs.words.Word.push.Goals as goal
 
 pub invariant_of-self-else-self-lt-ROOM : goal.invariant_of-self-else-self-lt-ROOM

@@ -1,7 +1,8 @@
 -- A word has at most 16 marks, and each push adds one more that was missed.
 use Rattle.std.proofs.Common.{◌++◌, false, replicate, sym, arith, add-one}
 use Rattle.std.proofs.lemmas.List.{take_all}
-use Rattle.babel_link.specs.WordLaws.{length-marks_of, newest_newest}
+use Rattle.babel_link.specs.WordLaws.{length-marks_of}
+use Rattle.babel_link.proofs.WordLemmas.{newest_newest}
 use Rattle.babel_link.proofs.words.Word.push_missed.Goals as goal
 
 -- the word has at most 16 marks
