@@ -1,9 +1,12 @@
 //! The builder.
+//!
+//! `add` is linear in the octets of the message, and `finish` takes a constant number of steps.
 
 ghost use Rattle.std.specs.Prelude.{◌≡◌, List, [], ◌∷◌, ◌++◌, true, drop, IsTrue};
 ghost use Rattle.std.specs.Bool.{OnTrue, OnFalse};
 ghost use Rattle.babel_packet.specs.declared.messages.Message.{Message};
 ghost use Rattle.babel_packet.specs.Encodable.{is_encodable};
+ghost use Rattle.babel_packet.specs.Layout.{datagram_header_len};
 ghost use Rattle.babel_packet.specs.BodyMeanings.{Means, datagram};
 ghost use Rattle.babel_build.specs.Built.{HasEncoded, IsBegun, fits, added};
 
@@ -11,10 +14,8 @@ use crate::fields::octets_of;
 use crate::messages::put_message;
 use crate::tlvs::Datagram;
 use arrayvec::ArrayVec;
-use babel_packet::{
-    HEADER_LEN, MAGIC, Message, ParserState, VERSION, compressed_is_read, fields_are_whole,
-    one_more_message,
-};
+use babel_packet::laws::{compressed_is_read, fields_are_whole, one_more_message};
+use babel_packet::{HEADER_LEN, MAGIC, Message, ParserState, VERSION};
 use babel_tlv::DATAGRAM_LEN;
 use babel_value::Addr;
 use std::marker::Model;
@@ -31,13 +32,14 @@ pub struct Builder {
 
 impl Model for Builder {
     ghost use Rattle.std.specs.Prelude.{◌≡◌, ◌≤◌, drop, length};
+    ghost use Rattle.babel_packet.specs.Layout.{datagram_header_len};
     ghost use Rattle.babel_build.specs.Built.{Built, IsBegun, IsKept};
 
     ghost Value = { Built };
 
-    ghost view = { λ b. record { source = b.source; body = drop 4 b.octets.items } };
+    ghost view = { λ b. record { source = b.source; body = drop datagram_header_len b.octets.items } };
 
-    ghost invariant = { λ b. IsBegun b.octets.items × IsKept b.source (drop 4 b.octets.items) b.state };
+    ghost invariant = { λ b. IsBegun b.octets.items × IsKept b.source (drop datagram_header_len b.octets.items) b.state };
 }
 
 impl Builder {
@@ -63,6 +65,7 @@ impl Builder {
 
     /// Adds the message in few octets (RFC 8966, section 4.5), if its TLVs fit. Otherwise it returns
     /// `false`, and nothing has changed.
+    #[must_use]
     pub fn add(&mut self, message: &Message) -> bool
         ensures fits { result ≡ fits self.old message.now }
         ensures added { OnTrue result (self.new ≡ added self.old message.now) }
@@ -97,7 +100,7 @@ impl Builder {
 /// The octets, with the length of the body in the header.
 fn with_length(octets: Datagram) -> Datagram
     requires { IsBegun octets.items }
-    ensures { result.items ≡ datagram (drop 4 octets.items) }
+    ensures { result.items ≡ datagram (drop datagram_header_len octets.items) }
 {
     let mut octets = octets;
     let length = octets.len() - HEADER_LEN;

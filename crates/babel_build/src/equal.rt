@@ -4,6 +4,11 @@ ghost use Rattle.std.specs.Prelude.{◌≡◌, ◌+◌, ◌≤◌, ◌&&◌, len
 ghost use Rattle.std.specs.Str.{bytes_eq};
 ghost use Rattle.std.specs.Int.{from_be_bytes};
 
+use babel_packet::layout::addresses::IPV6_LEN;
+
+/// The octets of half an IPv6 address.
+const HALF: usize = IPV6_LEN / 2;
+
 /// Whether 4 octets are the same.
 #[inline]
 #[tactic(auto, using(crate::proofs::Numbers::equal_numbers4))]
@@ -27,18 +32,18 @@ pub(crate) fn are_equal8(one: &[u8; 8], other: &[u8; 8]) -> bool
 pub(crate) fn are_equal16(one: &[u8; 16], other: &[u8; 16]) -> bool
     ensures { result ≡ bytes_eq one.now other.now }
 {
-    let (first, last) = (eight(one, 0), eight(one, 8));
-    let (other_first, other_last) = (eight(other, 0), eight(other, 8));
+    let (first, last) = (half(one, 0), half(one, HALF));
+    let (other_first, other_last) = (half(other, 0), half(other, HALF));
     are_equal8(&first, &other_first) && are_equal8(&last, &other_last)
 }
 
-/// The 8 octets from this index on.
+/// As many octets as half an address has, from this index on.
 #[inline]
-fn eight(octets: &[u8; 16], from: usize) -> [u8; 8]
-    requires { from ≤ 8 }
-    ensures { result ≡ slice_range octets.now from (from + 8) }
+fn half(octets: &[u8; IPV6_LEN], from: usize) -> [u8; HALF]
+    requires { from ≤ HALF }
+    ensures { result ≡ slice_range octets.now from (from + HALF) }
 {
-    let mut eight = [0; 8];
-    eight.copy_from_slice(&octets[from..from + 8]);
-    eight
+    let mut half = [0; HALF];
+    half.copy_from_slice(&octets[from..from + HALF]);
+    half
 }

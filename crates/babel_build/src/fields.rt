@@ -2,15 +2,17 @@
 
 ghost use Rattle.std.specs.Prelude.{◌≡◌, ◌≤◌, take, drop, length};
 ghost use Rattle.babel_value.specs.Addresses.{width_of};
+ghost use Rattle.babel_packet.specs.Layout.{ipv6_len};
 ghost use Rattle.babel_packet.specs.Prefixes.{octets_of as octets_taken};
 ghost use Rattle.babel_packet.specs.Payloads.{two, octets, is_link_local as is_in_link_local, encoding, encoded, prefix_encoding as family_encoding};
 
+use babel_packet::layout::addresses::{IPV6_LEN, LINK_LOCAL_LEN};
 use babel_packet::{AE_IPV4, AE_IPV6, AE_LINK_LOCAL};
 use babel_value::{Addr, Prefix};
 use byteorder::{BigEndian, ByteOrder};
 
-/// The first 8 octets of link-local addresses, fe80::/64.
-const LINK_LOCAL: [u8; 8] = [0xfe, 0x80, 0, 0, 0, 0, 0, 0];
+/// The first octets of link-local addresses, fe80::/64.
+const LINK_LOCAL: [u8; LINK_LOCAL_LEN] = [0xfe, 0x80, 0, 0, 0, 0, 0, 0];
 
 /// The two octets of a number.
 #[inline]
@@ -27,21 +29,21 @@ pub(crate) fn octets_of(number: u16) -> [u8; 2]
 pub(crate) fn encoded(addr: &Addr) -> (u8, &[u8])
     ensures encoding { result.0 ≡ encoding addr.now }
     ensures octets { result.1.now ≡ encoded addr.now }
-    ensures short { length result.1.now ≤ 16 }
+    ensures short { length result.1.now ≤ ipv6_len }
 {
     match addr {
         Addr::V4(octets) => (AE_IPV4, octets),
-        Addr::V6(octets) if is_link_local(octets) => (AE_LINK_LOCAL, &octets[8..]),
+        Addr::V6(octets) if is_link_local(octets) => (AE_LINK_LOCAL, &octets[LINK_LOCAL_LEN..]),
         Addr::V6(octets) => (AE_IPV6, octets),
     }
 }
 
 /// Whether the address is within fe80::/64.
 #[inline]
-fn is_link_local(octets: &[u8; 16]) -> bool
+fn is_link_local(octets: &[u8; IPV6_LEN]) -> bool
     ensures { result ≡ is_in_link_local octets.now }
 {
-    octets[..8] == LINK_LOCAL[..]
+    octets[..LINK_LOCAL_LEN] == LINK_LOCAL[..]
 }
 
 /// The encoding of a prefix (RFC 8966, section 4.1.5).
@@ -60,7 +62,7 @@ pub(crate) fn prefix_encoding(prefix: &Prefix) -> u8
 pub(crate) fn reached(addr: &Addr, bits: u8) -> &[u8]
     requires { bits ≤ width_of addr.now }
     ensures octets { result.now ≡ take (octets_taken bits) (octets addr.now) }
-    ensures short { length result.now ≤ 16 }
+    ensures short { length result.now ≤ ipv6_len }
 {
     let taken = (bits as usize + 7) / 8;
     match addr {

@@ -9,6 +9,7 @@ ghost use Rattle.babel_packet.specs.Compressed.{default_for, with_default, with_
 
 use crate::equal::{are_equal4, are_equal8, are_equal16};
 use babel_packet::ParserState;
+use babel_packet::layout::addresses::{IPV4_LEN, IPV6_LEN, ROUTER_ID_LEN};
 use babel_value::{Addr, RouterId};
 
 /// Whether the router-id is set already.
@@ -49,13 +50,13 @@ pub(crate) fn gives_router(addr: &Addr, router: RouterId) -> bool
 
 /// The last 8 octets of an IPv6 address, or four zeros and an IPv4 address.
 #[inline]
-fn given_router(addr: &Addr) -> [u8; 8]
+fn given_router(addr: &Addr) -> [u8; ROUTER_ID_LEN]
     ensures { result ≡ compressed.given_router addr.now }
 {
-    let mut router = [0; 8];
+    let mut router = [0; ROUTER_ID_LEN];
     match addr {
-        Addr::V4(octets) => router[4..].copy_from_slice(octets),
-        Addr::V6(octets) => router.copy_from_slice(&octets[8..16]),
+        Addr::V4(octets) => router[ROUTER_ID_LEN - IPV4_LEN..].copy_from_slice(octets),
+        Addr::V6(octets) => router.copy_from_slice(&octets[IPV6_LEN - ROUTER_ID_LEN..]),
     }
     router
 }

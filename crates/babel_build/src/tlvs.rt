@@ -3,6 +3,7 @@
 ghost use Rattle.std.specs.Prelude.{◌≡◌, ◌<◌, ◌≤◌, ◌+◌, [], ◌∷◌, ◌++◌, length};
 ghost use Rattle.std.specs.Bool.{OnTrue, OnFalse};
 ghost use Rattle.babel_tlv.specs.Spelling.{spelled};
+ghost use Rattle.babel_packet.specs.Layout as layout;
 ghost use Rattle.babel_packet.specs.declared.messages.Message.TheVariants as messages;
 ghost use Rattle.babel_packet.specs.Payloads.{router_id_payload, next_hop_payload, two, prefix_encoding, prefix_written};
 ghost use Rattle.babel_packet.specs.Compressed.{update_fields as fields_of_update, update_payload};
@@ -12,6 +13,7 @@ use crate::fields::{encoded, octets_of, prefix_encoding, reached};
 use crate::states::omitted;
 use arrayvec::ArrayVec;
 use babel_packet::layout::hello::UNICAST;
+use babel_packet::layout::{seqno_request, update};
 use babel_packet::{
     ACK, ACK_REQUEST, AE_WILDCARD, HELLO, IHU, NEXT_HOP, ParserState, ROUTE_REQUEST, ROUTER_ID,
     SEQNO_REQUEST, UPDATE,
@@ -43,7 +45,7 @@ fn put_tlv(datagram: &mut Datagram, kind: u8, fields: &[u8], octets: &[u8]) -> b
 /// Appends a TLV whose payload is the fields and then the octets of the prefix.
 fn put_prefixed(datagram: &mut Datagram, kind: u8, fields: &[u8], prefix: &Prefix) -> bool
     requires kind { 0 < kind }
-    requires short { length fields.now + 16 ≤ MAX_PAYLOAD_LEN }
+    requires short { length fields.now + layout.ipv6_len ≤ MAX_PAYLOAD_LEN }
     ensures fits { result ≡ is_room datagram.old.items (spelled kind (fields.now ++ prefix_written prefix.now)) }
     ensures appended { OnTrue result (datagram.new.items ≡ datagram.old.items ++ spelled kind (fields.now ++ prefix_written prefix.now)) }
     ensures unchanged { OnFalse result (datagram.new ≡ datagram.old) }
@@ -106,8 +108,8 @@ pub(crate) fn put_ihu(
 
 /// Router-Id (RFC 8966, section 4.6.7).
 pub(crate) fn put_router_id(datagram: &mut Datagram, router: RouterId) -> bool
-    ensures fits { result ≡ is_room datagram.old.items (spelled 6 (router_id_payload router)) }
-    ensures appended { OnTrue result (datagram.new.items ≡ datagram.old.items ++ spelled 6 (router_id_payload router)) }
+    ensures fits { result ≡ is_room datagram.old.items (spelled layout.router_id (router_id_payload router)) }
+    ensures appended { OnTrue result (datagram.new.items ≡ datagram.old.items ++ spelled layout.router_id (router_id_payload router)) }
     ensures unchanged { OnFalse result (datagram.new ≡ datagram.old) }
 {
     put_tlv(datagram, ROUTER_ID, &[0, 0], &router.octets())
@@ -115,8 +117,8 @@ pub(crate) fn put_router_id(datagram: &mut Datagram, router: RouterId) -> bool
 
 /// Next Hop (RFC 8966, section 4.6.8).
 pub(crate) fn put_next_hop(datagram: &mut Datagram, next_hop: Addr) -> bool
-    ensures fits { result ≡ is_room datagram.old.items (spelled 7 (next_hop_payload next_hop)) }
-    ensures appended { OnTrue result (datagram.new.items ≡ datagram.old.items ++ spelled 7 (next_hop_payload next_hop)) }
+    ensures fits { result ≡ is_room datagram.old.items (spelled layout.next_hop (next_hop_payload next_hop)) }
+    ensures appended { OnTrue result (datagram.new.items ≡ datagram.old.items ++ spelled layout.next_hop (next_hop_payload next_hop)) }
     ensures unchanged { OnFalse result (datagram.new ≡ datagram.old) }
 {
     let (encoding, octets) = encoded(&next_hop);
@@ -133,7 +135,7 @@ fn update_fields(
     interval: u16,
     seqno: Seqno,
     metric: Metric,
-) -> [u8; 10]
+) -> [u8; update::LEN]
     ensures { result ≡ fields_of_update encoding flags bits omitted interval seqno metric [] }
 {
     let [i0, i1] = octets_of(interval);
@@ -153,9 +155,9 @@ pub(crate) fn put_update(
     seqno: Seqno,
     metric: Metric,
 ) -> bool
-    ensures fits { result ≡ is_room datagram.old.items (spelled 8 (update_payload state.now flags prefix.now interval seqno metric)) }
+    ensures fits { result ≡ is_room datagram.old.items (spelled layout.update (update_payload state.now flags prefix.now interval seqno metric)) }
     ensures appended { OnTrue result (datagram.new.items ≡ datagram.old.items
-        ++ spelled 8 (update_payload state.now flags prefix.now interval seqno metric)) }
+        ++ spelled layout.update (update_payload state.now flags prefix.now interval seqno metric)) }
     ensures unchanged { OnFalse result (datagram.new ≡ datagram.old) }
 {
     let addr = prefix.addr();
@@ -205,13 +207,18 @@ pub(crate) fn put_dump_request(datagram: &mut Datagram) -> bool
 }
 
 /// The fields of a Seqno Request before its prefix.
-fn seqno_request_fields(prefix: &Prefix, router: RouterId, seqno: Seqno, hops: u8) -> [u8; 14]
+fn seqno_request_fields(
+    prefix: &Prefix,
+    router: RouterId,
+    seqno: Seqno,
+    hops: u8,
+) -> [u8; seqno_request::LEN]
     ensures { result ≡ prefix_encoding prefix.now.addr ∷ prefix.now.length ∷ (two seqno ++ (hops ∷ 0 ∷ router)) }
 {
     let (encoding, bits) = (prefix_encoding(prefix), prefix.length());
     let [s0, s1] = octets_of(seqno.0);
     let mut fields = [encoding, bits, s0, s1, hops, 0, 0, 0, 0, 0, 0, 0, 0, 0];
-    fields[6..].copy_from_slice(&router.octets());
+    fields[seqno_request::ROUTER_ID..].copy_from_slice(&router.octets());
     fields
 }
 

@@ -1,15 +1,19 @@
 -- Messages in few octets: a TLV leaves out what a reader in this state has from earlier TLVs (RFC 8966, section 4.5; profile).
-use Rattle.std.specs.Prelude.{ℕ, suc, List, [], ◌∷◌, ◌++◌, Bool, false, ◌||◌, Option, Some, None, drop, replicate, slice_range, nat_eq, if◌then◌else◌}
+use Rattle.std.specs.Prelude.{ℕ, suc, ◌+◌, List, [], ◌∷◌, ◌++◌, Bool, false, ◌||◌, Option, Some, None, drop, nat_eq, if◌then◌else◌}
 use Rattle.std.specs.Str.{bytes_eq}
 use Rattle.babel_value.specs.declared.addresses.Addr.{Addr}
 use Rattle.babel_value.specs.declared.addresses.Addr.TheVariants.{V4, V6}
+use Rattle.babel_value.specs.Metrics.{infinity}
 use Rattle.babel_value.specs.Prefixes.{PrefixValue}
+use Rattle.babel_tlv.specs.Layout.{header_len}
 use Rattle.babel_tlv.specs.Spelling.{spelled}
+use Rattle.babel_packet.specs.Layout as layout
 use Rattle.babel_packet.specs.declared.messages.Message.{Message}
 use Rattle.babel_packet.specs.declared.messages.Message.TheVariants as messages
 use Rattle.babel_packet.specs.declared.parser_state.ParserState.{ParserState}
 use Rattle.babel_packet.specs.Payloads.{two, octets, prefix_encoding, prefix_written, router_id_payload, next_hop_payload, kind_of, payload_of}
 use Rattle.babel_packet.specs.BodyMeanings.{hop_for}
+use Rattle.babel_packet.specs.LookBack.{router_of_ipv4, router_of_ipv6}
 
 -- these octets are set already
 abbrev pub is_set : Option (List ℕ) → List ℕ → Bool
@@ -32,10 +36,10 @@ abbrev pub default_for : Addr → ParserState → Option (List ℕ)
 default_for (V4 o) d = d.default4
 default_for (V6 o) d = d.default6
 
--- the router-id that the address of a prefix gives with flag 0x40 (section 4.6.9)
+-- the router-id that the address of a prefix gives, with the flag for it (section 4.6.9)
 abbrev pub given_router : Addr → List ℕ
-given_router (V4 o) = replicate 4 0 ++ o
-given_router (V6 o) = slice_range o 8 16
+given_router (V4 o) = router_of_ipv4 o
+given_router (V6 o) = router_of_ipv6 o
 
 -- an Update (section 4.6.9)
 abbrev pub update_fields : ℕ → ℕ → ℕ → ℕ → ℕ → ℕ → ℕ → List ℕ → List ℕ
@@ -51,27 +55,34 @@ update_payload d flags prefix interval seqno metric =
     update_fields (prefix_encoding prefix.addr) flags prefix.length (omitted_in d prefix) interval seqno metric
     (drop (omitted_in d prefix) (prefix_written prefix))
 
--- Each Update sets the default prefix of its AE: flag 0x80. It sets the router-id too, if that differs and its address gives it: flag 0x40.
+-- Each Update sets the default prefix of its AE. It sets the router-id too, if that differs and its address gives it.
 abbrev pub flags_of : ParserState → PrefixValue → List ℕ → ℕ
 flags_of d prefix router =
-    if is_set d.router router then 0x80 else if bytes_eq (given_router prefix.addr) router then 0xc0 else 0x80
+    if is_set d.router router then layout.update_sets_prefix
+    else if bytes_eq (given_router prefix.addr) router then layout.update_sets_prefix + layout.update_sets_router_id else layout.update_sets_prefix
 
 -- a Router-Id, if the router-id differs and the address doesn't give it
 abbrev pub router_id_before : ParserState → PrefixValue → List ℕ → List ℕ
 router_id_before d prefix router =
-    if is_set d.router router || bytes_eq (given_router prefix.addr) router then [] else spelled 6 (router_id_payload router)
+    if is_set d.router router || bytes_eq (given_router prefix.addr) router then []
+    else spelled layout.router_id (router_id_payload router)
 
 -- a Next Hop, if the next hop of its family differs
 abbrev pub next_hop_before : ParserState → Addr → List ℕ
-next_hop_before d hop = if is_set (hop_for hop d) (octets hop) then [] else spelled 7 (next_hop_payload hop)
+next_hop_before d hop = if is_set (hop_for hop d) (octets hop) then [] else spelled layout.next_hop (next_hop_payload hop)
 
--- the TLVs of a message; a retraction has metric 65535 and seqno 0, and sets no router-id
+-- the TLVs of a message; a retraction has the infinite metric and seqno 0, and sets no router-id
 abbrev pub compressed : ParserState → Message → List ℕ
 compressed d (messages.Update prefix router hop seqno metric interval) =
     router_id_before d prefix router ++
-    (next_hop_before d hop ++ spelled 8 (update_payload d (flags_of d prefix router) prefix interval seqno metric))
-compressed d (messages.Retraction prefix interval) = spelled 8 (update_payload d 0x80 prefix interval 0 65535)
+    (next_hop_before d hop ++ spelled layout.update (update_payload d (flags_of d prefix router) prefix interval seqno metric))
+compressed d (messages.Retraction prefix interval) = spelled layout.update (update_payload d layout.update_sets_prefix prefix interval 0 infinity)
 compressed d message = spelled (kind_of message) (payload_of message)
+
+-- the most octets of the TLVs of a message: those of a Router-Id, a Next Hop and an Update, each with IPv6 addresses
+abbrev pub max_message_len : ℕ
+max_message_len =
+    (header_len + layout.router_id_tlv_len) + (header_len + layout.next_hop_len + layout.ipv6_len) + (header_len + layout.update_len + layout.ipv6_len)
 
 -- what a reader has after them
 abbrev pub with_default : Addr → ParserState → ParserState

@@ -8,6 +8,10 @@ use Rattle.babel_packet.specs.Numbers.{octet}
 abbrev pub octets_of : ℕ → ℕ
 octets_of bits = (bits + 7) / 8
 
+-- how many bits so many octets have (section 4.1.5)
+abbrev pub bits_of : ℕ → ℕ
+bits_of octets = 8 * octets
+
 -- Octet j of a prefix of `bits` bits, whose octets are in p from offset `at` on: the default prefix has the omitted ones, the others are written,
 -- and zeros follow the prefix.
 abbrev pub prefix_octet : List ℕ → ℕ → ℕ → ℕ → List ℕ → ℕ → ℕ
@@ -20,4 +24,4 @@ prefix_octets size default omitted bits at p = cleared bits (map (prefix_octet d
 
 -- Plen isn't greater than an address of `size` octets is wide, and the octets that aren't omitted are in p from offset `at` on.
 unfoldable pub is_whole : ℕ → ℕ → ℕ → ℕ → List ℕ → Bool
-is_whole size omitted bits at p = nat_le bits (8 * size) && nat_le (at + (octets_of bits - omitted)) (length p)
+is_whole size omitted bits at p = nat_le bits (bits_of size) && nat_le (at + (octets_of bits - omitted)) (length p)

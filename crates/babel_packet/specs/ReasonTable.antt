@@ -1,6 +1,6 @@
 -- Why a TLV is ignored, as a table: a law above the definitions of the contents (RFC 8966, sections 4.1 to 4.6; the order of the reasons is profile).
 -- The payload of a TLV is its fixed fields, then an address or a prefix, then sub-TLVs.
-use Rattle.std.specs.Prelude.{◌≡◌, ℕ, ◌+◌, ◌-◌, ◌*◌, List, [], ◌∷◌, Bool, true, false, not, ◌&&◌, ◌||◌, Option, Some, None, is_some, is_none, length, drop, map, slice_index, nat_eq, nat_le, nat_lt, if◌then◌else◌}
+use Rattle.std.specs.Prelude.{◌≡◌, ℕ, ◌+◌, ◌-◌, List, [], ◌∷◌, Bool, true, false, not, ◌&&◌, ◌||◌, Option, Some, None, is_some, is_none, length, drop, map, slice_index, nat_eq, nat_le, nat_lt, if◌then◌else◌}
 use Rattle.std.specs.List.{filter}
 use Rattle.std.specs.Option.{option_and_then}
 use Rattle.babel_value.specs.Metrics.{infinity}
@@ -14,7 +14,7 @@ use Rattle.babel_packet.specs.declared.placements.Content.TheVariants as content
 use Rattle.babel_packet.specs.declared.placements.Reason.{Reason}
 use Rattle.babel_packet.specs.declared.placements.Reason.TheVariants as reasons
 use Rattle.babel_packet.specs.Numbers.{octet, word}
-use Rattle.babel_packet.specs.Prefixes.{octets_of}
+use Rattle.babel_packet.specs.Prefixes.{bits_of, octets_of}
 use Rattle.babel_packet.specs.Updates.{update_router}
 use Rattle.babel_packet.specs.Requests.{requested_router}
 use Rattle.babel_packet.specs.Meaning.{content}
@@ -90,7 +90,7 @@ tail kind p = drop (fixed_len kind + variable_len kind p) p
 -- After the fixed fields, the prefix is too long for its family, or the address or the prefix isn't whole (section 4.1).
 abbrev pub is_cut : ℕ → List ℕ → Bool
 is_cut kind p =
-    (has_prefix kind && (not (is_wildcard p) && nat_lt (8 * address_len p) (plen kind p))) || nat_lt (length p) (fixed_len kind + variable_len kind p)
+    (has_prefix kind && (not (is_wildcard p) && nat_lt (bits_of (address_len p)) (plen kind p))) || nat_lt (length p) (fixed_len kind + variable_len kind p)
 
 abbrev pub is_unreadable : ℕ → List ℕ → Bool
 is_unreadable kind p = nat_lt (length p) (fixed_len kind) || (is_taken kind p && is_cut kind p)

@@ -1,4 +1,4 @@
--- The parser state that the code keeps in place of looking back. No public clause has it.
+-- The parser state that the code keeps in place of looking back (RFC 8966, section 4.5; profile). No public clause has it.
 use Rattle.std.specs.Prelude.{ℕ, ◌+◌, List, [], ◌∷◌}
 use Rattle.std.specs.Option.{option_or}
 use Rattle.babel_tlv.specs.Place.{Place}

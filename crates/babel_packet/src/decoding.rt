@@ -1,4 +1,9 @@
 //! The walk over a datagram (RFC 8966, section 4.2).
+//!
+//! `decode` is linear in the octets. It makes one list, sized by a twelfth of the body at first, and reads
+//! each octet a bounded number of times. Payloads are slices of the input. The readers are inlined into one
+//! function: a value that goes through memory comes back wider than it was written, which stalls the
+//! processor (docs/PERFORMANCE.md).
 
 ghost use Rattle.std.specs.Prelude.{◌≡◌, ◌<◌, ◌+◌, ◌^◌, length, IfOk, IfErr, MatchOption, vec_len, vec_capacity};
 ghost use Rattle.babel_tlv.specs.Split.{places_of, fault_of};

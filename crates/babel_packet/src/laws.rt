@@ -25,6 +25,7 @@ ghost use Rattle.babel_packet.specs.Decoded.{DecodedAreSendable};
 ghost use Rattle.babel_packet.specs.BodyMeanings.{BodyMeans, Means, Provides, state_after, hop_for, datagram};
 
 use crate::Message;
+pub use crate::compression::compressed_is_read;
 use babel_tlv::put_is_one_more;
 use babel_value::{Addr, Prefix, RouterId};
 

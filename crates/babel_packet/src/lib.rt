@@ -26,10 +26,8 @@ mod tails;
 mod texts;
 mod updates;
 
-pub use compression::compressed_is_read;
 pub use decoding::decode;
 pub use errors::{Refusal, RefusalCode};
-pub use laws::{decoded_are_sendable, fields_are_whole, looks_back, one_more_message};
 pub use layout::addresses::{AE_IPV4, AE_IPV6, AE_LINK_LOCAL, AE_WILDCARD};
 pub use layout::header::{LEN as HEADER_LEN, MAGIC, VERSION};
 pub use layout::kinds::{

@@ -1,20 +1,21 @@
 //! The parser state, kept while a datagram is read (RFC 8966, section 4.5).
 
+use crate::layout::addresses::{IPV4_LEN, IPV6_LEN, ROUTER_ID_LEN};
 use babel_value::Addr;
 
 /// What earlier TLVs of a datagram set for later ones (RFC 8966, section 4.5).
 #[derive(Clone, Copy, Debug)]
 pub struct ParserState {
     /// The default prefix for IPv4, as the octets of its address.
-    pub default4: Option<[u8; 4]>,
+    pub default4: Option<[u8; IPV4_LEN]>,
     /// The default prefix for IPv6.
-    pub default6: Option<[u8; 16]>,
+    pub default6: Option<[u8; IPV6_LEN]>,
     /// The router-id, a reserved one too.
-    pub router: Option<[u8; 8]>,
+    pub router: Option<[u8; ROUTER_ID_LEN]>,
     /// The next hop for IPv4.
-    pub hop4: Option<[u8; 4]>,
+    pub hop4: Option<[u8; IPV4_LEN]>,
     /// The next hop for IPv6.
-    pub hop6: Option<[u8; 16]>,
+    pub hop6: Option<[u8; IPV6_LEN]>,
 }
 
 impl ParserState {

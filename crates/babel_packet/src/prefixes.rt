@@ -5,7 +5,7 @@ ghost use Rattle.std.specs.List.{range_with_len};
 ghost use Rattle.babel_value.specs.Prefixes.{cleared};
 ghost use Rattle.babel_packet.specs.Layout as layout;
 ghost use Rattle.babel_packet.specs.Prefixes as prefixes;
-ghost use Rattle.babel_packet.specs.Prefixes.{octets_of, prefix_octet};
+ghost use Rattle.babel_packet.specs.Prefixes.{octets_of, bits_of, prefix_octet};
 
 use babel_value::keep_bits;
 
@@ -26,7 +26,7 @@ pub(crate) fn is_whole(size: usize, omitted: u8, bits: u8, at: usize, payload: &
     requires size { size ≤ layout.ipv6_len }
     requires at { at ≤ layout.seqno_request_len }
     ensures value { result ≡ prefixes.is_whole size omitted bits at payload.now }
-    ensures short { IsTrue result → bits ≤ 8 * size }
+    ensures short { IsTrue result → bits ≤ bits_of size }
     ensures there { IsTrue result → at + (octets_of bits - omitted) ≤ length payload.now }
 {
     let written = octets_of(bits).saturating_sub(omitted as usize);
@@ -43,7 +43,7 @@ pub(crate) fn prefix_octets<const N: usize>(
     at: usize,
     payload: &[u8],
 ) -> [u8; N]
-    requires short { bits ≤ 8 * N }
+    requires short { bits ≤ bits_of N }
     requires there { at + (octets_of bits - omitted) ≤ length payload.now }
     requires at { at ≤ layout.seqno_request_len }
     ensures value { result ≡ prefixes.prefix_octets N default.entry omitted bits at payload.now }
@@ -61,7 +61,7 @@ fn spread<const N: usize>(
     at: usize,
     payload: &[u8],
 ) -> [u8; N]
-    requires short { bits ≤ 8 * N }
+    requires short { bits ≤ bits_of N }
     requires there { at + (octets_of bits - omitted) ≤ length payload.now }
     requires at { at ≤ layout.seqno_request_len }
     ensures value { result ≡ map (prefix_octet default.entry omitted bits at payload.now) (range_with_len 0 N) }
@@ -85,7 +85,7 @@ fn spread<const N: usize>(
 /// Clears the bits past the length, which are in one octet alone.
 #[inline]
 fn clear_last<const N: usize>(octets: [u8; N], bits: u8) -> [u8; N]
-    requires short { bits ≤ 8 * N }
+    requires short { bits ≤ bits_of N }
     requires zeros { (j : ℕ) → octets_of bits ≤ j → slice_index octets j ≡ 0 }
     ensures { result ≡ cleared bits octets.entry }
 {

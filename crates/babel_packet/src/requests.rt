@@ -8,7 +8,7 @@ ghost use Rattle.babel_packet.specs.Contents.{put, means, ignored};
 ghost use Rattle.babel_packet.specs.Tails.{after_tail};
 ghost use Rattle.babel_packet.specs.declared.messages.Message.TheVariants as messages;
 ghost use Rattle.babel_packet.specs.declared.placements.Reason.TheVariants.{Wildcard};
-ghost use Rattle.babel_packet.specs.Prefixes.{octets_of as octets_taken};
+ghost use Rattle.babel_packet.specs.Prefixes.{bits_of, octets_of as octets_taken};
 ghost use Rattle.babel_packet.specs.Requests.{asked, route_request, seqno_request, seqno_request_for};
 
 use crate::layout::addresses::{AE_IPV4, AE_IPV6, AE_WILDCARD, IPV4_LEN, IPV6_LEN, ROUTER_ID_LEN};
@@ -174,7 +174,7 @@ fn push_seqno_request(
 fn asked4(payload: &[u8], plen: usize, at: usize) -> Prefix
     requires fields { plen < length payload.now }
     requires at { at ≤ layout.seqno_request_len }
-    requires short { octet payload.now plen ≤ 8 * layout.ipv4_len }
+    requires short { octet payload.now plen ≤ bits_of layout.ipv4_len }
     requires there { at + octets_taken (octet payload.now plen) ≤ length payload.now }
     ensures { result ≡ asked layout.ipv4_len V4 plen at payload.now }
 {
@@ -187,7 +187,7 @@ fn asked4(payload: &[u8], plen: usize, at: usize) -> Prefix
 fn asked6(payload: &[u8], plen: usize, at: usize) -> Prefix
     requires fields { plen < length payload.now }
     requires at { at ≤ layout.seqno_request_len }
-    requires short { octet payload.now plen ≤ 8 * layout.ipv6_len }
+    requires short { octet payload.now plen ≤ bits_of layout.ipv6_len }
     requires there { at + octets_taken (octet payload.now plen) ≤ length payload.now }
     ensures { result ≡ asked layout.ipv6_len V6 plen at payload.now }
 {

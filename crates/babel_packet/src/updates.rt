@@ -6,6 +6,7 @@ ghost use Rattle.babel_packet.specs.Layout as layout;
 ghost use Rattle.babel_packet.specs.Numbers.{octet};
 ghost use Rattle.babel_packet.specs.Contents.{put};
 ghost use Rattle.babel_packet.specs.Tails.{after_tail};
+ghost use Rattle.babel_packet.specs.Prefixes.{bits_of};
 ghost use Rattle.babel_packet.specs.UpdateFields as fields;
 ghost use Rattle.babel_packet.specs.LookBack.{flagged as flagged_address, router_of_ipv4, router_of_ipv6};
 ghost use Rattle.babel_packet.specs.Updates.{update, update4, update6, update_of, wildcard};
@@ -141,7 +142,7 @@ fn is_readable(size: usize, payload: &[u8]) -> bool
     requires size { size ≤ layout.ipv6_len }
     requires fields { layout.update_len ≤ length payload.now }
     ensures value { result ≡ fields.is_readable size payload.now }
-    ensures short { IsTrue result → octet payload.now layout.update_plen ≤ 8 * size }
+    ensures short { IsTrue result → octet payload.now layout.update_plen ≤ bits_of size }
     ensures there { IsTrue result → layout.update_len + fields.written payload.now ≤ length payload.now }
 {
     is_whole(
@@ -169,7 +170,7 @@ fn tail(payload: &[u8]) -> &[u8]
 #[tactic(auto, unfolding(crate::specs::UpdateFields::address))]
 fn address<const N: usize>(default: Option<[u8; N]>, payload: &[u8]) -> Option<[u8; N]>
     requires fields { layout.update_len ≤ length payload.now }
-    requires short { octet payload.now layout.update_plen ≤ 8 * N }
+    requires short { octet payload.now layout.update_plen ≤ bits_of N }
     requires there { layout.update_len + fields.written payload.now ≤ length payload.now }
     ensures value { result ≡ fields.address N default.entry payload.now }
     ensures clear { IfSome result (λ octets. cleared (octet payload.now layout.update_plen) octets ≡ octets) }
@@ -204,7 +205,7 @@ fn flagged<const N: usize>(octets: Option<[u8; N]>, flag: u8, payload: &[u8]) ->
 
 /// The router-id of an IPv4 address: its octets after four zeros.
 #[inline]
-fn router4(octets: Option<[u8; 4]>) -> Option<[u8; 8]>
+fn router4(octets: Option<[u8; IPV4_LEN]>) -> Option<[u8; ROUTER_ID_LEN]>
     ensures { result ≡ option_map router_of_ipv4 octets }
 {
     let octets = octets?;
@@ -215,7 +216,7 @@ fn router4(octets: Option<[u8; 4]>) -> Option<[u8; 8]>
 
 /// The router-id of an IPv6 address: its last 8 octets.
 #[inline]
-fn router6(octets: Option<[u8; 16]>) -> Option<[u8; 8]>
+fn router6(octets: Option<[u8; IPV6_LEN]>) -> Option<[u8; ROUTER_ID_LEN]>
     ensures { result ≡ option_map router_of_ipv6 octets }
 {
     let octets = octets?;
@@ -229,7 +230,7 @@ fn router6(octets: Option<[u8; 16]>) -> Option<[u8; 8]>
 #[tactic(auto, unfolding(crate::specs::Updates::update_of))]
 fn push_update(
     prefix: Prefix,
-    router: Option<[u8; 8]>,
+    router: Option<[u8; ROUTER_ID_LEN]>,
     next_hop: Option<Addr>,
     payload: &[u8],
     offset: usize,

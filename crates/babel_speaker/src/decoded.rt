@@ -6,7 +6,7 @@ ghost use Rattle.babel_packet.specs.Encodable.{AreOctets, IsAddr};
 ghost use Rattle.babel_packet.specs.Meaning.{meaning, messages_of};
 ghost use Rattle.babel_state.specs.SeenLaws.{AreEncodable};
 
-use babel_packet::decoded_are_sendable;
+use babel_packet::laws::decoded_are_sendable;
 use babel_value::Addr;
 
 #[inline]

@@ -9,7 +9,7 @@ pub returns-then-are_equal8 : goal.returns-then-are_equal8
 returns-then-are_equal8 c =
     let one = c.args.one.now in
     let other = c.args.other.now in
-    let last : c.eight-last.result ≡ drop 8 one = c.eight-last.ensures ∙ take_all 8 (drop 8 one) (omega (arith, length-drop 8 one)) in
-    let other_last : c.eight-other_last.result ≡ drop 8 other = c.eight-other_last.ensures ∙ take_all 8 (drop 8 other) (omega (arith, length-drop 8 other)) in
+    let last : c.half-last.result ≡ drop 8 one = c.half-last.ensures ∙ take_all 8 (drop 8 one) (omega (arith, length-drop 8 one)) in
+    let other_last : c.half-other_last.result ≡ drop 8 other = c.half-other_last.ensures ∙ take_all 8 (drop 8 other) (omega (arith, length-drop 8 other)) in
     let first : bytes_eq (take 8 one) (take 8 other) ≡ true = cc in
     c.are_equal8-then-are_equal8.ensures ∙ rw (last, other_last) (rw first at (equal_parts 8 one other))
