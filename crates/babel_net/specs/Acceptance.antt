@@ -42,10 +42,14 @@ abbrev pub fault_or : Option NetFault → Option NetFault → Option NetFault
 fault_or None later = later
 fault_or (Some fault) later = Some fault
 
+-- How many nodes a network has at most (profile).
+abbrev pub max_nodes : ℕ
+max_nodes = 64
+
 -- Why no network can be made of the configurations: the first cause that holds.
 abbrev pub net_fault : List Config → Option NetFault
 net_fault configs =
-    if nat_lt 64 (length configs) then Some TooManyNodes else fault_or (first_bad_from 0 configs) (fault_together configs)
+    if nat_lt max_nodes (length configs) then Some TooManyNodes else fault_or (first_bad_from 0 configs) (fault_together configs)
 
 -- Configurations that are accepted are apart, as far as their first seqnos have 16 bits.
 abbrev pub AcceptedAreApart : Type 0

@@ -1,12 +1,13 @@
 -- The message machine: what it remembers of each source, and its four steps. It is what remains of the feasibility
 -- condition (RFC 8966 sections 2.4 and 2.5) if only loop freedom is asked for (profile). It has no time, no link and
 -- no table. Its numbers have no bound, and it remembers everything that was ever sent.
-use Rattle.std.specs.Prelude.{◌≡◌, ℕ, ◌+◌, ◌<◌, ◌≤◌, ◌⊎◌, ◌↔◌, List, [], ◌∷◌, Option, Some, None, length, slice_index_or, slice_get, slice_set, replicate, map, Contains, All}
+use Rattle.std.specs.Prelude.{◌≡◌, ℕ, ◌+◌, ◌-◌, ◌<◌, ◌≤◌, ◌⊎◌, ◌↔◌, List, [], ◌∷◌, Option, Some, None, length, slice_index_or, slice_get, slice_set, replicate, map, Contains, All}
 use Rattle.babel_net.specs.declared.machine.pair.Pair.{Pair}
 use Rattle.babel_net.specs.declared.machine.pick.Pick.{Pick}
 use Rattle.babel_net.specs.declared.machine.step.Step.{Step}
 use Rattle.babel_net.specs.declared.machine.step.Step.TheVariants.{Raise, Announce, Choose, Drop}
 use Rattle.babel_value.specs.Distances.{IsBetter}
+use Rattle.babel_value.specs.Metrics.{infinity}
 
 -- What one node has done for the source: the pairs that it ever sent, and the announcement that it uses now, if any.
 -- Only what is in the list counts: neither its order nor its repeats mean anything.
@@ -19,6 +20,10 @@ pub record SourceState : Type 0 where
   pub owner : ℕ
   pub raises : ℕ
   pub nodes : List NodeState
+
+-- The greatest metric that isn't infinite (RFC 8966, section 3.5.2).
+abbrev pub greatest_metric : ℕ
+greatest_metric = infinity - 1
 
 -- A node that has done nothing.
 abbrev pub quiet : NodeState
@@ -70,7 +75,7 @@ pub record PassesOn (state : SourceState) (node : ℕ) (pair : Pair) : Type 0 wh
   pub picked : HasPicked state node pick
   pub same_count : pair.raises ≡ pick.pair.raises
   pub greater : pick.pair.metric < pair.metric
-  pub finite : pair.metric ≤ 65534
+  pub finite : pair.metric ≤ greatest_metric
 
 -- What a node may send: the owner its count under metric 0, and a node with a pick what it passes on.
 abbrev pub MaySend : SourceState → ℕ → Pair → Type 0

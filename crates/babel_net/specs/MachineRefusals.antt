@@ -6,7 +6,7 @@ use Rattle.babel_net.specs.declared.errors.MachineFault.{MachineFault}
 use Rattle.babel_net.specs.declared.errors.MachineFault.TheVariants.{OutOfRange, CountAtGreatest, MayNotSend, MayNotPick, Memory}
 use Rattle.babel_net.specs.declared.machine.step.Step.{Step}
 use Rattle.babel_net.specs.declared.machine.step.Step.TheVariants.{Raise, Announce, Choose, Drop}
-use Rattle.babel_net.specs.Machine.{SourceState, HasSent, node_at, beginning, MayPick}
+use Rattle.babel_net.specs.Machine.{greatest_metric, SourceState, HasSent, node_at, beginning, MayPick}
 
 -- The code of each refusal.
 abbrev pub machine_code : MachineFault → List ℕ
@@ -23,11 +23,11 @@ InRange state (Announce node metric) = node < length state.nodes
 InRange state (Choose node from pair) = (node < length state.nodes) × (from < length state.nodes)
 InRange state (Drop node) = node < length state.nodes
 
--- The pick's count under the metric, if that is greater than the pick's and at most 65534.
+-- The pick's count under the metric, if that is greater than the pick's and finite.
 abbrev pub passed_on : Option Pick → ℕ → Option Pair
 passed_on None metric = None
 passed_on (Some pick) metric =
-    if nat_lt pick.pair.metric metric && nat_le metric 65534
+    if nat_lt pick.pair.metric metric && nat_le metric greatest_metric
     then Some (record { raises = pick.pair.raises; metric = metric })
     else None
 

@@ -14,7 +14,7 @@ use Rattle.babel_net.specs.Cycle.{NoCycle, next_hop_of}
 use Rattle.babel_net.specs.Owners.{AreApart, Lists}
 use Rattle.babel_net.specs.Worlds.{World, IsFirst, speaker_at, updates_of, next_hop_in, router_in, NoLoopNaming, NoLoop}
 use Rattle.babel_net.specs.Happenings.{Happens, HappenAll, last_world}
-use Rattle.babel_net.specs.Views.{NetSource, IsSource, IsCounted, IsRun, RunsThrough, lifted, view}
+use Rattle.babel_net.specs.Views.{max_raises, NetSource, IsSource, IsCounted, IsRun, RunsThrough, lifted, view}
 use Rattle.babel_net.specs.Invariants.{IsInvariant}
 
 -- ---- one event
@@ -87,7 +87,7 @@ abbrev pub NoLoopWithOneOrigin : Type 0
 NoLoopWithOneOrigin =
     (configs : List Config) (first : World) (events : List Event) (worlds : List World) (prefix : PrefixValue) (origin : ℕ) →
     AreApart configs → IsFirst configs first → HappenAll configs events first worlds →
-    ListsAlone configs origin prefix → (speaker_at (last_world first worlds) origin).raises ≤ 32767 →
+    ListsAlone configs origin prefix → (speaker_at (last_world first worlds) origin).raises ≤ max_raises →
     NoLoop configs (last_world first worlds) prefix
 
 -- ---- every world that keeps the invariant
@@ -103,7 +103,7 @@ SoundHasNoLoop =
 abbrev pub SoundHasNoLoopWithOneOrigin : Type 0
 SoundHasNoLoopWithOneOrigin =
     (configs : List Config) (w : World) (prefix : PrefixValue) (origin : ℕ) →
-    IsInvariant configs w → ListsAlone configs origin prefix → (speaker_at w origin).raises ≤ 32767 → NoLoop configs w prefix
+    IsInvariant configs w → ListsAlone configs origin prefix → (speaker_at w origin).raises ≤ max_raises → NoLoop configs w prefix
 
 -- ---- several sources
 

@@ -58,10 +58,13 @@ view configs s w = record {
   nodes = map (node_view configs s w) (range_with_len 0 (length w.speakers));
 }
 
--- The source's router-id made at most 32,767 raises: the greatest difference that the circular order of seqnos orders
--- as whole numbers (RFC 8966, section 3.2.1).
+-- The greatest difference that the circular order of seqnos orders as whole numbers (RFC 8966, section 3.2.1).
+abbrev pub max_raises : ℕ
+max_raises = 32767
+
+-- The source's router-id made at most so many raises (profile).
 abbrev pub IsCounted : NetSource → World → Type 0
-IsCounted s w = (speaker_at w s.owner).raises ≤ 32767
+IsCounted s w = (speaker_at w s.owner).raises ≤ max_raises
 
 -- A list of machine steps leads from one view to the other, and the latter has no cycle.
 pub record IsRun (configs : List Config) (s : NetSource) (old new : World) : Type 0 where

@@ -3,7 +3,9 @@
 
 ghost use Rattle.babel_network.specs.Laws.{FirstNetworksAreSound, EventsHappen, EventsKeepNetworks};
 
-use babel_net::{accepted_configs_are_apart, events_keep_the_invariant, networks_begin_sound};
+use babel_net::laws::{
+    accepted_configs_are_apart, events_keep_the_invariant, networks_begin_sound,
+};
 use babel_state::{
     calls_move, datagrams_send, items_mean_messages, restarts_are_seen, selected_routes_are_good,
     states_are_well_formed,

@@ -1,4 +1,7 @@
 //! The network, event by event.
+//!
+//! An event costs what its speaker's call costs. The owner of an address is looked up in an ordered map,
+//! which `Network::new` makes.
 
 ghost use Rattle.std.specs.Prelude.{◌≡◌, ◌↔◌, None, length, slice_get, option_map, IfOk, IfErr, IfSome, IsOk, IsNone, OnOk, OnErr};
 ghost use Rattle.std.specs.BTreeMap.{get};
@@ -13,10 +16,8 @@ use crate::acceptance::net_fault;
 use crate::laws::{networks_begin, networks_go_on};
 use crate::nodes::Nodes;
 use crate::owners::Owners;
-use babel_net::{
-    Event, NetFault, StepFault, events_are_machine_runs, next_hops_are_picks,
-    sound_networks_have_no_loop,
-};
+use babel_net::laws::{events_are_machine_runs, next_hops_are_picks, sound_networks_have_no_loop};
+use babel_net::{Event, NetFault, StepFault};
 use babel_state::{Config, Selected};
 use babel_value::{Addr, Prefix, RouterId};
 use std::alloc::Global;
