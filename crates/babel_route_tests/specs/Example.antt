@@ -1,4 +1,4 @@
--- Rows worked by hand, on which the definitions are computed.
+-- Rows worked by hand, on which the definitions are computed (profile).
 use Rattle.std.specs.Prelude.{ℕ, [], ◌∷◌}
 use Rattle.babel_value.specs.declared.addresses.Addr.TheVariants.{V4}
 use Rattle.babel_value.specs.declared.keys.Source.{Source}

@@ -1,4 +1,4 @@
--- Rows of routes worked by hand, on which the definitions are computed.
+-- Rows of routes worked by hand, on which the definitions are computed (profile).
 use Rattle.std.specs.Prelude.{ℕ, false, List, [], ◌∷◌, Option, option_map}
 use Rattle.babel_value.specs.declared.addresses.Addr.{Addr}
 use Rattle.babel_value.specs.declared.addresses.Addr.TheVariants.{V4}

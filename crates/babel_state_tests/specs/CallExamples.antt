@@ -1,4 +1,4 @@
--- Own prefixes, a flushed neighbour, and what is pending (examples).
+-- Own prefixes, a flushed neighbour, and what is pending (examples; profile).
 use Rattle.std.specs.Prelude.{ℕ, [], false}
 use Rattle.babel_packet.specs.declared.messages.Message.TheVariants as messages
 use Rattle.babel_state.specs.declared.items.Item.{Item}

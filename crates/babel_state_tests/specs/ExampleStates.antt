@@ -1,4 +1,4 @@
--- States and messages of the examples, by hand.
+-- States and messages of the examples, by hand (profile).
 use Rattle.std.specs.Prelude.{ℕ, true, false, List, [], ◌∷◌, ◌++◌, replicate, Some, None}
 use Rattle.babel_value.specs.declared.addresses.Addr.{Addr}
 use Rattle.babel_value.specs.declared.addresses.Addr.TheVariants.{V4, V6}

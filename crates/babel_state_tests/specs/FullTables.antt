@@ -1,4 +1,4 @@
--- Tables without room, and numbers at their greatest (examples).
+-- Tables without room, and numbers at their greatest (examples; profile).
 use Rattle.std.specs.Prelude.{ℕ, ◌/◌, ◌%◌, List, [], ◌∷◌, map}
 use Rattle.std.specs.List.{range_with_len}
 use Rattle.babel_value.specs.declared.addresses.Addr.TheVariants.{V4}

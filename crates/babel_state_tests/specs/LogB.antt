@@ -1,4 +1,4 @@
--- Three datagrams that a speaker gets (a log of the tests), and the states that they lead to.
+-- Three datagrams that a speaker gets (a log of the tests; profile), and the states that they lead to.
 use Rattle.std.specs.Prelude.{ℕ, true, false, List, [], ◌∷◌, Some, None}
 use Rattle.babel_link.specs.declared.links.Link.{Link}
 use Rattle.babel_packet.specs.declared.messages.Message.{Message}

@@ -1,4 +1,4 @@
--- Routes that become unfeasible, and routes in the edge case of the seqno order (examples).
+-- Routes that become unfeasible, and routes in the edge case of the seqno order (examples; profile).
 use Rattle.std.specs.Prelude.{ℕ, ◌+◌, [], Option}
 use Rattle.std.specs.Option.{option_map}
 use Rattle.babel_value.specs.declared.keys.Peer.{Peer}

@@ -1,4 +1,4 @@
--- Seqno Requests for an own prefix and for a route (examples).
+-- Seqno Requests for an own prefix and for a route (examples; profile).
 use Rattle.std.specs.Prelude.{[], ◌∷◌}
 use Rattle.babel_state.specs.State.{State}
 use Rattle.babel_state_tests.specs.ExampleStates.{peer, ten, start, up_link, seqno_request, after}

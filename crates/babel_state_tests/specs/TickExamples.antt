@@ -1,4 +1,4 @@
--- Ticks of a speaker with two interfaces (examples).
+-- Ticks of a speaker with two interfaces (examples; profile).
 use Rattle.std.specs.Prelude.{ℕ, true, nat_eq, [], ◌∷◌, length, Some}
 use Rattle.babel_value.specs.declared.addresses.Addr.{Addr}
 use Rattle.babel_value.specs.declared.addresses.Addr.TheVariants.{V4}
