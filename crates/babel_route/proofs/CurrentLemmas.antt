@@ -144,7 +144,7 @@ module _ (sources : Sources) (cost : Peer → ℕ) (is_local : PrefixValue → B
       find_with_value prefix_cmp prefix_total prefix_exact p p chosen routes.selections ∙ ap (λ o. cond (is_eq o) chosen (selection_at p routes)) (tied_itself prefix_total p) in
       subst (λ s. s ≡ choice sources cost p (is_local p) s routes.entries) (sym here) (sym (chosen_again sources cost p (is_local p) (selection_at p routes) routes.entries sorted))
 
-  still_current : (p q : PrefixValue) (routes : RoutesValue) → is_sorted route_cmp routes.entries ≡ true → IsCurrent sources cost p (is_local p) routes → IsCurrent sources cost p (is_local p) (reselected sources cost q (is_local q) routes)
+  pub still_current : (p q : PrefixValue) (routes : RoutesValue) → is_sorted route_cmp routes.entries ≡ true → IsCurrent sources cost p (is_local p) routes → IsCurrent sources cost p (is_local p) (reselected sources cost q (is_local q) routes)
   still_current p q routes sorted current = by (eq_by_cmp prefix_cmp p q) refl
     where
       by : (b : Bool) → eq_by_cmp prefix_cmp p q ≡ b → IsCurrent sources cost p (is_local p) (reselected sources cost q (is_local q) routes)
@@ -213,7 +213,7 @@ module _ (sources : Sources) (cost : Peer → ℕ) (is_local : PrefixValue → B
       by false here = current_on ps p routes sorted (idle_current p routes here)
 
   -- ---- nothing to reselect
-  settled : (p : PrefixValue) (routes : RoutesValue) → is_sorted prefix_cmp routes.selections ≡ true → IsCurrent sources cost p (is_local p) routes → reselected sources cost p (is_local p) routes ≡ routes
+  pub settled : (p : PrefixValue) (routes : RoutesValue) → is_sorted prefix_cmp routes.selections ≡ true → IsCurrent sources cost p (is_local p) routes → reselected sources cost p (is_local p) routes ≡ routes
   settled p routes sorted current =
       ap (λ (ss : Selections). record { entries = routes.entries; selections = ss })
       (with_value_same prefix_cmp prefix_total prefix_exact p (choice_at sources cost p (is_local p) routes) routes.selections sorted current)

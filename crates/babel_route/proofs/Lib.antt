@@ -5,4 +5,5 @@ pub mod RetractionLemmas
 pub mod RoomLemmas
 pub mod RunLemmas
 pub mod ListLemmas
+pub mod NearLemmas
 pub mod DueLemmas

@@ -4,10 +4,12 @@ use Rattle.std.proofs.Common.{refl, sym, ap, ◌∙◌}
 use Rattle.std.specs.declared.cmp.Ordering.{Ordering}
 use Rattle.std.specs.declared.cmp.Ordering.TheVariants.{Less, Equal, Greater}
 use Rattle.std.specs.Ordering.{is_lt, is_gt, ordering_then, ordering_reverse}
+use Rattle.std.specs.Cmp.{IsTotalOrder}
 use Rattle.std.proofs.lemmas.Cmp.{upto}
 use Rattle.babel_value.specs.Prefixes.{PrefixValue}
 use Rattle.babel_value.specs.Orders.{prefix_cmp, peer_cmp}
 use Rattle.babel_value.proofs.OrderLaws.{prefix_total}
+use Rattle.babel_table.proofs.PlaceLemmas.{greater, turned, turned_back}
 use Rattle.babel_route.specs.declared.routes.entries.RouteKey.{RouteKey}
 use Rattle.babel_route.specs.RouteKeys.{route_cmp}
 use Rattle.babel_route.specs.Selections.{is_beyond}
@@ -42,10 +44,22 @@ before_falls bound x y upwards below = by (prefix_cmp x y) refl upwards
     by Equal e h = ap is_lt (prefix_total.congr x y bound e) ∙ below
     by Greater e h = cc
 
-turned : (r : Ordering) → is_lt (ordering_reverse r) ≡ is_gt r
-turned Less = refl
-turned Equal = refl
-turned Greater = refl
+-- The keys that are lesser than one: with a key, all lesser ones.
+pub lesser_falls : {K : Type 0} (R : K → K → Ordering) → IsTotalOrder R → (bound x y : K) → is_gt (R x y) ≡ false → is_gt (R bound y) ≡ true → is_gt (R bound x) ≡ true
+lesser_falls R o bound x y upwards below = by (R x y) refl upwards
+  where
+    below_bound : R y bound ≡ Less
+    below_bound = turned_back o bound y (greater (R bound y) below)
+
+    by : (r : Ordering) → R x y ≡ r → is_gt r ≡ false → is_gt (R bound x) ≡ true
+    by Less e h = ap is_gt (turned o x bound (o.trans x y bound e below_bound))
+    by Equal e h = ap is_gt (turned o x bound (o.congr x y bound e ∙ below_bound))
+    by Greater e h = cc
+
+reversed : (r : Ordering) → is_lt (ordering_reverse r) ≡ is_gt r
+reversed Less = refl
+reversed Equal = refl
+reversed Greater = refl
 
 pub through_falls : (after : Option PrefixValue) (x y : PrefixValue) → is_gt (prefix_cmp x y) ≡ false → is_through after y ≡ true → is_through after x ≡ true
 through_falls None x y upwards below = below
@@ -53,7 +67,7 @@ through_falls (Some q) x y upwards below =
     ap not (flip x ∙ upto prefix_total x y q upwards (sym (flip y) ∙ is_not (is_lt (prefix_cmp q y)) below))
   where
     flip : (p : PrefixValue) → is_lt (prefix_cmp q p) ≡ is_gt (prefix_cmp p q)
-    flip p = ap is_lt (prefix_total.antisymm q p) ∙ turned (prefix_cmp p q)
+    flip p = ap is_lt (prefix_total.antisymm q p) ∙ reversed (prefix_cmp p q)
 
     is_not : (b : Bool) → not b ≡ true → b ≡ false
     is_not true h = sym h

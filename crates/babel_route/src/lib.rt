@@ -3,6 +3,7 @@
 //!
 //! - `sources`: the source table, which holds the feasibility distances.
 //! - `routes`: the route table with its selections.
+//! - `near`: searches that begin where the last one ended.
 //! - `laws`: laws of the definitions.
 //!
 //! Both tables are over those of `babel_table`, whose items are passed on. A table takes its whole
@@ -10,12 +11,14 @@
 #![tactic(auto)]
 
 pub mod laws;
+mod near;
 mod routes;
 mod sources;
 
 pub use babel_table::{
     Full, Key, Memory, PlainTable, Revised, Revision, SortedTable, Sought, Steps, Table, find_in,
 };
+pub use near::Cursor;
 pub use routes::{
     AllRoutes, AllSelections, Costs, Entry, PREFIX_PLACES, PrefixList, PrefixListOver,
     PrefixRoutes, ROUTE_PLACES, RouteKey, RouteTable, Routes, RoutesOver, Selection,

@@ -18,7 +18,8 @@ mod revisions;
 mod room;
 mod walks;
 
-use crate::{SourceEntry, SourcesOver};
+use crate::near::{find_near, set_near};
+use crate::{Cursor, SourceEntry, SourcesOver};
 use babel_table::{Full, Memory, SortedTable, Table, find_in, least_due, places_below, set};
 use babel_value::{Addr, Distance, Peer, Prefix, RouterId, Source, hold_time};
 use bounds::Through;
@@ -265,9 +266,38 @@ impl<E: Table<RouteKey, Entry>, S: Table<Prefix, Selection>> RoutesOver<E, S> {
         ensures first { SelectsTheFirst sources.now (C.cost_of costs.now) prefix.now local self.old self.new }
         ensures routes { self.new ≡ reselected sources.now (C.cost_of costs.now) prefix.now local self.old }
     {
-        let before = find_in(&self.selections, prefix);
-        let after = choose(&self.entries, prefix, local, &before, sources, costs);
-        set(&mut self.selections, *prefix, after);
+        let mut cursor = Cursor::new();
+        self.select_near(prefix, local, sources, costs, &mut cursor)
+    }
+
+    /// The same. The searches begin at the cursor, which goes to the prefix.
+    pub fn select_near<T: Table<Source, SourceEntry>, C: Costs>(
+        &mut self,
+        prefix: &Prefix,
+        local: bool,
+        sources: &SourcesOver<T>,
+        costs: &C,
+        cursor: &mut Cursor,
+    ) -> (Option<Selection>, Option<Selection>)
+        ensures before { result.0 ≡ selection_at prefix.now self.old }
+        ensures after { result.1 ≡ choice_at sources.now (C.cost_of costs.now) prefix.now local self.old }
+        ensures selected { result.1 ≡ selection_at prefix.now self.new }
+        ensures first { SelectsTheFirst sources.now (C.cost_of costs.now) prefix.now local self.old self.new }
+        ensures routes { self.new ≡ reselected sources.now (C.cost_of costs.now) prefix.now local self.old }
+    {
+        let mut place = cursor.selection;
+        let before = find_near(&self.selections, &mut place, prefix);
+        let after = choose(
+            &self.entries,
+            prefix,
+            local,
+            &before,
+            sources,
+            costs,
+            cursor,
+        );
+        set_near(&mut self.selections, place, *prefix, after);
+        cursor.selection = place;
         (copy_of(&before), copy_of(&after))
     }
 

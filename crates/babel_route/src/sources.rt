@@ -7,6 +7,7 @@ ghost use Rattle.babel_table.specs.Digits.{binary_digits};
 ghost use Rattle.babel_route.specs.Distances.{is_feasible, improves_on, better_pair};
 ghost use Rattle.babel_route.specs.Sources.{pair_of, lowered, collected, collected_entry};
 
+use crate::near::find_near;
 use babel_table::{
     Change, Due, Full, Memory, Revised, Revision, SortedTable, Sought, Steps, Table, find_in,
     least_due,
@@ -122,10 +123,24 @@ impl<T: Table<Source, SourceEntry>> SourcesOver<T> {
     pub fn feasible(&self, source: Source, update: Distance) -> bool
         ensures { result ≡ is_feasible (pair_of source self.now) update }
     {
+        let mut near = usize::MAX;
+        self.feasible_near(source, update, &mut near)
+    }
+
+    /// The same. The search begins near an index, which becomes that of the source.
+    pub(crate) fn feasible_near(&self, source: Source, update: Distance, near: &mut usize) -> bool
+        ensures { result ≡ is_feasible (pair_of source self.now) update }
+    {
         if !update.metric.is_finite() {
             return true;
         }
-        improves(self.pair(&source), update)
+        improves(self.pair_near(&source, near), update)
+    }
+
+    fn pair_near(&self, source: &Source, near: &mut usize) -> Option<Distance>
+        ensures { result ≡ pair_of source.now self.now }
+    {
+        find_near(&self.table, near, source).map(|source_entry| source_entry.distance)
     }
 
     /// Records that an update for the source is sent now with this distance (RFC 8966, section

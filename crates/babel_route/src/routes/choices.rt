@@ -9,7 +9,7 @@ ghost use Rattle.babel_table.specs.Firsts.{first_of};
 ghost use Rattle.babel_route.specs.Selections.{routes_of, has_entry, choice, peer_before, is_candidate, is_change, is_feasible_route, route_metric, rank_of, rank_cmp, preference, selection_of};
 
 use super::walks::PrefixRoutes;
-use crate::{Entry, RouteKey, Selection, SourceEntry, SourcesOver};
+use crate::{Cursor, Entry, RouteKey, Selection, SourceEntry, SourcesOver};
 use babel_table::Table;
 use babel_value::{Metric, Peer, Prefix, Source};
 
@@ -49,6 +49,7 @@ pub(crate) fn choose<E: Table<RouteKey, Entry>, T: Table<Source, SourceEntry>, C
     before: &Option<Selection>,
     sources: &SourcesOver<T>,
     costs: &C,
+    cursor: &mut Cursor,
 ) -> Option<Selection>
     ensures choice { result ≡ choice sources.now (C.cost_of costs.now) prefix.now local before.now (E.entries entries.now) }
     ensures known { IsSome result → has_entry (E.entries entries.now) prefix.now ≡ true }
@@ -57,7 +58,7 @@ pub(crate) fn choose<E: Table<RouteKey, Entry>, T: Table<Source, SourceEntry>, C
         return None;
     }
     let peer = peer_of(before);
-    first_candidate(entries, prefix, peer, sources, costs)
+    first_candidate(entries, prefix, peer, sources, costs, cursor)
 }
 
 fn peer_of(selection: &Option<Selection>) -> Option<Peer>
@@ -76,12 +77,14 @@ fn first_candidate<E: Table<RouteKey, Entry>, T: Table<Source, SourceEntry>, C: 
     before: Option<Peer>,
     sources: &SourcesOver<T>,
     costs: &C,
+    cursor: &mut Cursor,
 ) -> Option<Selection>
     ensures { result ≡ option_map selection_of (first_of (preference (C.cost_of costs.now) before) (filter (is_candidate sources.now (C.cost_of costs.now)) (routes_of prefix.now (E.entries entries.now)))) }
 {
     let mut first: Option<Candidate> = None;
-    for route in PrefixRoutes::new(entries, *prefix) {
-        if let Some(rank) = candidate_rank(&route, before, sources, costs) {
+    for route in PrefixRoutes::near(entries, *prefix, &mut cursor.entry) {
+        cursor.entry = cursor.entry.wrapping_add(1);
+        if let Some(rank) = candidate_rank(&route, before, sources, costs, &mut cursor.source) {
             first = Some(first_of_two(first, Candidate { rank, route }));
         }
     }
@@ -110,12 +113,13 @@ fn candidate_rank<T: Table<Source, SourceEntry>, C: Costs>(
     before: Option<Peer>,
     sources: &SourcesOver<T>,
     costs: &C,
+    near: &mut usize,
 ) -> Option<Rank>
     ensures { result ≡ (if is_candidate sources.now (C.cost_of costs.now) route.now then Some (rank_of (C.cost_of costs.now) before route.now) else None) }
 {
     let peer = route.0.peer;
     let metric = route.1.distance.metric.add(costs.cost(&peer));
-    if metric.is_finite() && is_feasible(route, sources) {
+    if metric.is_finite() && is_feasible(route, sources, near) {
         let is_change = is_change(before, peer);
         Some(Rank {
             metric,
@@ -131,6 +135,7 @@ fn candidate_rank<T: Table<Source, SourceEntry>, C: Costs>(
 fn is_feasible<T: Table<Source, SourceEntry>>(
     route: &(RouteKey, Entry),
     sources: &SourcesOver<T>,
+    near: &mut usize,
 ) -> bool
     ensures { result ≡ is_feasible_route sources.now route.now }
 {
@@ -138,7 +143,7 @@ fn is_feasible<T: Table<Source, SourceEntry>>(
         prefix: route.0.prefix,
         router: route.1.router,
     };
-    sources.feasible(source, route.1.distance)
+    sources.feasible_near(source, route.1.distance, near)
 }
 
 /// Whether the neighbour is another than the one selected before.

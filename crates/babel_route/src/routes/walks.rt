@@ -5,8 +5,9 @@ ghost use Rattle.std.specs.List.{take_while};
 ghost use Rattle.babel_route.specs.Selections.{is_of, routes_of};
 
 use super::bounds::Before;
+use crate::near::places_below_near;
 use crate::{Entry, RouteKey, Selection};
-use babel_table::{Table, places_below};
+use babel_table::Table;
 use babel_value::Prefix;
 use std::marker::Model;
 
@@ -124,7 +125,16 @@ impl<'a, T: Table<RouteKey, Entry>> PrefixRoutes<'a, T> {
     pub(crate) fn new(table: &'a T, prefix: Prefix) -> PrefixRoutes<'a, T>
         ensures { result ≡ routes_of prefix (T.entries table.now) }
     {
-        let place = places_below(table, &Before { prefix });
+        let mut near = usize::MAX;
+        PrefixRoutes::near(table, prefix, &mut near)
+    }
+
+    /// The same. The search begins near an index, which becomes the one in front of the first route of the prefix.
+    pub(crate) fn near(table: &'a T, prefix: Prefix, near: &mut usize) -> PrefixRoutes<'a, T>
+        ensures { result ≡ routes_of prefix (T.entries table.now) }
+    {
+        let place = places_below_near(table, *near, &Before { prefix });
+        *near = place.wrapping_sub(1);
         PrefixRoutes {
             table,
             prefix,
