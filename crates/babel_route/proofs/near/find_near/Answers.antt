@@ -1,5 +1,5 @@
 -- The key of the entry at the index is this one, or all up to it are lesser.
-use Rattle.std.proofs.Common.{◌≡◌, Some, sym, ap, ◌∙◌, add-one}
+use Rattle.std.proofs.Common.{sym, ap, add-one}
 use Rattle.std.specs.Ordering.{is_eq}
 use Rattle.babel_table.proofs.PlaceLemmas.{lesser_through}
 use Rattle.babel_route.proofs.NearLemmas.{found_there}

@@ -1,6 +1,5 @@
 -- The key is at the index after all lesser ones, or nowhere.
-use Rattle.std.proofs.Common.{◌≡◌, Some, sym, ap, subst, ◌∙◌}
-use Rattle.babel_table.proofs.PlaceLemmas.{find_hit, find_gap}
+use Rattle.std.proofs.Common.{sym, ap, ◌∙◌}
 use Rattle.std.specs.Ordering.{is_eq}
 use Rattle.babel_route.proofs.NearLemmas.{found_there, missing_there, missing_past}
 use Rattle.babel_route.proofs.near.search_for.Goals as goal

@@ -1,10 +1,10 @@
 -- What a comparison means for all entries on its side, since the keys rise.
-use Rattle.std.proofs.Common.{◌≡◌, ◌≤◌, length, Some, sym, ap, ◌∙◌, arith, add-one}
+use Rattle.std.proofs.Common.{◌≤◌, length, sym, ap, arith, add-one}
 use Rattle.std.specs.Ordering.{is_eq}
 use Rattle.std.proofs.lemmas.List.{drop_all}
 use Rattle.babel_table.specs.Places.{are_greater}
 use Rattle.babel_table.proofs.PlaceLemmas.{find_gap, lesser_through, greater_from}
-use Rattle.babel_route.proofs.NearLemmas.{found_there, missing_past}
+use Rattle.babel_route.proofs.NearLemmas.{found_there}
 use Rattle.babel_route.proofs.near.walk_for.Goals as goal
 
 pub returns-in-Less : goal.returns-in-Less

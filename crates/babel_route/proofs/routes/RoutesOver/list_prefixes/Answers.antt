@@ -1,5 +1,5 @@
 -- The prefixes of the entries are added first, then those of the selections.
-use Rattle.std.proofs.Common.{◌≡◌, [], map, sym, ap, ◌∙◌}
+use Rattle.std.proofs.Common.{[], map, sym, ap, ◌∙◌}
 use Rattle.babel_route.specs.PrefixLists.{gathered}
 use Rattle.babel_route.specs.Selections.{RoutesValue, prefixes_of}
 use Rattle.babel_route.proofs.ListLemmas.{gathered_both}
