@@ -33,7 +33,7 @@ same_router : (r : List ℕ) → eq_by_cmp octets_cmp r r ≡ true
 same_router r = ap is_eq (tied_itself octets_total r)
 
 -- Nothing follows where the selection is the old one.
-nothing_follows : (now : ℕ) (p : PrefixValue) (s : State) (o : Option Selection) → follow_up now None p o o s ≡ s
+pub nothing_follows : (now : ℕ) (p : PrefixValue) (s : State) (o : Option Selection) → follow_up now None p o o s ≡ s
 nothing_follows now p s None = refl
 nothing_follows now p s (Some x) = rw (same_router x.entry.router) refl
 
@@ -57,17 +57,21 @@ abbrev with_links : Links → State → State
 with_links links s = record s { neighbours = links }
 
 module _ (peer : Peer) (link : Link) (links : Links) (nominal : ℕ → ℕ) where
-  same_cost : cost_of peer (nominal peer.iface) (put peer_cmp peer link links) ≡ cost_of peer (nominal peer.iface) links → (q : Peer) → cost_of q (nominal q.iface) (put peer_cmp peer link links) ≡ cost_of q (nominal q.iface) links
+  -- that of each other neighbour
+  pub other_cost : (q : Peer) → eq_by_cmp peer_cmp q peer ≡ false → cost_of q (nominal q.iface) (put peer_cmp peer link links) ≡ cost_of q (nominal q.iface) links
   unfolding cost_of
+  other_cost q other =
+      ap (λ o. option_map_or (link_cost (nominal q.iface)) o 65535)
+      (find-put peer_cmp peer_total q peer link links ∙ ap (λ b. cond b (Some link) (find peer_cmp q links)) other)
+
+  same_cost : cost_of peer (nominal peer.iface) (put peer_cmp peer link links) ≡ cost_of peer (nominal peer.iface) links → (q : Peer) → cost_of q (nominal q.iface) (put peer_cmp peer link links) ≡ cost_of q (nominal q.iface) links
   same_cost same q = by (eq_by_cmp peer_cmp q peer) refl
     where
-      by : (b : Bool) → eq_by_cmp peer_cmp q peer ≡ b → option_map_or (link_cost (nominal q.iface)) (find peer_cmp q (put peer_cmp peer link links)) 65535 ≡ option_map_or (link_cost (nominal q.iface)) (find peer_cmp q links) 65535
+      by : (b : Bool) → eq_by_cmp peer_cmp q peer ≡ b → cost_of q (nominal q.iface) (put peer_cmp peer link links) ≡ cost_of q (nominal q.iface) links
       by true here =
-          subst (λ x. option_map_or (link_cost (nominal x.iface)) (find peer_cmp x (put peer_cmp peer link links)) 65535 ≡ option_map_or (link_cost (nominal x.iface)) (find peer_cmp x links) 65535)
+          subst (λ x. cost_of x (nominal x.iface) (put peer_cmp peer link links) ≡ cost_of x (nominal x.iface) links)
           (sym (peer_exact q peer (equal (peer_cmp q peer) here))) same
-      by false here =
-          ap (λ o. option_map_or (link_cost (nominal q.iface)) o 65535)
-          (find-put peer_cmp peer_total q peer link links ∙ ap (λ b. cond b (Some link) (find peer_cmp q links)) here)
+      by false here = other_cost q here
 
 put_current : (peer : Peer) (link : Link) (s : State) → cost_at (with_links (put peer_cmp peer link s.neighbours) s) peer ≡ cost_at s peer → AreCurrent s → AreCurrent (with_links (put peer_cmp peer link s.neighbours) s)
 put_current peer link s same current p =
