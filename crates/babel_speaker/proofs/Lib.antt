@@ -10,6 +10,7 @@ pub mod FirstStates
 pub mod CallLaws
 pub mod QuietTicks
 pub mod Settling
+pub mod LinkChanges
 pub mod FirstFits
 pub mod SettledSends
 pub mod Restoring

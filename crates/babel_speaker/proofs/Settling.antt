@@ -1,8 +1,7 @@
 -- What keeps all selections current, and what there is to do then.
-use Rattle.std.specs.Prelude.{◌≡◌, ℕ, Bool, true, false, not, nat_eq, List, [], ◌∷◌, Option, Result, Ok, Err, IfOk, OnErr}
+use Rattle.std.specs.Prelude.{◌≡◌, ℕ, Bool, true, false, List, [], ◌∷◌, Option, Result, Ok, Err, IfOk, OnErr}
 use Rattle.std.specs.FinMap.{is_sorted}
 use Rattle.std.proofs.Common.{refl, sym, ◌∙◌, subst}
-use Rattle.std.proofs.lemmas.Bool.{eqb-true}
 use Rattle.babel_value.specs.declared.keys.Peer.{Peer}
 use Rattle.babel_value.specs.Orders.{prefix_cmp}
 use Rattle.babel_packet.specs.declared.placements.Placed.{Placed}
@@ -64,13 +63,6 @@ settled_or_not true new t stays becomes is = stays refl
 settled_or_not false new t stays becomes is = becomes refl is
 
 -- ---- Hellos and IHUs
-
-not_false : (b : Bool) → not b ≡ false → b ≡ true
-not_false true h = refl
-not_false false h = cc
-
-pub same_of : (a b : ℕ) → not (nat_eq a b) ≡ false → a ≡ b
-same_of a b is = eqb-true a b (not_false (nat_eq a b) is)
 
 pub heard_current : (now : ℕ) (peer : Peer) (unicast : Bool) (seqno interval : ℕ) (s t : State) → t ≡ hears now peer unicast seqno interval s → hello_verdict peer unicast seqno s.neighbours ≡ Kept → cost_at t peer ≡ cost_at s peer → AreCurrent s → AreCurrent t
 heard_current now peer unicast seqno interval s t is kept same current =

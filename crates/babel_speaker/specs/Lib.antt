@@ -1,4 +1,5 @@
 pub mod Costs
+pub mod LinkChanges
 pub mod Making
 pub mod Sending
 pub mod ShortHellos

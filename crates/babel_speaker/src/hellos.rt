@@ -1,14 +1,16 @@
 //! Hellos and IHUs (RFC 8966, section 3.4).
 
-ghost use Rattle.std.specs.Prelude.{◌≡◌, ◌↔◌, true, IsTrue, IsFalse, IsErr, IfOk, OnOk, OnErr, nat_eq};
+ghost use Rattle.std.specs.Prelude.{◌≡◌, ◌↔◌, true, IsTrue, IsFalse, IsErr, IfOk, OnOk, OnErr, nat_eq, if◌then◌else◌};
 ghost use Rattle.babel_link.specs.Neighbours.{hello_verdict};
 ghost use Rattle.babel_state.specs.State.{cost_at};
 ghost use Rattle.babel_state.specs.Hellos.{is_for_interface, is_neighbour_too_many, forgets_flushed, hears, handle_hello, handle_ihu};
 ghost use Rattle.babel_state.specs.CurrentSelections.{AreCurrent};
 ghost use Rattle.babel_state.specs.SettledLaws.{with_ihu};
+ghost use Rattle.babel_speaker.specs.LinkChanges.{AreOthersCurrent};
+ghost use Rattle.babel_speaker.specs.declared.link_costs.LinkChange.TheVariants.{Nothing, Cost};
 
 use crate::sources::is_own_address;
-use crate::{Core, Scratch};
+use crate::{Core, LinkChange, Scratch};
 use babel_link::{Full, Heard};
 use babel_state::Verdict;
 use babel_value::{Addr, Metric, Peer, Seqno};
@@ -38,11 +40,15 @@ impl Core {
         }
     }
 
-    /// Whether the link to the peer has this cost.
-    fn has_cost(&self, peer: &Peer, cost: Metric) -> bool
-        ensures { result ≡ nat_eq (cost_at self.now peer.now) cost }
+    /// What changed if the link to the peer had this cost and all else is as it was.
+    fn change_from(&self, peer: &Peer, cost: Metric) -> LinkChange
+        ensures { result ≡ (if nat_eq (cost_at self.now peer.now) cost then Nothing else Cost) }
     {
-        self.cost(peer).0 == cost.0
+        if self.cost(peer).0 == cost.0 {
+            LinkChange::Nothing
+        } else {
+            LinkChange::Cost
+        }
     }
 
     /// Takes a Hello into the neighbour table, and removes the routes of a neighbour that it flushes.
@@ -68,8 +74,8 @@ impl Core {
         }
     }
 
-    /// The same. Returns `false` if no neighbour was flushed and the cost of the link to the peer is what it was: then all
-    /// selections that were current are so.
+    /// The same. Returns what changed: if nothing, all selections that were current are so; if the cost of the link
+    /// to the peer alone, those of the prefixes to which the peer has no route.
     fn hear(
         &mut self,
         now: u64,
@@ -77,24 +83,25 @@ impl Core {
         unicast: bool,
         seqno: Seqno,
         interval: u16,
-    ) -> Result<bool, Full>
+    ) -> Result<LinkChange, Full>
         ensures full { IsErr result ↔ (is_neighbour_too_many peer.now self.old ≡ true) }
         ensures ok { OnOk result (self.new ≡ hears now peer.now unicast seqno interval self.old) }
         ensures err { OnErr result (self.new ≡ self.old) }
-        ensures current { IfOk result (λ changed. IsFalse changed → AreCurrent self.old → AreCurrent self.new) }
+        ensures nothing { IfOk result (λ change. change ≡ Nothing → AreCurrent self.old → AreCurrent self.new) }
+        ensures cost { IfOk result (λ change. change ≡ Cost → AreCurrent self.old → AreOthersCurrent peer.now self.new) }
     {
         let cost = self.cost(peer);
         match self.take_hello(now, peer, unicast, seqno, interval) {
             Ok(heard) => match heard {
-                Heard::Kept => Ok(!self.has_cost(peer, cost)),
-                Heard::Flush => Ok(true),
+                Heard::Kept => Ok(self.change_from(peer, cost)),
+                Heard::Flush => Ok(LinkChange::Routes),
             },
             Err(full) => Err(full),
         }
     }
 
-    /// Handles a Hello (RFC 8966, section 3.4.1). Costs may change by it; then all routes are selected
-    /// again. All selections are current then.
+    /// Handles a Hello (RFC 8966, section 3.4.1). A cost may change by it; then routes are selected again.
+    /// All selections are current then.
     #[tactic(auto, unfolding(babel_state::specs::Hellos::handle_hello))]
     pub(crate) fn handle_hello(
         &mut self,
@@ -111,8 +118,8 @@ impl Core {
         ensures current { AreCurrent self.new }
     {
         match self.hear(now, peer, unicast, seqno, interval) {
-            Ok(changed) => {
-                self.reselect_after(changed, settled, now, scratch);
+            Ok(change) => {
+                self.reselect_link(change, settled, now, peer, scratch);
                 Verdict::Taken
             }
             Err(_) => {
@@ -130,19 +137,19 @@ impl Core {
         self.neighbours.ihu(now, *peer, rxcost, interval);
     }
 
-    /// The same. Returns `false` if the cost of the link to the peer is what it
-    /// was: then all selections that were current are so.
-    fn hear_ihu(&mut self, now: u64, peer: &Peer, rxcost: Metric, interval: u16) -> bool
+    /// The same. Returns what changed, as `hear`.
+    fn hear_ihu(&mut self, now: u64, peer: &Peer, rxcost: Metric, interval: u16) -> LinkChange
         ensures state { self.new ≡ with_ihu now peer.now rxcost interval self.old }
-        ensures current { IsFalse result → AreCurrent self.old → AreCurrent self.new }
+        ensures nothing { result ≡ Nothing → AreCurrent self.old → AreCurrent self.new }
+        ensures cost { AreCurrent self.old → AreOthersCurrent peer.now self.new }
     {
         let cost = self.cost(peer);
         self.take_ihu(now, peer, rxcost, interval);
-        !self.has_cost(peer, cost)
+        self.change_from(peer, cost)
     }
 
-    /// Handles an IHU (RFC 8966, section 3.4.2). A cost may change by it; then all routes are selected
-    /// again. After an IHU for this speaker all selections are current, and the speaker is settled.
+    /// Handles an IHU (RFC 8966, section 3.4.2). A cost may change by it; then routes are selected again.
+    /// After an IHU for this speaker all selections are current, and the speaker is settled.
     #[tactic(auto, unfolding(babel_state::specs::Hellos::handle_ihu))]
     pub(crate) fn handle_ihu(
         &mut self,
@@ -161,8 +168,8 @@ impl Core {
         if !self.is_for_interface(peer.iface, to) {
             return Verdict::OtherAddress;
         }
-        let changed = self.hear_ihu(now, peer, rxcost, interval);
-        self.reselect_after(changed, *settled, now, scratch);
+        let change = self.hear_ihu(now, peer, rxcost, interval);
+        self.reselect_link(change, *settled, now, peer, scratch);
         *settled = true;
         Verdict::Taken
     }

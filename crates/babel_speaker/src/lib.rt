@@ -33,7 +33,7 @@ mod updates;
 pub use announced::Announced;
 pub use interfaces::Interfaces;
 pub use laws::first_messages_fit;
-pub use link_costs::LinkCosts;
+pub use link_costs::{LinkChange, LinkCosts};
 pub use pending_items::PendingItems;
 pub use prefixes::Prefixes;
 pub use requests::RequestTable;

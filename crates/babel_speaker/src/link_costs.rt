@@ -37,3 +37,14 @@ impl<'a> Costs for LinkCosts<'a> {
         self.neighbours.cost(*peer, nominal)
     }
 }
+
+/// What a Hello or an IHU changed of all that selections depend on.
+#[derive(Clone, Copy, Debug, PartialEq, Eq)]
+pub enum LinkChange {
+    /// Nothing.
+    Nothing,
+    /// The cost of the link to the neighbour alone.
+    Cost,
+    /// The neighbour's routes.
+    Routes,
+}

@@ -6,11 +6,13 @@ ghost use Rattle.babel_state.specs.declared.requests.Resend.TheVariants.{Unfeasi
 ghost use Rattle.babel_state.specs.Reselection.{queue, updates_to_all, update_to, request_seqno, unfeasible_peers, is_same_origin, advertise_change, may_request_for_lost, seqno_after, request_for_lost, is_selected_peer, request_for_update, request_from_sender, request_for_seqno, select, reselect, reselect_each, reselect_all};
 ghost use Rattle.babel_state.specs.State.{prefixes_in, selected_at};
 ghost use Rattle.babel_state.specs.CurrentSelections.{AreCurrent};
+ghost use Rattle.babel_speaker.specs.LinkChanges.{AreOthersCurrent};
+ghost use Rattle.babel_speaker.specs.declared.link_costs.LinkChange.TheVariants.{Nothing, Cost};
 
 use crate::causes::UnfeasibleUpdate;
 use crate::queueing::{has_unfeasible, queue_requests_to_unfeasible, queue_updates_to_all};
-use crate::{Core, LinkCosts, Scratch};
-use babel_route::Selection;
+use crate::{Core, LinkChange, LinkCosts, Scratch};
+use babel_route::{Cursor, Selection};
 use babel_state::{Item, REQUEST_HOPS, Resend, Target};
 use babel_value::{Distance, Peer, Prefix, Seqno, Source};
 
@@ -126,9 +128,24 @@ impl Core {
         ensures old { result.0 ≡ selected_at prefix.now self.old }
         ensures new { result.1 ≡ selected_at prefix.now self.new }
     {
+        let mut cursor = Cursor::new();
+        self.select_near(prefix, &mut cursor)
+    }
+
+    /// The same. The searches begin at the cursor.
+    fn select_near(
+        &mut self,
+        prefix: &Prefix,
+        cursor: &mut Cursor,
+    ) -> (Option<Selection>, Option<Selection>)
+        ensures state { self.new ≡ select prefix.now self.old }
+        ensures old { result.0 ≡ selected_at prefix.now self.old }
+        ensures new { result.1 ≡ selected_at prefix.now self.new }
+    {
         let local = self.announces(prefix);
         let costs = LinkCosts::new(&self.interfaces, &self.neighbours);
-        self.routes.select(prefix, local, &self.sources, &costs)
+        self.routes
+            .select_near(prefix, local, &self.sources, &costs, cursor)
     }
 
     /// Advertises a route at once that is new, that is lost or whose router-id changed (RFC 8966,
@@ -219,21 +236,37 @@ impl Core {
 
     /// Selects the route of the prefix again after an input, which was this unfeasible update or none,
     /// and does what follows from a change.
-    #[tactic(auto, unfolding(babel_state::specs::Reselection::reselect))]
     pub(crate) fn reselect(&mut self, now: u64, cause: Option<UnfeasibleUpdate>, prefix: &Prefix)
         ensures { self.new ≡ reselect now cause prefix.now self.old }
     {
-        let (old, new) = self.select(prefix);
+        let mut cursor = Cursor::new();
+        self.reselect_near(now, cause, prefix, &mut cursor);
+    }
+
+    /// The same. The searches begin at the cursor.
+    #[tactic(auto, unfolding(babel_state::specs::Reselection::reselect))]
+    fn reselect_near(
+        &mut self,
+        now: u64,
+        cause: Option<UnfeasibleUpdate>,
+        prefix: &Prefix,
+        cursor: &mut Cursor,
+    )
+        ensures { self.new ≡ reselect now cause prefix.now self.old }
+    {
+        let (old, new) = self.select_near(prefix, cursor);
         self.advertise_change(prefix, &old, &new);
         self.request_for_seqno(now, cause, prefix, &old, &new);
     }
 
-    /// Selects the routes of the prefixes again, one after the other.
+    /// Selects the routes of the prefixes again, one after the other. Since the prefixes rise, that is one walk over
+    /// the tables.
     fn reselect_each(&mut self, now: u64, prefixes: &Scratch)
         ensures { self.new ≡ reselect_each now (prefixes_in prefixes.now) self.old }
     {
+        let mut cursor = Cursor::new();
         for prefix in prefixes.prefixes() {
-            self.reselect(now, None, &prefix);
+            self.reselect_near(now, None, &prefix, &mut cursor);
         }
     }
 
@@ -277,6 +310,39 @@ impl Core {
             self.reselect_unless(false, now, scratch);
         } else {
             self.reselect_unless(settled, now, scratch);
+        }
+    }
+    /// Selects the route of each prefix again to which the neighbour has a route. If all other selections are
+    /// current, that leaves what a reselection of all leaves.
+    fn reselect_from(&mut self, now: u64, peer: &Peer, scratch: &mut Scratch)
+        requires others { AreOthersCurrent peer.now self.old }
+        ensures state { self.new ≡ reselect_all now self.old }
+        ensures current { AreCurrent self.new }
+    {
+        // The tables are in order.
+        let _count = self.routes.len();
+        scratch.gather_from(&self.routes, peer);
+        self.reselect_each(now, scratch);
+    }
+
+    /// Selects routes again after a change of the link to a neighbour. It leaves what a reselection of all leaves.
+    pub(crate) fn reselect_link(
+        &mut self,
+        change: LinkChange,
+        settled: bool,
+        now: u64,
+        peer: &Peer,
+        scratch: &mut Scratch,
+    )
+        requires nothing { IsTrue settled → change ≡ Nothing → AreCurrent self.old }
+        requires cost { IsTrue settled → change ≡ Cost → AreOthersCurrent peer.now self.old }
+        ensures state { self.new ≡ reselect_all now self.old }
+        ensures current { AreCurrent self.new }
+    {
+        match change {
+            LinkChange::Nothing => self.reselect_unless(settled, now, scratch),
+            LinkChange::Cost if settled => self.reselect_from(now, peer, scratch),
+            _ => self.reselect_unless(false, now, scratch),
         }
     }
 }

@@ -5,10 +5,11 @@ ghost use Rattle.std.specs.FinMap.{put};
 ghost use Rattle.babel_value.specs.Orders.{prefix_cmp};
 ghost use Rattle.babel_route.specs.Selections.{prefixes_of};
 ghost use Rattle.babel_state.specs.State.{gathered, prefixes_in};
+ghost use Rattle.babel_speaker.specs.LinkChanges.{prefixes_from};
 
 use crate::{Announced, Prefixes};
 use babel_route::{Memory, Routes, SortedTable, Table};
-use babel_value::Prefix;
+use babel_value::{Peer, Prefix};
 use std::alloc::Global;
 use std::marker::Model;
 
@@ -98,6 +99,18 @@ impl Scratch {
         }
     }
 
+    /// Adds the prefix of each route of the neighbour.
+    fn insert_from(&mut self, routes: &Routes, peer: &Peer)
+        requires room { length self.old + length routes.now.entries ≤ 512 }
+        ensures { self.new ≡ gathered (prefixes_from peer.now routes.now.entries) self.old }
+    {
+        for route in routes.routes() {
+            if route.0.peer.cmp(peer).is_eq() {
+                self.insert(route.0.prefix);
+            }
+        }
+    }
+
     /// Adds the announced prefixes.
     fn insert_announced(&mut self, announced: &Announced)
         requires room { length self.old + length announced.now ≤ 512 }
@@ -119,6 +132,15 @@ impl Scratch {
         self.clear();
         self.insert_routes(routes);
         self.insert_selections(routes);
+    }
+
+    /// Makes the set that of the prefixes to which the neighbour has a route.
+    pub(crate) fn gather_from(&mut self, routes: &Routes, peer: &Peer)
+        ensures { self.new ≡ gathered (prefixes_from peer.now routes.now.entries) [] }
+    {
+        let _routes = routes.len();
+        self.clear();
+        self.insert_from(routes, peer);
     }
 
     /// Makes the set that of the prefixes that are announced or selected.
