@@ -146,6 +146,3 @@ fn sources_of(alloc: Global, nodes: usize, owners: &[usize]) -> Result<Vec<Sourc
     }
     Ok(sources)
 }
-
-#[cfg(test)]
-mod tests;

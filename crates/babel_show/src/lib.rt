@@ -13,6 +13,3 @@ pub use errors::{Fault, report};
 pub use many::{LineOptions, show_lines};
 pub use one::show;
 pub use status::Status;
-
-#[cfg(test)]
-mod tests;

@@ -150,23 +150,3 @@ impl Source {
         &self.nodes[node]
     }
 }
-
-#[cfg(test)]
-mod tests {
-    use super::*;
-    use std::test::Fail;
-
-    #[test]
-    fn the_count_stops_at_its_greatest(rt: HostRuntime) -> Result<(), Fail> {
-        let mut source = Source::new(rt.alloc(), 1, 0)?;
-        source.raises = u64::MAX - 1;
-        assert_eq!(rt; source.step(Step::Raise), Ok(()));
-        assert_eq!(rt; source.raises, u64::MAX);
-        assert_eq!(rt;
-            source.step(Step::Raise),
-            Err(MachineFault::CountAtGreatest)
-        );
-        assert_eq!(rt; source.raises, u64::MAX);
-        Ok(())
-    }
-}

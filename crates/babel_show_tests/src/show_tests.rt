@@ -1,13 +1,10 @@
 //! The commands' texts and statuses, and what failing readers and writers do.
 
-use super::*;
+use crate::examples;
+use babel_show::{Status, show};
 use std::alloc::Global;
 use std::io;
 use std::process::Abort;
-use std::test::Fail;
-
-mod examples;
-mod lines;
 
 /// A writer that fails from its nth octet on.
 #[derive(Drop)]

@@ -1,6 +1,10 @@
 //! `show --stdin`.
 
-use super::*;
+use babel_show::{LineOptions, Status, show_lines};
+use std::alloc::Global;
+use std::io;
+use std::process::Abort;
+use std::test::Fail;
 
 /// Compares what `show_lines` writes and returns with the expected lines, fault and status.
 fn check_lines(

@@ -2,10 +2,10 @@
 //! layouts of RFC 8966, section 4.6, and the reasons in docs/DEFINITIONS.md.
 
 /// Source address, octets in hexadecimal, lines.
-pub(super) type Example = (&'static str, &'static str, &'static str);
+pub(crate) type Example = (&'static str, &'static str, &'static str);
 
 /// One feature of a datagram each.
-pub(super) const WORKED: [Example; 14] = [
+pub(crate) const WORKED: [Example; 14] = [
     // No TLVs.
     ("192.168.0.1", "2a020000", ""),
     // A Hello.
@@ -89,7 +89,7 @@ pub(super) const WORKED: [Example; 14] = [
 ];
 
 /// Datagrams that are refused whole.
-pub(super) const REFUSED: [Example; 7] = [
+pub(crate) const REFUSED: [Example; 7] = [
     ("192.168.0.1", "2a0200", "refused P1\n"),
     ("192.168.0.1", "2b", "refused P1\n"),
     ("192.168.0.1", "2b020000", "refused P2\n"),
@@ -100,7 +100,7 @@ pub(super) const REFUSED: [Example; 7] = [
 ];
 
 /// One of each message and reason.
-pub(super) const EACH: [Example; 11] = [
+pub(crate) const EACH: [Example; 11] = [
     // PadN.
     ("192.168.0.1", "2a02000401020000", "4 ignored I1\n"),
     // An unknown type.
@@ -142,7 +142,7 @@ pub(super) const EACH: [Example; 11] = [
 ];
 
 /// Both families and each address encoding.
-pub(super) const FAMILIES: [Example; 5] = [
+pub(crate) const FAMILIES: [Example; 5] = [
     // An IPv6 Update.
     (
         "fe80::1",
@@ -172,7 +172,7 @@ pub(super) const FAMILIES: [Example; 5] = [
 ];
 
 /// Retractions and wildcards.
-pub(super) const RETRACTIONS: [Example; 6] = [
+pub(crate) const RETRACTIONS: [Example; 6] = [
     // A retraction sets the default prefix.
     (
         "192.168.0.1",
@@ -212,7 +212,7 @@ pub(super) const RETRACTIONS: [Example; 6] = [
 ];
 
 /// The order of the reasons.
-pub(super) const REASONS: [Example; 4] = [
+pub(crate) const REASONS: [Example; 4] = [
     // Whole fields come before the encoding, and that before the rest.
     (
         "192.168.0.1",
@@ -240,7 +240,7 @@ pub(super) const REASONS: [Example; 4] = [
 ];
 
 /// What earlier TLVs set.
-pub(super) const EARLIER: [Example; 7] = [
+pub(crate) const EARLIER: [Example; 7] = [
     // State of an Update ignored for its tail.
     (
         "192.168.0.1",
@@ -286,7 +286,7 @@ pub(super) const EARLIER: [Example; 7] = [
 ];
 
 /// Addresses and prefixes.
-pub(super) const ADDRESSES: [Example; 3] = [
+pub(crate) const ADDRESSES: [Example; 3] = [
     // IHUs by each encoding, and a tail.
     (
         "192.168.0.1",

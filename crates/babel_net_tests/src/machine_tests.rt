@@ -1,7 +1,7 @@
 //! Worked runs of the machine, each refusal at each call that can give it, and failed allocations.
 
-use super::Machine;
-use crate::errors::MachineFault::{self, MayNotPick, MayNotSend, Memory, OutOfRange};
+use babel_net::MachineFault::{self, MayNotPick, MayNotSend, Memory, OutOfRange};
+use babel_net::machine::Machine;
 use std::alloc::Global;
 use std::test::Fail;
 
