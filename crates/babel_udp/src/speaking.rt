@@ -51,15 +51,36 @@ pub fn speak<R: Net + Clock + Files, S: Read + Drop, W: Write>(
     options: SpeakOptions<'_>,
     out: &mut W,
 ) -> Result<(), SpeakFault> {
-    config.check()?;
-    let links = Links::of(alloc, &config)?;
-    if !links.have_addresses() {
-        return Err(SpeakFault::Transport);
-    }
+    let links = checked_links(alloc, &config)?;
     let mut speaker = make_speaker(alloc, config, snapshot)?;
     let mut wire = UdpWire::bind(alloc, rt, links, options.port)?;
-    let report = take_turns(alloc, &mut speaker, &mut wire, options, out);
-    let saved = save(alloc, rt, &speaker, options.save);
+    speak_and_save(alloc, rt, &mut speaker, &mut wire, options, out)
+}
+
+/// The links of a configuration that a speaker can be made of, if they all have IPv4 transport.
+fn checked_links(alloc: Global, config: &Config) -> Result<Links, SpeakFault> {
+    config.check()?;
+    let links = Links::of(alloc, config)?;
+    if links.have_addresses() {
+        Ok(links)
+    } else {
+        Err(SpeakFault::Transport)
+    }
+}
+
+/// Drives the speaker for all turns, saves it, and writes the counts.
+fn speak_and_save<R: Net + Clock + Files, W: Write>(
+    alloc: Global,
+    rt: &R,
+    speaker: &mut Speaker,
+    wire: &mut UdpWire<'_, R>,
+    options: SpeakOptions<'_>,
+    out: &mut W,
+) -> Result<(), SpeakFault>
+    requires { wire.old.faults ≡ 0 }
+{
+    let report = take_turns(alloc, speaker, wire, options, out);
+    let saved = save(alloc, rt, speaker, options.save);
     // The counts are written also if the speaker can't be saved.
     let written = match report {
         Ok(report) => write_report(options.turns, report, out),
