@@ -3,6 +3,7 @@
 ghost use Rattle.std.specs.Prelude.{◌≡◌};
 ghost use Rattle.toml.specs.View.{view, table_view};
 ghost use Rattle.babel_config.specs.Keys.{is_key_of, all_keys_of, is_table_of};
+ghost use Rattle.babel_config.specs.declared.keys.TableKind.TheVariants.{Scenario, Config, Interface};
 
 use toml::{Table, Value};
 
@@ -23,24 +24,41 @@ impl TableKind {
         ensures { result ≡ is_key_of self key.now }
     {
         match self {
-            TableKind::Scenario => key == "events" || key == "node",
-            TableKind::Config => {
-                key == "router-id"
-                    || key == "seqno"
-                    || key == "collect"
-                    || key == "prefixes"
-                    || key == "interface"
-            }
-            TableKind::Interface => {
-                key == "transport"
-                    || key == "ipv4"
-                    || key == "ipv6"
-                    || key == "peers"
-                    || key == "cost"
-                    || key == "hello"
-            }
+            TableKind::Scenario => is_scenario_key(key),
+            TableKind::Config => is_config_key(key),
+            TableKind::Interface => is_interface_key(key),
         }
     }
+}
+
+/// Whether it is a key of a scenario.
+fn is_scenario_key(key: &str) -> bool
+    ensures { result ≡ is_key_of Scenario key.now }
+{
+    key == "events" || key == "node"
+}
+
+/// Whether it is a key of a configuration.
+fn is_config_key(key: &str) -> bool
+    ensures { result ≡ is_key_of Config key.now }
+{
+    key == "router-id"
+        || key == "seqno"
+        || key == "collect"
+        || key == "prefixes"
+        || key == "interface"
+}
+
+/// Whether it is a key of an interface.
+fn is_interface_key(key: &str) -> bool
+    ensures { result ≡ is_key_of Interface key.now }
+{
+    key == "transport"
+        || key == "ipv4"
+        || key == "ipv6"
+        || key == "peers"
+        || key == "cost"
+        || key == "hello"
 }
 
 /// Whether the value is a table of this kind, without other keys.

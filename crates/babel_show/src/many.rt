@@ -66,33 +66,80 @@ fn try_show_lines<R: Read + Drop, W: Write>(
     let mut input = BufReader::with_capacity(alloc, READ_LEN, input).map_err(Fault::of_reading)?;
     let mut line = Vec::with_capacity(alloc, MAX_LINE_LEN + 1)?;
     let mut octets = vec![in alloc; 0u8; MAX_LINE_LEN / 2]?;
-    let mut is_first = true;
+    let mut shower = Shower {
+        alloc,
+        source,
+        header: options.header,
+        is_first: true,
+    };
     for turn in 1..u64::MAX {
         *number = turn;
-        if !input.buffer().contains(&b'\n') {
-            out.flush().map_err(Fault::of_writing)?;
-        }
+        flush_before_waiting(&input, out)?;
         if !read_line(&mut input, &mut line)? {
             break;
         }
-        if is_skipped(line.as_slice()) {
-            continue;
-        }
-        let (source, hex) = parse_line(line.as_slice(), source)?;
-        let datagram = decode_hex(hex, octets.as_mut_slice())?;
-        if !is_first {
-            writeln!(out, "").map_err(Fault::of_writing)?;
-        }
-        is_first = false;
-        if options.header {
-            writeln!(out, "# {turn} {source}").map_err(Fault::of_writing)?;
-        }
-        match decode(alloc, datagram, source) {
-            Err(Refusal::Memory) => return Err(Fault::Memory),
-            meaning => write_meaning(&meaning, out)?,
-        }
+        shower.show_line(turn, line.as_slice(), octets.as_mut_slice(), out)?;
     }
     out.flush().map_err(Fault::of_writing)
+}
+
+/// Flushes what was shown, unless the whole of the next line was read already.
+fn flush_before_waiting<R: Read, W: Write>(input: &BufReader<R>, out: &mut W) -> Result<(), Fault> {
+    if input.buffer().contains(&b'\n') {
+        return Ok(());
+    }
+    out.flush().map_err(Fault::of_writing)
+}
+
+/// Shows the datagrams of lines, one after another.
+#[derive(Drop)]
+struct Shower {
+    alloc: Global,
+    /// The source address of a line that has none.
+    source: Addr,
+    /// Whether `# <line> <source>` is written before each datagram.
+    header: bool,
+    /// Whether no datagram was shown yet.
+    is_first: bool,
+}
+
+impl Shower {
+    /// Shows the datagram of a line, if it has one.
+    fn show_line<W: Write>(
+        &mut self,
+        number: u64,
+        line: &[u8],
+        octets: &mut [u8],
+        out: &mut W,
+    ) -> Result<(), Fault> {
+        if is_skipped(line) {
+            return Ok(());
+        }
+        let (source, hex) = parse_line(line, self.source)?;
+        let datagram = decode_hex(hex, octets)?;
+        self.write_head(number, source, out)?;
+        match decode(self.alloc, datagram, source) {
+            Err(Refusal::Memory) => Err(Fault::Memory),
+            meaning => write_meaning(&meaning, out),
+        }
+    }
+
+    /// Writes what comes before a datagram.
+    fn write_head<W: Write>(
+        &mut self,
+        number: u64,
+        source: Addr,
+        out: &mut W,
+    ) -> Result<(), Fault> {
+        if !self.is_first {
+            writeln!(out, "").map_err(Fault::of_writing)?;
+        }
+        self.is_first = false;
+        if self.header {
+            writeln!(out, "# {number} {source}").map_err(Fault::of_writing)?;
+        }
+        Ok(())
+    }
 }
 
 /// Reads a line without its line feed, and returns whether there was one. The end of the input ends the
