@@ -1,5 +1,6 @@
 //! Pending requests for a seqno (RFC 8966, section 3.2.7).
 
+use babel_table::Due;
 use babel_value::{Peer, Seqno};
 
 /// What a pending request does when its wait is over.
@@ -25,4 +26,12 @@ pub struct PendingRequest {
     pub wait: u16,
     /// The moment at which the wait is over.
     pub due: u64,
+}
+
+impl Due for PendingRequest {
+    ghost due_of = { λ request. request.due };
+
+    fn due(&self) -> u64 {
+        self.due
+    }
 }
