@@ -1,6 +1,6 @@
 //! The route table and route selection (RFC 8966, sections 3.2.6, 3.5 and 3.6).
 
-ghost use Rattle.std.specs.Prelude.{◌≡◌, ◌↔◌, ◌≤◌, ◌<◌, [], length, slice_get, option_map, IfOk, OnOk, OnErr, IsErr, IsNone, IsTrue, IsFalse, is_some, map};
+ghost use Rattle.std.specs.Prelude.{◌≡◌, ◌↔◌, ◌≤◌, ◌<◌, [], length, slice_get, option_map, IfOk, OnOk, OnErr, IsErr, IsNone, IsSome, IsTrue, IsFalse, is_some, map};
 ghost use Rattle.std.specs.List.{filter};
 ghost use Rattle.std.specs.FinMap.{find, is_sorted};
 ghost use Rattle.babel_value.specs.Orders.{prefix_cmp};
@@ -220,6 +220,15 @@ impl<E: Table<RouteKey, Entry>, S: Table<Prefix, Selection>> RoutesOver<E, S> {
     {
         let _count = self.selections.len();
         AllSelections::new(&self.selections)
+    }
+
+    /// The selection whose prefix has exactly `place` lesser ones.
+    pub fn selection_at(&self, place: usize) -> Option<(Prefix, Selection)>
+        ensures selection { result ≡ slice_get self.now.selections place }
+        ensures within { IsSome result → place < ROUTE_PLACES }
+    {
+        let _count = self.selections.len();
+        self.selections.at(place)
     }
 
     /// Lists the prefixes that have an entry or a selection, in ascending order, each once. It is one
