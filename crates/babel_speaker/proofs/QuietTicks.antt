@@ -1,12 +1,22 @@
--- Before the timers of all interfaces are due a tick changes nothing of them; and no pending item is no datagram.
-use Rattle.std.proofs.Common.{◌≡◌, ◌↔◌, ℕ, ◌+◌, Bool, true, false, List, [], ◌∷◌, ◌++◌, map, length, Option, IsNone, refl, ap, subst, ◌∙◌}
-use Rattle.std.specs.Prelude.{◌||◌}
+-- Before a request or a timer of an interface is due a tick changes nothing of them; and no pending item is no datagram.
+use Rattle.std.proofs.Common.{◌≡◌, ◌↔◌, ℕ, ◌+◌, ◌<◌, ◌≤◌, Bool, true, false, List, [], ◌∷◌, ◌++◌, map, length, Option, IsNone, nat_le, refl, ap, sym, subst, ◌∙◌, arith}
+use Rattle.std.specs.Prelude.{◌||◌, Result, Ok, Err, OnOk, OnErr}
 use Rattle.std.specs.List.{list_any, list_all}
+use Rattle.std.specs.FinMap.{put}
+use Rattle.std.proofs.lemmas.List.Elements.{All-head, All-tail}
+use Rattle.std.proofs.lemmas.Bool.Decides.{nat_tests}
+use Rattle.babel_value.specs.declared.keys.Source.{Source}
+use Rattle.babel_value.specs.Orders.{source_cmp}
+use Rattle.babel_table.specs.Dues.{AreDueFrom}
+use Rattle.babel_table.specs.Entries.{revised_entries}
+use Rattle.babel_table.proofs.DueLemmas.{due_earlier, due_put}
+use Rattle.babel_state.specs.declared.requests.PendingRequest.{PendingRequest}
+use Rattle.babel_state.specs.PendingRequests.{PendingRequests}
 use Rattle.babel_state.specs.declared.interfaces.InterfaceEntry.{InterfaceEntry}
 use Rattle.babel_state.specs.declared.items.Item.{Item}
 use Rattle.babel_state.specs.Queueing.{queued}
 use Rattle.babel_state.specs.State.{State}
-use Rattle.babel_state.specs.Ticks.{is_due, fired, timer_items, all_timer_items, interfaces_ticked}
+use Rattle.babel_state.specs.Ticks.{is_due_request, waited, repeated_items, all_repeated_items, requests_ticked, is_due, fired, timer_items, all_timer_items, interfaces_ticked}
 use Rattle.babel_state.specs.NextDatagram.{Fits, drafted, next_datagram}
 use Rattle.babel_state.specs.OutgoingMessages.{outgoing}
 use Rattle.babel_state.specs.QueueLaws.{has_no_message, is_silent}
@@ -50,6 +60,47 @@ module _ (now : ℕ) where
   pub nothing_due : (s : State) → list_any (has_due_timer now) s.interfaces ≡ false → interfaces_ticked now s ≡ s
   unfolding interfaces_ticked
   nothing_due s none = queues_nothing (all_timer_items now s 0 s.interfaces) (map (fired now) s.interfaces) s (no_items_of_all s 0 s.interfaces none) (all_same s.interfaces none)
+
+-- ---- the least moment of the requests
+
+pub recorded_due : {A B : Type 0} (r : Result A B) (moment due : ℕ) (source : Source) (request : PendingRequest) (old new : PendingRequests) → moment ≤ due → moment ≤ request.due →
+    OnOk r (new ≡ put source_cmp source request old) → OnErr r (new ≡ old) → AreDueFrom (λ request. request.due) due old → AreDueFrom (λ request. request.due) moment new
+recorded_due (Ok a) moment due source request old new before one ok err all =
+    subst (AreDueFrom (λ request. request.due) moment) (sym ok)
+    (due_put (λ request. request.due) source_cmp moment source request old one (due_earlier (λ request. request.due) due moment old before all))
+recorded_due (Err e) moment due source request old new before one ok err all =
+    subst (AreDueFrom (λ request. request.due) moment) (sym err) (due_earlier (λ request. request.due) due moment old before all)
+
+pub none_over : (now due : ℕ) (es : PendingRequests) → now < due → AreDueFrom (λ request. request.due) due es → list_any (λ e. is_due_request now e.1) es ≡ false
+none_over now due [] early all = refl
+none_over now due (e ∷ es) early all =
+    let first : due ≤ e.1.due = All-head (λ x. due ≤ x.1.due) e es all in
+    let later : nat_le e.1.due now ≡ false = grind (arith, nat_tests) in
+    rw later (none_over now due es early (All-tail (λ x. due ≤ x.1.due) e es all))
+
+-- ---- no request whose wait is over
+
+module _ (now : ℕ) where
+  all_wait : (es : PendingRequests) → list_any (λ e. is_due_request now e.1) es ≡ false → revised_entries (waited now) es ≡ es
+  all_wait [] none = refl
+  all_wait (e ∷ es) none =
+      let parts = neither (is_due_request now e.1) (list_any (λ x. is_due_request now x.1) es) none in
+      rw (parts.0) (ap (λ xs. e ∷ xs) (all_wait es parts.1))
+
+  none_repeats : (s : State) (es : PendingRequests) → list_any (λ e. is_due_request now e.1) es ≡ false → all_repeated_items now s es ≡ []
+  none_repeats s [] none = refl
+  none_repeats s (e ∷ es) none =
+      let parts = neither (is_due_request now e.1) (list_any (λ x. is_due_request now x.1) es) none in
+      let waits : repeated_items now s e ≡ [] = rw (parts.0) refl in
+      ap (λ xs. xs ++ all_repeated_items now s es) waits ∙ none_repeats s es parts.1
+
+  queues_no_request : (xs : List Item) (rs : PendingRequests) (s : State) → xs ≡ [] → rs ≡ s.requests → record s { requests = rs; pending = queued xs s.pending } ≡ s
+  unfolding queued
+  queues_no_request xs rs s none same = ap (λ ys. record s { requests = rs; pending = queued ys s.pending }) none ∙ ap (λ qs. record s { requests = qs }) same
+
+  pub no_request_due : (s : State) → list_any (λ e. is_due_request now e.1) s.requests ≡ false → requests_ticked now s ≡ s
+  unfolding requests_ticked
+  no_request_due s none = queues_no_request (all_repeated_items now s s.requests) (revised_entries (waited now) s.requests) s (none_repeats s s.requests none) (all_wait s.requests none)
 
 -- ---- no pending item
 

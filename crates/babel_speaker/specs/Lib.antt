@@ -1,5 +1,6 @@
 pub mod Costs
 pub mod LinkChanges
+pub mod Limits
 pub mod Making
 pub mod Sending
 pub mod ShortHellos

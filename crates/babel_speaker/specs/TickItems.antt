@@ -16,6 +16,7 @@ use Rattle.babel_state.specs.declared.requests.Resend.TheVariants.{Unfeasible, N
 use Rattle.babel_state.specs.PendingRequests.{PendingRequests}
 use Rattle.babel_state.specs.Reselection.{request_items, is_unfeasible, update_to_all}
 use Rattle.babel_state.specs.Ticks.{is_due_request, is_last, is_due}
+use Rattle.babel_speaker.specs.Limits.{request_hops}
 
 -- ---- requests that are repeated (RFC 8966, section 3.8.2.1)
 
@@ -27,7 +28,7 @@ receivers_of Never prefix sources entries = []
 abbrev pub repeats_of : ℕ → Sources → RouteEntries → Source × PendingRequest → List Item
 repeats_of now sources entries e =
     if is_due_request now e.1 && not (is_last e.1.resend e.1.wait)
-    then request_items e.0 e.1.seqno 64 (receivers_of e.1.resend e.0.prefix sources entries) else []
+    then request_items e.0 e.1.seqno request_hops (receivers_of e.1.resend e.0.prefix sources entries) else []
 
 abbrev pub all_repeats_of : ℕ → Sources → RouteEntries → PendingRequests → List Item
 all_repeats_of now sources entries [] = []

@@ -1,7 +1,7 @@
 //! The prefixes that a speaker announces itself.
 
-ghost use Rattle.std.specs.Prelude.{◌≡◌, ◌≤◌, ◌↔◌, [], length, is_some, IfOk, IsErr, IsNone, OnOk, OnErr};
-ghost use Rattle.std.specs.FinMap.{find, put};
+ghost use Rattle.std.specs.Prelude.{◌≡◌, ◌≤◌, ◌<◌, ◌↔◌, [], length, is_some, option_map, slice_get, IfOk, IsErr, IsNone, IsSome, IsTrue, OnOk, OnErr};
+ghost use Rattle.std.specs.FinMap.{find, put, is_sorted};
 ghost use Rattle.babel_value.specs.Orders.{prefix_cmp};
 ghost use Rattle.babel_table.specs.Entries.{without};
 ghost use Rattle.babel_state.specs.State.{prefixes_in};
@@ -22,12 +22,13 @@ pub struct Announced {
 impl Model for Announced {
     ghost use Rattle.std.specs.Prelude.{◌≡◌};
     ghost use Rattle.babel_state.specs.State.{PrefixSet};
+    ghost use Rattle.babel_speaker.specs.Limits.{most_prefixes};
 
     ghost Value = { PrefixSet };
 
     ghost view = { λ a. a.table.entries.items };
 
-    ghost invariant = { λ a. a.table.places ≡ 64 };
+    ghost invariant = { λ a. a.table.places ≡ most_prefixes };
 }
 
 impl Announced {
@@ -62,10 +63,20 @@ impl Announced {
         self.table.remove(prefix);
     }
 
+    /// The announced prefix that has exactly `place` lesser ones.
+    pub(crate) fn at(&self, place: usize) -> Option<Prefix>
+        ensures prefix { result ≡ option_map (λ e. e.0) (slice_get self.now place) }
+        ensures within { IsSome result → place < MAX_PREFIXES }
+    {
+        let _count = self.len();
+        self.table.at(place).map(|entry| entry.0)
+    }
+
     /// How many prefixes are announced.
     pub fn len(&self) -> usize
         ensures len { result ≡ length self.now }
         ensures within { result ≤ MAX_PREFIXES }
+        ensures in_order { IsTrue (is_sorted prefix_cmp self.now) }
     {
         self.table.len()
     }

@@ -32,7 +32,7 @@ mod updates;
 
 pub use announced::Announced;
 pub use interfaces::Interfaces;
-pub use laws::first_messages_fit;
+pub use laws::{first_messages_fit, limits_are_those_of_the_code};
 pub use link_costs::{LinkChange, LinkCosts};
 pub use pending_items::PendingItems;
 pub use prefixes::Prefixes;

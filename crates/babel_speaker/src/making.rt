@@ -6,6 +6,7 @@ ghost use Rattle.babel_value.specs.Orders.{prefix_cmp};
 ghost use Rattle.babel_state.specs.Calls.{new_interface, first_state};
 ghost use Rattle.babel_state.specs.Configs.{config_fault};
 ghost use Rattle.babel_state.specs.State.{gathered};
+ghost use Rattle.babel_speaker.specs.Limits.{most_prefixes};
 ghost use Rattle.babel_speaker.specs.Making.{IsMakingFault};
 
 use crate::{Announced, Core, Interfaces, PendingItems, RequestTable};
@@ -65,7 +66,7 @@ fn first_interfaces(alloc: Global, config: &Config) -> Option<Interfaces>
 
 /// Adds a prefix to those that are announced.
 fn put_prefix(announced: &mut Announced, prefix: Prefix)
-    requires room { length announced.old < 64 }
+    requires room { length announced.old < most_prefixes }
     ensures { announced.new ≡ put prefix_cmp prefix tt announced.old }
 {
     let _ = announced.insert(prefix);
@@ -73,7 +74,7 @@ fn put_prefix(announced: &mut Announced, prefix: Prefix)
 
 /// The same. There is at most one prefix more.
 fn insert_prefix(announced: &mut Announced, prefix: Prefix)
-    requires room { length announced.old < 64 }
+    requires room { length announced.old < most_prefixes }
     ensures prefixes { announced.new ≡ put prefix_cmp prefix tt announced.old }
     ensures few { length announced.new ≤ length announced.old + 1 }
 {
@@ -82,7 +83,7 @@ fn insert_prefix(announced: &mut Announced, prefix: Prefix)
 
 /// Adds each of the prefixes to those that are announced.
 fn insert_prefixes(announced: &mut Announced, prefixes: &[Prefix])
-    requires room { length announced.old + length prefixes.now ≤ 64 }
+    requires room { length announced.old + length prefixes.now ≤ most_prefixes }
     ensures { announced.new ≡ gathered prefixes.now announced.old }
 {
     for prefix in prefixes {

@@ -8,6 +8,7 @@ ghost use Rattle.babel_state.specs.Addresses.{address_of};
 ghost use Rattle.babel_value.specs.Addresses.{family_of};
 ghost use Rattle.babel_state.specs.State.{interface_at, cost_at, rxcost_at, is_neighbour};
 ghost use Rattle.babel_state.specs.OutgoingMessages.{to_all, to_peer, outgoing_hello, outgoing_ihu, outgoing_finite, outgoing_update, outgoing, outgoing_over, is_source_too_many};
+ghost use Rattle.babel_speaker.specs.Limits.{longest_hello, hellos_an_ihu, hellos_an_update};
 ghost use Rattle.babel_speaker.specs.Sending.{HasRoom};
 
 use crate::Core;
@@ -54,8 +55,8 @@ pub(crate) fn hello_message(iface: u8, interface: &InterfaceEntry) -> Outgoing
 
 /// How well the neighbour is heard (RFC 8966, section 3.4.2).
 pub(crate) fn ihu_message(peer: Peer, rxcost: Metric, interface: &InterfaceEntry) -> Outgoing
-    requires { interface.now.hello ≤ 4000 }
-    ensures { result ≡ outgoings.Message (to_all peer.iface) (messages.Ihu (Some peer.addr) rxcost (3 * interface.now.hello)) }
+    requires { interface.now.hello ≤ longest_hello }
+    ensures { result ≡ outgoings.Message (to_all peer.iface) (messages.Ihu (Some peer.addr) rxcost (hellos_an_ihu * interface.now.hello)) }
 {
     let message = Message::Ihu {
         to: Some(peer.addr),
@@ -74,8 +75,8 @@ pub(crate) fn update_message(
     next_hop: Addr,
     interface: &InterfaceEntry,
 ) -> Outgoing
-    requires { interface.now.hello ≤ 4000 }
-    ensures { result ≡ outgoings.Message target (messages.Update prefix router next_hop distance.seqno distance.metric (4 * interface.now.hello)) }
+    requires { interface.now.hello ≤ longest_hello }
+    ensures { result ≡ outgoings.Message target (messages.Update prefix router next_hop distance.seqno distance.metric (hellos_an_update * interface.now.hello)) }
 {
     let message = Message::Update {
         prefix,
@@ -94,8 +95,8 @@ pub(crate) fn retraction_message(
     prefix: Prefix,
     interface: &InterfaceEntry,
 ) -> Outgoing
-    requires { interface.now.hello ≤ 4000 }
-    ensures { result ≡ outgoings.Message target (messages.Retraction prefix (4 * interface.now.hello)) }
+    requires { interface.now.hello ≤ longest_hello }
+    ensures { result ≡ outgoings.Message target (messages.Retraction prefix (hellos_an_update * interface.now.hello)) }
 {
     let message = Message::Retraction {
         prefix,
@@ -108,7 +109,7 @@ impl Core {
     /// The interface of the number.
     pub(crate) fn interface_entry(&self, iface: u8) -> Option<InterfaceEntry>
         ensures interface { result ≡ interface_at iface self.now }
-        ensures hello { IfSome result (λ i. i.hello ≤ 4000) }
+        ensures hello { IfSome result (λ i. i.hello ≤ longest_hello) }
     {
         self.interfaces.get(iface)
     }
@@ -117,7 +118,7 @@ impl Core {
     fn is_source_too_many(&self, source: &Source) -> bool
         ensures { result ≡ is_source_too_many source.now self.now.sources }
     {
-        self.sources.pair(source).is_none() && self.sources.len() == SOURCE_PLACES
+        self.sources.len() == SOURCE_PLACES && self.sources.pair(source).is_none()
     }
 
     /// An Update with a finite metric, if the interface has an address of the prefix's family.
@@ -129,7 +130,7 @@ impl Core {
         distance: Distance,
         interface: &InterfaceEntry,
     ) -> Outgoing
-        requires { interface.now.hello ≤ 4000 }
+        requires { interface.now.hello ≤ longest_hello }
         ensures message { result ≡ outgoing_finite target prefix (record { router = router; distance = distance }) interface.now self.now (address_of (family_of prefix.addr) interface.now) }
         ensures room { HasRoom self.now result }
     {
@@ -149,7 +150,7 @@ impl Core {
         prefix: Prefix,
         interface: &InterfaceEntry,
     ) -> Outgoing
-        requires { interface.now.hello ≤ 4000 }
+        requires { interface.now.hello ≤ longest_hello }
         ensures message { result ≡ outgoing_update target prefix self.now interface.now }
         ensures room { HasRoom self.now result }
     {

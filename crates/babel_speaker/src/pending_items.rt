@@ -18,12 +18,13 @@ pub struct PendingItems {
 impl Model for PendingItems {
     ghost use Rattle.std.specs.Prelude.{◌≡◌};
     ghost use Rattle.babel_state.specs.Queueing.{Pending};
+    ghost use Rattle.babel_speaker.specs.Limits.{most_pending};
 
     ghost Value = { Pending };
 
     ghost view = { λ p. record { items = p.items.items; dropped = p.dropped } };
 
-    ghost invariant = { λ p. p.items.capacity ≡ 4096 };
+    ghost invariant = { λ p. p.items.capacity ≡ most_pending };
 }
 
 impl PendingItems {

@@ -1,10 +1,12 @@
 //! The table of pending requests for a seqno (RFC 8966, section 3.2.7).
 
-ghost use Rattle.std.specs.Prelude.{◌≡◌, ◌≤◌, [], length, option_map, slice_get, IfOk};
+ghost use Rattle.std.specs.Prelude.{◌≡◌, ◌≤◌, [], false, length, option_map, slice_get, IfOk, IsFalse};
+ghost use Rattle.std.specs.List.{list_any};
 ghost use Rattle.std.specs.FinMap.{find};
 ghost use Rattle.babel_value.specs.Orders.{source_cmp};
 ghost use Rattle.babel_table.specs.Entries.{without, revised_entries};
 ghost use Rattle.babel_state.specs.PendingRequests.{is_redundant, recorded};
+ghost use Rattle.babel_state.specs.Ticks.{is_due_request};
 
 use babel_route::{Memory, SortedTable, Table, find_in};
 use babel_state::{MAX_REQUESTS, PendingRequest, REQUEST_WAIT, Resend};
@@ -16,17 +18,21 @@ use std::marker::Model;
 #[derive(Drop)]
 pub struct RequestTable {
     pub(crate) table: SortedTable<Source, PendingRequest>,
+    /// Before this moment no wait is over.
+    pub(crate) due: u64,
 }
 
 impl Model for RequestTable {
     ghost use Rattle.std.specs.Prelude.{◌≡◌};
+    ghost use Rattle.babel_table.specs.Dues.{AreDueFrom};
     ghost use Rattle.babel_state.specs.PendingRequests.{PendingRequests};
+    ghost use Rattle.babel_speaker.specs.Limits.{most_requests};
 
     ghost Value = { PendingRequests };
 
     ghost view = { λ r. r.table.entries.items };
 
-    ghost invariant = { λ r. r.table.places ≡ 64 };
+    ghost invariant = { λ r. (r.table.places ≡ most_requests) × AreDueFrom (λ request. request.due) r.due r.table.entries.items };
 }
 
 impl RequestTable {
@@ -35,7 +41,10 @@ impl RequestTable {
         ensures { IfOk result (λ requests. requests ≡ []) }
     {
         let table = SortedTable::with_room(alloc, MAX_REQUESTS)?;
-        Ok(RequestTable { table })
+        Ok(RequestTable {
+            table,
+            due: u64::MAX,
+        })
     }
 
     /// The pending request for the source.
@@ -61,12 +70,14 @@ impl RequestTable {
     pub fn record(&mut self, now: u64, source: Source, seqno: Seqno, resend: Resend)
         ensures { self.new ≡ recorded now source seqno resend self.old }
     {
+        let due = now.saturating_add(u64::from(REQUEST_WAIT));
         let request = PendingRequest {
             seqno,
             resend,
             wait: REQUEST_WAIT,
-            due: now.saturating_add(u64::from(REQUEST_WAIT)),
+            due,
         };
+        self.due = self.due.min(due);
         let _ = self.table.put(source, request);
     }
 
@@ -75,6 +86,13 @@ impl RequestTable {
         ensures { self.new ≡ without source_cmp source.now self.old }
     {
         self.table.remove(source);
+    }
+
+    /// Whether a wait may be over. If it returns `false`, none is. It looks at no request.
+    pub fn may_be_due(&self, now: u64) -> bool
+        ensures { IsFalse result → list_any (λ e. is_due_request now e.1) self.now ≡ false }
+    {
+        self.due <= now
     }
 
     /// How many requests are pending.

@@ -8,6 +8,7 @@ ghost use Rattle.babel_state.specs.Restarts.{snapshot_of, restored, restored_sou
 ghost use Rattle.babel_snapshot.specs.Octets.{snapshot_octets};
 ghost use Rattle.babel_snapshot.specs.Reading.{restore_fault, snapshot_in};
 ghost use Rattle.babel_snapshot.specs.SnapshotLaws.{IsRead};
+ghost use Rattle.babel_speaker.specs.Limits.{most_sources};
 ghost use Rattle.babel_speaker.specs.Making.{IsRestoreFault};
 
 use crate::Core;
@@ -19,7 +20,7 @@ use std::alloc::Global;
 
 /// Adds a source, which the table has room for.
 fn put_source(sources: &mut Sources, now: u64, source: Source, distance: Distance)
-    requires room { length sources.old < 512 }
+    requires room { length sources.old < most_sources }
     ensures { sources.new ≡ lowered now source distance sources.old }
 {
     let _ = sources.lower(now, source, distance);

@@ -115,7 +115,7 @@ impl Core {
         ensures pending { self.new.pending ≡ self.old.pending }
         ensures current { IsTrue settled.new → AreCurrent self.new }
     {
-        if self.changes_a_pair(message) {
+        if *settled && self.changes_a_pair(message) {
             *settled = false;
         }
         self.apply_message(now, target, message);

@@ -19,6 +19,7 @@ use babel_route::{Revised, Revision, Routes, Sources, Table};
 use babel_state::{
     InterfaceEntry, Item, LAST_REQUEST_WAIT, PendingRequest, REQUEST_HOPS, Resend, Target,
 };
+use babel_table::least_due;
 use babel_value::{Peer, Source};
 
 /// Whether the wait of a pending request is over for the last time.
@@ -64,6 +65,7 @@ impl RequestTable {
         ensures { self.new ≡ revised_entries (waited now) self.old }
     {
         self.table.revise(&Waits { now });
+        self.due = least_due(&self.table);
     }
 }
 
@@ -337,9 +339,20 @@ impl Core {
         }
     }
 
-    /// Repeats the requests whose wait is over (RFC 8966, section 3.8.2.1).
-    #[tactic(auto, unfolding(babel_state::specs::Ticks::requests_ticked), using(crate::proofs::TickLists::same_repeats))]
+    /// Repeats the requests whose wait is over (RFC 8966, section 3.8.2.1). As long as none can be, it looks
+    /// at no request.
     pub(crate) fn tick_requests(&mut self, now: u64)
+        ensures { self.new ≡ requests_ticked now self.old }
+    {
+        let due = self.requests.may_be_due(now);
+        if due {
+            self.repeat_requests(now);
+        }
+    }
+
+    /// Queues the requests again whose wait is over, and ends the waits.
+    #[tactic(auto, unfolding(babel_state::specs::Ticks::requests_ticked), using(crate::proofs::TickLists::same_repeats))]
+    fn repeat_requests(&mut self, now: u64)
         ensures { self.new ≡ requests_ticked now self.old }
     {
         queue_repeats(
