@@ -2,6 +2,7 @@ pub mod Drafts
 pub mod Networks
 pub mod Walking
 pub mod Gathering
+pub mod Reaching
 pub mod NextDatagrams
 pub mod Retractions
 pub mod ShortHellos

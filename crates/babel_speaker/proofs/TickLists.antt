@@ -52,7 +52,7 @@ drop_at [] k x is = cc
 drop_at (y ∷ ys) zero x is = ap (λ o. unwrap_or o y ∷ ys) is
 drop_at (y ∷ ys) (suc k) x is = drop_at ys k x is
 
-drop_past : {X : Type 0} (xs : List X) (k : ℕ) → slice_get xs k ≡ None → drop k xs ≡ []
+pub drop_past : {X : Type 0} (xs : List X) (k : ℕ) → slice_get xs k ≡ None → drop k xs ≡ []
 drop_past [] zero is = refl
 drop_past [] (suc k) is = refl
 drop_past (y ∷ ys) zero is = cc

@@ -46,7 +46,7 @@ impl Core {
             Message::Retraction { prefix, .. } => self.handle_retraction(now, peer, prefix),
             Message::RetractAll { .. } => self.handle_retract_all(now, peer, scratch),
             Message::RouteRequest { prefix } => self.handle_route_request(peer, prefix),
-            Message::DumpRequest => self.handle_dump_request(peer, scratch),
+            Message::DumpRequest => self.handle_dump_request(peer),
             Message::SeqnoRequest {
                 prefix,
                 router,

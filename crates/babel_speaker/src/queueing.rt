@@ -5,9 +5,9 @@ ghost use Rattle.std.specs.List.{range_with_len, list_any};
 ghost use Rattle.babel_route.specs.Selections.{routes_of};
 ghost use Rattle.babel_state.specs.Queueing.{queued};
 ghost use Rattle.babel_state.specs.Reselection.{update_to_all, update_to, request_items, is_unfeasible};
-ghost use Rattle.babel_state.specs.State.{prefixes_in};
+ghost use Rattle.babel_speaker.specs.Reaching.{reachable_of};
 
-use crate::{PendingItems, Scratch};
+use crate::{Announced, PendingItems, Reachable};
 use babel_route::{Entry, RouteKey, Routes, Sources};
 use babel_state::{Item, Target};
 use babel_value::{Peer, Prefix, Seqno, Source};
@@ -71,12 +71,17 @@ pub(crate) fn queue_requests_to_unfeasible(
     }
 }
 
-/// Queues an update of each prefix of the set to one neighbour.
+/// Queues an update of each prefix that is announced or selected to one neighbour.
 #[tactic(auto, unfolding(babel_state::specs::Queueing::queued))]
-pub(crate) fn queue_updates_of(pending: &mut PendingItems, prefixes: &Scratch, peer: &Peer)
-    ensures { pending.new ≡ queued (map (update_to peer.now) (prefixes_in prefixes.now)) pending.old }
+pub(crate) fn queue_updates_of(
+    pending: &mut PendingItems,
+    announced: &Announced,
+    routes: &Routes,
+    peer: &Peer,
+)
+    ensures { pending.new ≡ queued (map (update_to peer.now) (reachable_of announced.now routes.now.selections)) pending.old }
 {
-    for prefix in prefixes.prefixes() {
+    for prefix in Reachable::new(announced, routes) {
         let target = Target {
             iface: peer.iface,
             to: Some(peer.addr),

@@ -5,8 +5,8 @@ ghost use Rattle.std.specs.Option.{option_map_or};
 ghost use Rattle.babel_route.specs.Selections.{routes_of, is_feasible_route};
 ghost use Rattle.babel_state.specs.SeqnoRequests.{handle_route_request, handle_dump_request, raised, outcomes, requested_of_own, is_passable, first_peer, receiver, forward, requested_of_route, handle_seqno_request};
 
+use crate::Core;
 use crate::queueing::{is_unfeasible, queue_updates_of};
-use crate::{Core, Scratch};
 use babel_route::{Entry, RouteKey, Routes, Selection, Sources};
 use babel_state::{Resend, Verdict};
 use babel_value::{Peer, Prefix, RouterId, Seqno, Source};
@@ -58,11 +58,10 @@ impl Core {
 
     /// Handles a request for all routes (RFC 8966, section 3.8.1.1).
     #[tactic(auto, unfolding(babel_state::specs::State::reachable_prefixes))]
-    pub(crate) fn handle_dump_request(&mut self, peer: &Peer, scratch: &mut Scratch) -> Verdict
+    pub(crate) fn handle_dump_request(&mut self, peer: &Peer) -> Verdict
         ensures { (self.new, result) ≡ handle_dump_request peer.now self.old }
     {
-        scratch.gather_reachable(&self.announced, &self.routes);
-        queue_updates_of(&mut self.pending, scratch, peer);
+        queue_updates_of(&mut self.pending, &self.announced, &self.routes, peer);
         Verdict::Taken
     }
 
