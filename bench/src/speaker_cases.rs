@@ -119,6 +119,29 @@ fn setup() -> Vec<u8> {
     steps
 }
 
+/// `setup`, and then 64 requests for a seqno are pending: each is forwarded, and none is due at `NOW`.
+fn setup_with_requests() -> Vec<u8> {
+    let mut steps = setup();
+    for first in [0, 32] {
+        let messages: Vec<Message> = (first..first + 32).map(request).collect();
+        steps.extend(datagram(7, 7, NOW, &messages));
+    }
+    steps
+}
+
+/// A request for the seqno after that of `update(n, 2)`.
+fn request(n: usize) -> Message {
+    Message::SeqnoRequest {
+        prefix: Prefix {
+            addr: IpAddr::from([172, 16, n as u8, 0]),
+            length: 24,
+        },
+        router: RouterId::new([0, 0, 0, 0, 0, 1, 0, 2]).expect("not reserved"),
+        seqno: Seqno(8),
+        hops: 64,
+    }
+}
+
 fn repeated(step: &[u8], times: usize) -> Vec<u8> {
     step.repeat(times)
 }
@@ -130,6 +153,12 @@ pub fn all() -> Vec<Case> {
         Case {
             name: "a tick, nothing due",
             setup: setup(),
+            turn: repeated(&tick(NOW), 100),
+            times: 100,
+        },
+        Case {
+            name: "the same, 64 requests pending",
+            setup: setup_with_requests(),
             turn: repeated(&tick(NOW), 100),
             times: 100,
         },
