@@ -21,6 +21,3 @@ pub use explaining::explain;
 pub use faults::{LineFault, ReplayFault};
 pub use log_lines::{Action, Event, MAX_LINE_LEN, parse_line};
 pub use replaying::replay;
-
-#[cfg(test)]
-mod tests;

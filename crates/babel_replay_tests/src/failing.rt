@@ -1,37 +1,12 @@
-//! Readers and writers that fail, and memory that runs out.
+//! Readers and writers that fail, and lines that are too long.
 
-use super::*;
+use crate::logs::{
+    FIRST_LINE, LOG_B, REPORT_B, ROUTES_B, TABLE, TWO_LINES, config_b, prefix, report_before,
+};
+use babel_replay::{LineFault, ReplayFault, explain, replay};
 use std::io;
 use std::io::BufReader;
-
-/// The worked log's report before each of its lines, and at its end.
-const REPORTS: [&str; 4] = ["", FIRST_LINE, TWO_LINES, REPORT_B];
-
-const FIRST_LINE: &str = "0 4 hello multicast seqno 0 interval 400 V1\n";
-
-const TWO_LINES: &str = "0 4 hello multicast seqno 0 interval 400 V1
-400 4 hello multicast seqno 1 interval 400 V1
-400 12 ihu to 192.168.0.2 rxcost 96 interval 1200 V1
-400 24 state
-400 36 update 10.0.0.0/8 router 0000000000000001 next-hop 192.168.0.1 seqno 0 metric 0 interval 1600 V1
-400 select 10.0.0.0/8 via 0 192.168.0.1 metric 96 router 0000000000000001 seqno 0
-400 out 0 all 1
-table 10.0.0.0/8 via 0 192.168.0.1 metric 96 router 0000000000000001 seqno 0
-";
-
-/// The last line of the report.
-const TABLE: &str =
-    "table 10.0.0.0/8 via 0 192.168.0.1 metric 96 router 0000000000000001 seqno 0\n";
-
-/// The report of the lines before the one of the number.
-fn report_before(number: u64) -> &'static str {
-    match number {
-        1 => REPORTS[0],
-        2 => REPORTS[1],
-        3 => REPORTS[2],
-        _ => REPORTS[3],
-    }
-}
+use std::test::Fail;
 
 /// A reader that fails after its octets, of which it returns a few at a time.
 #[derive(Drop)]
@@ -85,7 +60,7 @@ fn line_at(text: &[u8], index: usize) -> u64 {
 fn the_reader_fails_before_each_octet(rt: HostRuntime) -> Result<(), Fail> {
     let alloc = rt.alloc();
     let text = LOG_B.as_bytes();
-    let prefix = Prefix::new(Addr::V4([10, 0, 0, 0]), 8).ok_or("a prefix")?;
+    let prefix = prefix()?;
     for count in 0..text.len() + 1 {
         let octets = &text[..count];
         let number = line_at(text, count);
@@ -153,59 +128,5 @@ fn the_longest_line(rt: HostRuntime) -> Result<(), Fail> {
         let replayed = replay(alloc, config_b(alloc)?, &mut log, &mut out);
         assert_eq!(rt; replayed.is_ok(), count == 131_200);
     }
-    Ok(())
-}
-
-/// A writer into room that is there.
-#[derive(Drop)]
-struct ArrayWriter {
-    octets: [u8; 2048],
-    count: usize,
-}
-
-impl io::Write for ArrayWriter {
-    fn write(&mut self, buf: &[u8]) -> io::Result<usize> {
-        let mut written = 0usize;
-        for octet in buf {
-            if let Some(place) = self.octets.get_mut(self.count) {
-                *place = *octet;
-                self.count = self.count.saturating_add(1);
-                written = written.saturating_add(1);
-            }
-        }
-        Ok(written.min(buf.len()))
-    }
-
-    fn flush(&mut self) -> io::Result<()> {
-        Ok(())
-    }
-}
-
-/// If an allocation fails (`rt try --test --fail-alloc N`), what was written is the report of
-/// the lines before the one at which memory ran out.
-#[test]
-fn a_failed_allocation_ends_at_its_line(rt: HostRuntime) -> Result<(), Fail> {
-    let alloc = rt.alloc();
-    let config = match config_b(alloc) {
-        Ok(config) => config,
-        Err(_) => config_b(alloc)?,
-    };
-    let mut out = ArrayWriter {
-        octets: [0; 2048],
-        count: 0,
-    };
-    let mut log = LOG_B.as_bytes();
-    let report = match replay(alloc, config, &mut log, &mut out) {
-        Ok(()) => REPORT_B,
-        Err(ReplayFault::Config(fault)) => {
-            assert_eq!(rt; fault, ConfigFault::Memory);
-            ""
-        }
-        Err(ReplayFault::Line { number, fault }) => {
-            assert_eq!(rt; fault, LineFault::Memory);
-            report_before(number)
-        }
-    };
-    assert_eq!(rt; out.octets.get(..out.count), Some(report.as_bytes()));
     Ok(())
 }

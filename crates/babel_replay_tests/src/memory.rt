@@ -1,0 +1,96 @@
+//! Allocations that fail: `tests/refused-memory` lets each one fail in turn. The calls write into room that is there.
+
+use crate::logs::{FIRST_ROUTE, LOG_B, ROUTES_B, config_b, prefix, report_before};
+use babel_replay::{LineFault, ReplayFault, explain, replay};
+use babel_state::{Config, ConfigFault};
+use std::alloc::Global;
+use std::io;
+use std::process::Abort;
+use std::test::Fail;
+
+/// A writer into room that is there.
+#[derive(Drop)]
+struct ArrayWriter {
+    octets: [u8; 2048],
+    count: usize,
+}
+
+impl io::Write for ArrayWriter {
+    fn write(&mut self, buf: &[u8]) -> io::Result<usize> {
+        let mut written = 0usize;
+        for octet in buf {
+            if let Some(place) = self.octets.get_mut(self.count) {
+                *place = *octet;
+                self.count = self.count.saturating_add(1);
+                written = written.saturating_add(1);
+            }
+        }
+        Ok(written.min(buf.len()))
+    }
+
+    fn flush(&mut self) -> io::Result<()> {
+        Ok(())
+    }
+}
+
+/// The configuration; if an allocation fails, it is made again.
+fn config(alloc: Global) -> Result<Config, Fail> {
+    match config_b(alloc) {
+        Ok(config) => Ok(config),
+        Err(_) => Ok(config_b(alloc)?),
+    }
+}
+
+/// No octets yet.
+fn writer() -> ArrayWriter {
+    ArrayWriter {
+        octets: [0; 2048],
+        count: 0,
+    }
+}
+
+/// The number of the line at which memory ran out: 4 if it never did, and 0 if there was no speaker.
+fn line_of(rt: &impl Abort, ended: Result<(), ReplayFault>) -> u64 {
+    match ended {
+        Ok(()) => 4,
+        Err(ReplayFault::Config(fault)) => {
+            assert_eq!(rt; fault, ConfigFault::Memory);
+            0
+        }
+        Err(ReplayFault::Line { number, fault }) => {
+            assert_eq!(rt; fault, LineFault::Memory);
+            number
+        }
+    }
+}
+
+#[test]
+fn memory_runs_out_in_replay(rt: HostRuntime) -> Result<(), Fail> {
+    let mut out = writer();
+    let mut log = LOG_B.as_bytes();
+    let config = config(rt.alloc())?;
+    let ended = replay(rt.alloc(), config, &mut log, &mut out);
+    let report = report_before(line_of(&rt, ended));
+    assert_eq!(rt; out.octets.get(..out.count), Some(report.as_bytes()));
+    Ok(())
+}
+
+/// The routes after the lines before the one of the number.
+fn routes_before(number: u64) -> &'static str {
+    match number {
+        3 => FIRST_ROUTE,
+        4 => ROUTES_B,
+        _ => "",
+    }
+}
+
+#[test]
+fn memory_runs_out_in_explain(rt: HostRuntime) -> Result<(), Fail> {
+    let mut out = writer();
+    let mut log = LOG_B.as_bytes();
+    let config = config(rt.alloc())?;
+    let ended = explain(rt.alloc(), config, &mut log, prefix()?, &mut out);
+    let routes = routes_before(line_of(&rt, ended));
+    assert_eq!(rt; out.octets.get(..out.count), Some(routes.as_bytes()));
+    Ok(())
+}
