@@ -53,8 +53,19 @@ pub fn speak<R: Net + Clock + Files, S: Read + Drop, W: Write>(
 ) -> Result<(), SpeakFault> {
     let links = checked_links(alloc, &config)?;
     let mut speaker = make_speaker(alloc, config, snapshot)?;
+    speak_over(alloc, rt, links, &mut speaker, options, out)
+}
+
+fn speak_over<R: Net + Clock + Files, W: Write>(
+    alloc: Global,
+    rt: &R,
+    links: Links,
+    speaker: &mut Speaker,
+    options: SpeakOptions<'_>,
+    out: &mut W,
+) -> Result<(), SpeakFault> {
     let mut wire = UdpWire::bind(alloc, rt, links, options.port)?;
-    speak_and_save(alloc, rt, &mut speaker, &mut wire, options, out)
+    speak_and_save(alloc, rt, speaker, &mut wire, options, out)
 }
 
 /// The links of a configuration that a speaker can be made of, if they all have IPv4 transport.
