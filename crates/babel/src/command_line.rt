@@ -71,29 +71,47 @@ pub(crate) fn run<F: AllocGlobal + Files + Net + Clock, R: Read + Drop, W: Write
     }
 }
 
-fn try_run<'a, F: AllocGlobal + Files + Net + Clock, R: Read + Drop, W: Write + Drop, E: Write>(
+fn try_run<F: AllocGlobal + Files + Net + Clock, R: Read + Drop, W: Write + Drop, E: Write>(
     rt: &F,
-    arguments: &'a [String],
+    arguments: &[String],
     input: R,
     out: W,
     err: &mut E,
 ) -> Result<Status, Fault> {
-    let alloc = rt.alloc();
-    let mut out = BufWriter::new(alloc, out).map_err(Fault::of_writing)?;
-    let command: Command<'a> = command(alloc)?;
+    let mut out = BufWriter::new(rt.alloc(), out).map_err(Fault::of_writing)?;
+    run_command(rt, arguments, input, &mut out, err)
+}
+
+fn run_command<'a, F: AllocGlobal + Files + Net + Clock, R: Read + Drop, W: Write, E: Write>(
+    rt: &F,
+    arguments: &'a [String],
+    input: R,
+    out: &mut W,
+    err: &mut E,
+) -> Result<Status, Fault> {
+    let command: Command<'a> = command(rt.alloc())?;
     match command.try_get_matches_from(arguments) {
-        Ok(matches) => Ok(dispatch(rt, &matches, input, &mut out, err)),
-        Err(error) if error.kind() == ErrorKind::OutOfMemory => Err(Fault::Memory),
-        Err(error) if error.use_stderr() => {
-            write!(err, "{error}").map_err(Fault::of_writing)?;
-            Ok(Status::Usage)
-        }
-        Err(error) => {
-            write!(out, "{error}").map_err(Fault::of_writing)?;
-            out.flush().map_err(Fault::of_writing)?;
-            Ok(Status::Done)
-        }
+        Ok(matches) => Ok(dispatch(rt, &matches, input, out, err)),
+        Err(error) => write_usage(&error, out, err),
     }
+}
+
+/// Writes what `clap` returned in place of arguments: a fault of them to `err`, the help or the version to `out`.
+fn write_usage<W: Write, E: Write>(
+    error: &clap::Error,
+    out: &mut W,
+    err: &mut E,
+) -> Result<Status, Fault> {
+    if error.kind() == ErrorKind::OutOfMemory {
+        return Err(Fault::Memory);
+    }
+    if error.use_stderr() {
+        write!(err, "{error}").map_err(Fault::of_writing)?;
+        return Ok(Status::Usage);
+    }
+    write!(out, "{error}").map_err(Fault::of_writing)?;
+    out.flush().map_err(Fault::of_writing)?;
+    Ok(Status::Done)
 }
 
 fn dispatch<F: AllocGlobal + Files + Net + Clock, R: Read + Drop, W: Write, E: Write>(
@@ -215,34 +233,46 @@ fn command<'a>(alloc: Global) -> Result<Command<'a>, AllocError> {
         .subcommand(speak_command(alloc)?)
 }
 
-fn show_command<'a>(alloc: Global) -> Result<Command<'a>, AllocError> {
-    let source = Arg::new(alloc, "source")
+fn source_arg<'a>(alloc: Global) -> Arg<'a> {
+    Arg::new(alloc, "source")
         .long("source")
         .value_name("ADDR")
         .help("The address that the datagram came from [default: fe80::1]")
-        .action(ArgAction::Set);
-    let stdin = Arg::new(alloc, "stdin")
+        .action(ArgAction::Set)
+}
+
+fn stdin_arg<'a>(alloc: Global) -> Arg<'a> {
+    Arg::new(alloc, "stdin")
         .long("stdin")
         .help("Reads lines `<source> <hex>` or `<hex>` from standard input")
-        .action(ArgAction::SetTrue);
+        .action(ArgAction::SetTrue)
+}
+
+fn header_arg<'a>(alloc: Global) -> Result<Arg<'a>, AllocError> {
     let header = Arg::new(alloc, "header")
         .long("header")
         .help("With --stdin, writes `# <line> <source>` before each datagram")
-        .conflicts_with("hex")?
-        .action(ArgAction::SetTrue);
+        .conflicts_with("hex")?;
+    Ok(header.action(ArgAction::SetTrue))
+}
+
+fn hex_arg<'a>(alloc: Global) -> Result<Arg<'a>, AllocError> {
     let hex = Arg::new(alloc, "hex")
         .value_name("HEX")
         .help("The datagram's octets in hexadecimal, or - for none")
         .required_unless_present("stdin")?
-        .conflicts_with("stdin")?
-        .action(ArgAction::Set);
+        .conflicts_with("stdin")?;
+    Ok(hex.action(ArgAction::Set))
+}
+
+fn show_command<'a>(alloc: Global) -> Result<Command<'a>, AllocError> {
     Command::new(alloc, "show")
         .about("Shows what each TLV of a datagram means")
         .after_help(help::SHOW)
-        .arg(source)?
-        .arg(stdin)?
-        .arg(header)?
-        .arg(hex)
+        .arg(source_arg(alloc))?
+        .arg(stdin_arg(alloc))?
+        .arg(header_arg(alloc)?)?
+        .arg(hex_arg(alloc)?)
 }
 
 /// The argument that names a configuration.
@@ -281,18 +311,22 @@ fn replay_command<'a>(alloc: Global) -> Result<Command<'a>, AllocError> {
         .arg(log_arg(alloc))
 }
 
-fn explain_command<'a>(alloc: Global) -> Result<Command<'a>, AllocError> {
-    let prefix = Arg::new(alloc, "prefix")
+/// The argument that names the prefix of `explain`.
+fn prefix_arg<'a>(alloc: Global) -> Arg<'a> {
+    Arg::new(alloc, "prefix")
         .value_name("PREFIX")
         .help("The prefix whose routes are explained, as 10.0.0.0/8")
         .required(true)
-        .action(ArgAction::Set);
+        .action(ArgAction::Set)
+}
+
+fn explain_command<'a>(alloc: Global) -> Result<Command<'a>, AllocError> {
     Command::new(alloc, "explain")
         .about("Shows each route to a prefix after a log, and why it is used or not")
         .after_help(help::EXPLAIN)
         .arg(config_arg(alloc))?
         .arg(log_arg(alloc))?
-        .arg(prefix)
+        .arg(prefix_arg(alloc))
 }
 
 fn net_command<'a>(alloc: Global) -> Result<Command<'a>, AllocError> {

@@ -4,12 +4,13 @@ use crate::help;
 use crate::opening::{OpenFault, open_config_and_snapshot, restore_arg};
 use babel_config::{FileFault, read_config, read_file};
 use babel_show::Status;
+use babel_state::Config;
 use babel_udp::{SpeakFault, SpeakOptions, speak};
 use clap::builder::ValueParser;
 use clap::{Arg, ArgAction, ArgMatches, Command};
 use std::alloc::{AllocError, Global};
 use std::fs::Files;
-use std::io::Write;
+use std::io::{Read, Write};
 use std::net::Net;
 use std::time::Clock;
 
@@ -50,8 +51,7 @@ fn try_speak<F: AllocGlobal + Files + Net + Clock, W: Write>(
 ) -> Result<(), Fault> {
     let alloc = rt.alloc();
     let (file, snapshot) = open_config_and_snapshot(rt, arguments).map_err(Fault::Open)?;
-    let octets = read_file(alloc, file).map_err(Fault::File)?;
-    let config = read_config(alloc, octets.as_slice()).map_err(Fault::File)?;
+    let config = config_in(alloc, file).map_err(Fault::File)?;
     let options = SpeakOptions {
         turns: arguments.get_one::<u32>("turns").unwrap_or(1),
         port: arguments.get_one::<u16>("port").unwrap_or(DEFAULT_PORT),
@@ -61,42 +61,63 @@ fn try_speak<F: AllocGlobal + Files + Net + Clock, W: Write>(
     speak(alloc, rt, config, snapshot, options, out).map_err(Fault::Speak)
 }
 
-/// The arguments of the command.
-pub(crate) fn speak_command<'a>(alloc: Global) -> Result<Command<'a>, AllocError> {
-    let config = Arg::new(alloc, "config")
+/// Reads a configuration.
+fn config_in<R: Read + Drop>(alloc: Global, file: R) -> Result<Config, FileFault> {
+    let octets = read_file(alloc, file)?;
+    read_config(alloc, octets.as_slice())
+}
+
+fn config_arg<'a>(alloc: Global) -> Arg<'a> {
+    Arg::new(alloc, "config")
         .value_name("CONFIG")
         .help("The configuration of the speaker, a TOML file")
         .required(true)
-        .action(ArgAction::Set);
-    let turns = Arg::new(alloc, "turns")
+        .action(ArgAction::Set)
+}
+
+fn turns_arg<'a>(alloc: Global) -> Arg<'a> {
+    Arg::new(alloc, "turns")
         .long("turns")
         .value_name("N")
         .help("How many turns the speaker has, 1 to 1000000")
         .required(true)
         .value_parser(ValueParser::unsigned(1, MAX_TURNS))
-        .action(ArgAction::Set);
-    let port = Arg::new(alloc, "port")
+        .action(ArgAction::Set)
+}
+
+fn port_arg<'a>(alloc: Global) -> Arg<'a> {
+    Arg::new(alloc, "port")
         .long("port")
         .value_name("P")
         .help("The UDP port of all speakers, 1 to 65535 [default: 6696]")
         .value_parser(ValueParser::unsigned(1, 65535))
-        .action(ArgAction::Set);
-    let routes = Arg::new(alloc, "routes")
+        .action(ArgAction::Set)
+}
+
+fn routes_arg<'a>(alloc: Global) -> Arg<'a> {
+    Arg::new(alloc, "routes")
         .long("routes")
         .help("Prints each change of a selected route, and all of them at the end")
-        .action(ArgAction::SetTrue);
-    let save = Arg::new(alloc, "save")
+        .action(ArgAction::SetTrue)
+}
+
+fn save_arg<'a>(alloc: Global) -> Arg<'a> {
+    Arg::new(alloc, "save")
         .long("save")
         .value_name("FILE")
         .help("The file to which the speaker is saved after its last turn")
-        .action(ArgAction::Set);
+        .action(ArgAction::Set)
+}
+
+/// The arguments of the command.
+pub(crate) fn speak_command<'a>(alloc: Global) -> Result<Command<'a>, AllocError> {
     Command::new(alloc, "speak")
         .about("Speaks Babel over UDP and IPv4")
         .after_help(help::SPEAK)
-        .arg(config)?
-        .arg(turns)?
-        .arg(port)?
-        .arg(routes)?
+        .arg(config_arg(alloc))?
+        .arg(turns_arg(alloc))?
+        .arg(port_arg(alloc))?
+        .arg(routes_arg(alloc))?
         .arg(restore_arg(alloc))?
-        .arg(save)
+        .arg(save_arg(alloc))
 }
