@@ -16,6 +16,3 @@ mod values;
 pub use errors::{FileFault, FileFaultCode};
 pub use files::{MAX_FILE_LEN, read_config, read_file, read_scenario};
 pub use scenarios::Scenario;
-
-#[cfg(test)]
-mod tests;

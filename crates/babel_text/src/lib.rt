@@ -10,6 +10,3 @@ mod router_ids;
 pub use numbers::{parse_u8, parse_u16, parse_u64};
 pub use prefixes::{parse_network, parse_prefix};
 pub use router_ids::parse_router_id;
-
-#[cfg(test)]
-mod tests;

@@ -1,6 +1,6 @@
 //! Each reader on texts worked by hand.
 
-use super::*;
+use babel_text::*;
 use babel_value::Addr;
 use std::test::Fail;
 

@@ -1,6 +1,6 @@
 //! Files worked by hand: each key and its default, each code, and what an allocation that fails does.
 
-use super::*;
+use babel_config::*;
 use babel_net::Event;
 use babel_value::{Addr, Family, Prefix};
 use std::process::Abort;
