@@ -1,4 +1,5 @@
 pub mod Comparing
+pub mod Lines
 pub mod MessageCounts
 pub mod Printing
 pub mod Seeing

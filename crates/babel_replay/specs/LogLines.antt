@@ -1,12 +1,75 @@
 -- The lines of a log (profile): `<time> in <iface> <source> <hex>`, `<time> tick` or `<time> cost <iface> <n>`. One blank separates two fields.
-use Rattle.std.specs.Prelude.{◌≡◌, ◌<◌, ◌==◌, ◌/◌, ℕ, true, List, [], length, Option, Some, None, Ok, Err, Result, codes, nat_eq, if◌then◌else◌}
+use Rattle.std.specs.Prelude.{◌≡◌, ◌≢◌, ◌<◌, ◌+◌, ◌==◌, ◌||◌, ◌/◌, ◌⊎◌, ⊤, ℕ, Bool, true, List, [], ◌∷◌, ◌++◌, All, length, slice_index, Option, Some, None, IfSome, Ok, Err, Result, codes, nat_eq, nat_lt, IsUtf8, if◌then◌else◌}
+use Rattle.std.specs.Io.{StartsWith}
+use Rattle.std.specs.Io.KnownBytes.{Consumes, IsAtEnd}
 use Rattle.std.specs.Cmp.Lexicographic.{pointwise}
 use Rattle.std.specs.List.{position_or_len, before_first, after_first}
 use Rattle.hex.specs.Hex.{decode_sized}
 use Rattle.hex.specs.declared.FromHexError.{FromHexError}
+use Rattle.babel_value.specs.declared.addresses.Addr.{Addr}
+use Rattle.babel_value.specs.Texts.{IsAddrText}
 use Rattle.babel_text.specs.Numbers.{IsNumberText}
+use Rattle.babel_replay.specs.declared.faults.LineFault.{LineFault}
+use Rattle.babel_replay.specs.declared.faults.LineFault.TheVariants as faults
 use Rattle.babel_replay.specs.declared.log_lines.Action.{Action}
 use Rattle.babel_replay.specs.declared.log_lines.Action.TheVariants as actions
+use Rattle.babel_replay.specs.declared.reading.Part.{Part}
+use Rattle.babel_replay.specs.declared.reading.Part.TheVariants as parts
+
+-- ---- the lines of a log
+
+abbrev pub join_first : ℕ → List (List ℕ) → List (List ℕ)
+join_first octet [] = (octet ∷ []) ∷ []
+join_first octet (line ∷ lines) = (octet ∷ line) ∷ lines
+
+-- The lines of a log's octets. A line feed ends a line, and the end of the log ends its last line.
+abbrev pub lines_of : List ℕ → List (List ℕ)
+lines_of [] = []
+lines_of (octet ∷ octets) = if octet == 10 then [] ∷ lines_of octets else join_first octet (lines_of octets)
+
+abbrev pub first_of : List (List ℕ) → List ℕ
+first_of [] = []
+first_of (line ∷ lines) = line
+
+-- The longest line has 131,200 octets, its line feed not counted.
+abbrev pub IsTooLong : List ℕ → Type 0
+IsTooLong line = 131200 < length line
+
+-- Empty lines are skipped, and lines that begin with `#`.
+abbrev pub is_skipped_line : List ℕ → Bool
+is_skipped_line line = length line == 0 || slice_index line 0 == 35
+
+-- What a call does to the octets that a reader has left, if they are known: it takes their first line, if there is one.
+abbrev pub ReadsLine : Option (List ℕ) → Option (List ℕ) → Bool → List ℕ → Type 0
+ReadsLine None new more line = ⊤
+ReadsLine (Some octets) None more line = ⊥
+ReadsLine (Some octets) (Some rest) more line = lines_of octets ≡ (if more then line ∷ lines_of rest else [])
+
+-- ---- the parts of a line
+
+abbrev pub HasNoLineFeed : List ℕ → Type 0
+HasNoLineFeed octets = All (λ octet. octet ≢ 10) octets
+
+-- Octets that were taken from the reader, and appended but for the line feed.
+pub record AppendsPart (old new : Option (List ℕ)) (before after end : List ℕ) : Type 0 where
+  pub part : List ℕ
+  pub appended : after ≡ before ++ part
+  pub plain : HasNoLineFeed part
+  pub taken : Consumes old new (part ++ end)
+
+abbrev pub ReadsPart : Part → Option (List ℕ) → Option (List ℕ) → List ℕ → List ℕ → Type 0
+ReadsPart parts.More old new before after = AppendsPart old new before after []
+ReadsPart parts.Last old new before after = AppendsPart old new before after (10 ∷ [])
+ReadsPart parts.AtEnd old new before after = (after ≡ before) × Consumes old new [] × IsAtEnd old
+
+-- The octets that are left begin with a part with which the line is too long.
+pub record ShowsTooMuch (left : Option (List ℕ)) (before : List ℕ) : Type 0 where
+  pub part : List ℕ
+  pub plain : HasNoLineFeed part
+  pub front : IfSome left (λ octets. StartsWith octets part)
+  pub long : 131200 < length before + length part
+
+-- ---- the fields of a line
 
 -- The text has a blank; what is before the first one; and what is after it.
 abbrev pub HasBlank : List ℕ → Type 0
@@ -21,29 +84,95 @@ after_blank text = after_first (λ octet. octet == 32) text
 abbrev pub IsWord : List ℕ → List ℕ → Type 0
 IsWord text word = pointwise nat_eq text word ≡ true
 
--- Octets as two digits each. None are written as `-`.
+-- Octets as two digits each, if there is room for them. None are written as `-`, and the empty text has no octets.
 abbrev pub octets_or_none : Result (List ℕ) FromHexError → Option (List ℕ)
 octets_or_none (Ok octets) = Some octets
 octets_or_none (Err fault) = None
 
-abbrev pub hex_octets : List ℕ → Option (List ℕ)
-hex_octets text = if pointwise nat_eq text (codes "-") then Some [] else octets_or_none (decode_sized text (length text / 2))
+abbrev pub hex_octets : ℕ → List ℕ → Option (List ℕ)
+hex_octets room text =
+    if pointwise nat_eq text (codes "-") then Some []
+    else if length text / 2 == 0 || nat_lt room (length text / 2) then None
+    else octets_or_none (decode_sized text (length text / 2))
 
--- `<iface> <source> <hex>`, of which this has the interface. The other fields are clauses of their readers.
-abbrev pub IsReceiveText : List ℕ → ℕ → Type 0
-IsReceiveText fields iface = HasBlank fields × IsNumberText 16 (before_blank fields) iface
+-- ---- what a line means
+
+-- Two fields; and three.
+abbrev pub HasTwoFields : List ℕ → Type 0
+HasTwoFields fields = HasBlank fields × (¬ (HasBlank (after_blank fields)))
+
+abbrev pub HasThreeFields : List ℕ → Type 0
+HasThreeFields fields = HasBlank fields × HasTwoFields (after_blank fields)
+
+-- `<iface> <source> <hex>`
+abbrev pub IsReceiveText : ℕ → List ℕ → Action → Type 0
+IsReceiveText room fields (actions.Receive iface source octets) =
+    HasThreeFields fields
+    × IsNumberText 16 (before_blank fields) iface
+    × IsAddrText (before_blank (after_blank fields)) source
+    × (hex_octets room (after_blank (after_blank fields)) ≡ Some octets.now)
+IsReceiveText room fields action = ⊥
 
 -- `<iface> <n>`
-abbrev pub IsCostText : List ℕ → ℕ → ℕ → Type 0
-IsCostText fields iface cost = HasBlank fields × IsNumberText 16 (before_blank fields) iface × IsNumberText 16 (after_blank fields) cost
+abbrev pub IsCostText : List ℕ → Action → Type 0
+IsCostText fields (actions.SetCost iface cost) = HasTwoFields fields × IsNumberText 16 (before_blank fields) iface × IsNumberText 16 (after_blank fields) cost
+IsCostText fields action = ⊥
 
--- What follows the time.
-abbrev pub IsActionText : List ℕ → Action → Type 0
-IsActionText rest (actions.Receive iface source octets) =
-    HasBlank rest × IsWord (before_blank rest) (codes "in") × IsReceiveText (after_blank rest) iface
-IsActionText rest actions.Tick = IsWord rest (codes "tick")
-IsActionText rest (actions.SetCost iface cost) = HasBlank rest × IsWord (before_blank rest) (codes "cost") × IsCostText (after_blank rest) iface cost
+-- What follows the time. There is room for so many octets of a datagram.
+abbrev pub IsActionText : ℕ → List ℕ → Action → Type 0
+IsActionText room rest (actions.Receive iface source octets) =
+    HasBlank rest × IsWord (before_blank rest) (codes "in") × IsReceiveText room (after_blank rest) (actions.Receive iface source octets)
+IsActionText room rest actions.Tick = IsWord rest (codes "tick")
+IsActionText room rest (actions.SetCost iface cost) =
+    HasBlank rest × IsWord (before_blank rest) (codes "cost") × IsCostText (after_blank rest) (actions.SetCost iface cost)
 
 -- A line of what happens at the time, in centiseconds.
-abbrev pub IsLine : List ℕ → ℕ → Action → Type 0
-IsLine line time action = HasBlank line × IsNumberText 64 (before_blank line) time × IsActionText (after_blank line) action
+abbrev pub IsLine : ℕ → List ℕ → ℕ → Action → Type 0
+IsLine room line time action = IsUtf8 line × HasBlank line × IsNumberText 64 (before_blank line) time × IsActionText room (after_blank line) action
+
+-- ---- why a line means nothing
+
+-- The fault is this one if the fact doesn't hold, and a later one if it holds.
+abbrev pub Unless : Type 0 → LineFault → (LineFault → Type 0) → LineFault → Type 0
+Unless Holds fault later found = ((¬ Holds) × (found ≡ fault)) ⊎ (Holds × later found)
+
+abbrev pub IsNumber : ℕ → List ℕ → Type 0
+IsNumber bits text = (number : ℕ) × IsNumberText bits text number
+
+abbrev pub IsAddress : List ℕ → Type 0
+IsAddress text = (addr : Addr) × IsAddrText text addr
+
+-- The first cause: the form first, and then the fields from the left.
+abbrev pub IsTickFault : List ℕ → LineFault → Type 0
+IsTickFault time found = (¬ (IsNumber 64 time)) × (found ≡ faults.Number)
+
+abbrev pub IsHexFault : ℕ → List ℕ → LineFault → Type 0
+IsHexFault room text found = (hex_octets room text ≡ None) × (found ≡ faults.Hex)
+
+abbrev pub IsReceiveFault : ℕ → List ℕ → List ℕ → LineFault → Type 0
+IsReceiveFault room time fields =
+    Unless (HasThreeFields fields) faults.Form
+    (Unless (IsNumber 64 time) faults.Number
+    (Unless (IsNumber 16 (before_blank fields)) faults.Number
+    (Unless (IsAddress (before_blank (after_blank fields))) faults.Address (IsHexFault room (after_blank (after_blank fields))))))
+
+abbrev pub IsCostFault : List ℕ → List ℕ → LineFault → Type 0
+IsCostFault time fields =
+    Unless (HasTwoFields fields) faults.Form
+    (Unless (IsNumber 64 time) faults.Number
+    (Unless (IsNumber 16 (before_blank fields)) faults.Number (λ found. (¬ (IsNumber 16 (after_blank fields))) × (found ≡ faults.Number))))
+
+abbrev pub IsWordFault : ℕ → List ℕ → List ℕ → List ℕ → LineFault → Type 0
+IsWordFault room time word fields found =
+    (IsWord word (codes "in") × IsReceiveFault room time fields found)
+    ⊎ ((IsWord word (codes "cost") × IsCostFault time fields found)
+    ⊎ ((¬ (IsWord word (codes "in"))) × (¬ (IsWord word (codes "cost"))) × (found ≡ faults.Form)))
+
+abbrev pub IsActionFault : ℕ → List ℕ → List ℕ → LineFault → Type 0
+IsActionFault room time rest found =
+    (IsWord rest (codes "tick") × IsTickFault time found)
+    ⊎ ((¬ (IsWord rest (codes "tick"))) × Unless (HasBlank rest) faults.Form (IsWordFault room time (before_blank rest) (after_blank rest)) found)
+
+abbrev pub IsLineFault : ℕ → List ℕ → LineFault → Type 0
+IsLineFault room line =
+    Unless (IsUtf8 line) faults.Form (Unless (HasBlank line) faults.Form (IsActionFault room (before_blank line) (after_blank line)))

@@ -1,9 +1,10 @@
 //! The lines of a log: what happened to the speaker, and when.
 
-ghost use Rattle.std.specs.Prelude.{◌≡◌, ℕ, Some, IfOk, IfErr};
+ghost use Rattle.std.specs.Prelude.{◌≡◌, None, Some, length, MatchOption, IfOk, IfErr};
 ghost use Rattle.babel_value.specs.Texts.{IsAddrText};
 ghost use Rattle.babel_text.specs.Numbers.{IsNumberText};
-ghost use Rattle.babel_replay.specs.LogLines.{HasBlank, before_blank, after_blank, hex_octets, IsLine};
+ghost use Rattle.babel_replay.specs.LogLines.{is_skipped_line, HasBlank, before_blank, after_blank, HasTwoFields, HasThreeFields, hex_octets, IsReceiveText, IsCostText, IsLine};
+ghost use Rattle.babel_replay.specs.LogLines.{IsNumber, IsAddress, IsTickFault, IsReceiveFault, IsCostFault, IsLineFault};
 
 use crate::LineFault;
 use babel_text::{parse_u16, parse_u64};
@@ -45,69 +46,110 @@ pub enum Action<'a> {
 }
 
 /// Whether the line is skipped: it is empty, or begins with `#`.
-pub(crate) fn is_skipped(line: &[u8]) -> bool {
-    matches!(line.first(), None | Some(b'#'))
+pub(crate) fn is_skipped(line: &[u8]) -> bool
+    ensures { result ≡ is_skipped_line line.now }
+{
+    if line.is_empty() {
+        return true;
+    }
+    line[0] == b'#'
 }
 
 /// Reads a line that isn't skipped: `<time> in <iface> <source> <hex>`, `<time> tick` or
-/// `<time> cost <iface> <n>`. The datagram's octets are written to the front of `octets`, which has room for
-/// those of the longest line.
+/// `<time> cost <iface> <n>`. The datagram's octets are written to the front of `octets`, and are L4 if there is
+/// no room for them.
 ///
 /// L1 comes before the fields, which are read from the left: L2, L3 or L4 is that of the first that can't
 /// be read.
 pub fn parse_line<'a>(line: &[u8], octets: &'a mut [u8]) -> Result<Event<'a>, LineFault>
-    ensures ok { IfOk result (λ event. IsLine line.now event.time event.action) }
+    ensures ok { IfOk result (λ event. IsLine (length octets.old) line.now event.time event.action) }
+    ensures refused { IfErr result (IsLineFault (length octets.old) line.now) }
 {
     let Ok(text) = str::from_utf8(line) else {
         return Err(LineFault::Form);
     };
-    let Some((time, rest)) = text.split_once(' ') else {
+    let Some((time, rest)) = split_field(text) else {
         return Err(LineFault::Form);
     };
     if rest == "tick" {
-        let time = parse_time(time)?;
-        let action = Action::Tick;
-        return Ok(Event { time, action });
+        return parse_tick(time);
     }
-    let Some((word, fields)) = rest.split_once(' ') else {
+    let Some((word, fields)) = split_field(rest) else {
         return Err(LineFault::Form);
     };
     if word == "in" {
-        let (iface, source, hex) = receive_fields(fields)?;
-        let time = parse_time(time)?;
-        let action = Action::Receive {
-            iface: parse_word(iface)?,
-            source: parse_address(source)?,
-            octets: parse_hex(hex, octets)?,
-        };
-        return Ok(Event { time, action });
+        return parse_receive(time, fields, octets);
     }
     if word == "cost" {
-        let (iface, cost) = cost_fields(fields)?;
-        let time = parse_time(time)?;
-        let action = Action::SetCost {
-            iface: parse_word(iface)?,
-            cost: parse_word(cost)?,
-        };
-        return Ok(Event { time, action });
+        return parse_cost(time, fields);
     }
     Err(LineFault::Form)
 }
 
+/// The text before the first blank and the text after it.
+fn split_field(text: &str) -> Option<(&str, &str)>
+    ensures { MatchOption result (¬ (HasBlank text.now)) (λ f. HasBlank text.now × (f.0.now ≡ before_blank text.now) × (f.1.now ≡ after_blank text.now)) }
+{
+    text.split_once(' ')
+}
+
+/// A tick at the time.
+fn parse_tick<'a>(time: &str) -> Result<Event<'a>, LineFault>
+    ensures time { IfOk result (λ event. IsNumberText 64 time.now event.time) }
+    ensures action { IfOk result (λ event. event.action ≡ Action.Tick) }
+    ensures refused { IfErr result (IsTickFault time.now) }
+{
+    let time = parse_time(time)?;
+    let action = Action::Tick;
+    Ok(Event { time, action })
+}
+
+/// A datagram at the time, from the fields after the word `in`.
+fn parse_receive<'a>(time: &str, fields: &str, octets: &'a mut [u8]) -> Result<Event<'a>, LineFault>
+    ensures time { IfOk result (λ event. IsNumberText 64 time.now event.time) }
+    ensures action { IfOk result (λ event. IsReceiveText (length octets.old) fields.now event.action) }
+    ensures refused { IfErr result (IsReceiveFault (length octets.old) time.now fields.now) }
+{
+    let (iface, source, hex) = receive_fields(fields)?;
+    let time = parse_time(time)?;
+    let action = Action::Receive {
+        iface: parse_word(iface)?,
+        source: parse_address(source)?,
+        octets: parse_hex(hex, octets)?,
+    };
+    Ok(Event { time, action })
+}
+
+/// A cost at the time, from the fields after the word `cost`.
+fn parse_cost<'a>(time: &str, fields: &str) -> Result<Event<'a>, LineFault>
+    ensures time { IfOk result (λ event. IsNumberText 64 time.now event.time) }
+    ensures action { IfOk result (λ event. IsCostText fields.now event.action) }
+    ensures refused { IfErr result (IsCostFault time.now fields.now) }
+{
+    let (iface, cost) = cost_fields(fields)?;
+    let time = parse_time(time)?;
+    let action = Action::SetCost {
+        iface: parse_word(iface)?,
+        cost: parse_word(cost)?,
+    };
+    Ok(Event { time, action })
+}
+
 /// The three fields after the word `in`.
 fn receive_fields(fields: &str) -> Result<(&str, &str, &str), LineFault>
-    ensures parted { IfOk result (λ f. HasBlank fields.now × HasBlank (after_blank fields.now)) }
+    ensures parted { IfOk result (λ f. HasThreeFields fields.now) }
     ensures iface { IfOk result (λ f. f.0.now ≡ before_blank fields.now) }
     ensures source { IfOk result (λ f. f.1.now ≡ before_blank (after_blank fields.now)) }
     ensures hex { IfOk result (λ f. f.2.now ≡ after_blank (after_blank fields.now)) }
+    ensures refused { IfErr result (λ fault. (fault ≡ LineFault.Form) × (¬ (HasThreeFields fields.now))) }
 {
-    let Some((iface, rest)) = fields.split_once(' ') else {
+    let Some((iface, rest)) = split_field(fields) else {
         return Err(LineFault::Form);
     };
-    let Some((source, hex)) = rest.split_once(' ') else {
+    let Some((source, hex)) = split_field(rest) else {
         return Err(LineFault::Form);
     };
-    if hex.split_once(' ').is_some() {
+    if split_field(hex).is_some() {
         return Err(LineFault::Form);
     }
     Ok((iface, source, hex))
@@ -115,14 +157,15 @@ fn receive_fields(fields: &str) -> Result<(&str, &str, &str), LineFault>
 
 /// The two fields after the word `cost`.
 fn cost_fields(fields: &str) -> Result<(&str, &str), LineFault>
-    ensures parted { IfOk result (λ f. HasBlank fields.now) }
+    ensures parted { IfOk result (λ f. HasTwoFields fields.now) }
     ensures iface { IfOk result (λ f. f.0.now ≡ before_blank fields.now) }
     ensures cost { IfOk result (λ f. f.1.now ≡ after_blank fields.now) }
+    ensures refused { IfErr result (λ fault. (fault ≡ LineFault.Form) × (¬ (HasTwoFields fields.now))) }
 {
-    let Some((iface, cost)) = fields.split_once(' ') else {
+    let Some((iface, cost)) = split_field(fields) else {
         return Err(LineFault::Form);
     };
-    if cost.split_once(' ').is_some() {
+    if split_field(cost).is_some() {
         return Err(LineFault::Form);
     }
     Ok((iface, cost))
@@ -131,7 +174,7 @@ fn cost_fields(fields: &str) -> Result<(&str, &str), LineFault>
 /// The moment that the text spells.
 fn parse_time(text: &str) -> Result<u64, LineFault>
     ensures ok { IfOk result (IsNumberText 64 text.now) }
-    ensures refused { IfErr result (λ fault. (fault ≡ LineFault.Number) × ((n : ℕ) → ¬ (IsNumberText 64 text.now n))) }
+    ensures refused { IfErr result (λ fault. (fault ≡ LineFault.Number) × (¬ (IsNumber 64 text.now))) }
 {
     match parse_u64(text) {
         Some(number) => Ok(number),
@@ -142,7 +185,7 @@ fn parse_time(text: &str) -> Result<u64, LineFault>
 /// The number up to 65535 that the text spells.
 fn parse_word(text: &str) -> Result<u16, LineFault>
     ensures ok { IfOk result (IsNumberText 16 text.now) }
-    ensures refused { IfErr result (λ fault. (fault ≡ LineFault.Number) × ((n : ℕ) → ¬ (IsNumberText 16 text.now n))) }
+    ensures refused { IfErr result (λ fault. (fault ≡ LineFault.Number) × (¬ (IsNumber 16 text.now))) }
 {
     match parse_u16(text) {
         Some(number) => Ok(number),
@@ -153,7 +196,7 @@ fn parse_word(text: &str) -> Result<u16, LineFault>
 /// The address that the text spells.
 fn parse_address(text: &str) -> Result<Addr, LineFault>
     ensures ok { IfOk result (IsAddrText text.now) }
-    ensures refused { IfErr result (λ fault. (fault ≡ LineFault.Address) × ((a : Addr) → ¬ (IsAddrText text.now a))) }
+    ensures refused { IfErr result (λ fault. (fault ≡ LineFault.Address) × (¬ (IsAddress text.now))) }
 {
     match Addr::parse_ascii(text.as_bytes()) {
         Ok(addr) => Ok(addr),
@@ -164,8 +207,8 @@ fn parse_address(text: &str) -> Result<Addr, LineFault>
 /// Reads the octets into the front of `octets`, and returns that front. `-` stands for no octets, and
 /// an empty text isn't hexadecimal.
 fn parse_hex<'a>(hex: &str, octets: &'a mut [u8]) -> Result<&'a [u8], LineFault>
-    ensures ok { IfOk result (λ read. hex_octets hex.now ≡ Some read.now) }
-    ensures refused { IfErr result (λ fault. fault ≡ LineFault.Hex) }
+    ensures ok { IfOk result (λ read. hex_octets (length octets.old) hex.now ≡ Some read.now) }
+    ensures refused { IfErr result (λ fault. (fault ≡ LineFault.Hex) × (hex_octets (length octets.old) hex.now ≡ None)) }
 {
     if hex == "-" {
         return Ok(&[]);

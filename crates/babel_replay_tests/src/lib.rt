@@ -4,6 +4,8 @@
 #[cfg(test)]
 mod failing;
 #[cfg(test)]
+mod lines;
+#[cfg(test)]
 mod logs;
 #[cfg(test)]
 mod memory;
