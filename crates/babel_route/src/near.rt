@@ -1,5 +1,5 @@
-//! Searches that begin near the index at which the last one ended. If the sought keys rise, they are one
-//! walk over the table.
+//! Searches that begin near the index at which the last one ended. If the sought keys rise, and each is near
+//! the last one, they are one walk over the table.
 
 ghost use Rattle.std.specs.Prelude.{◌≡◌, true, ◌+◌, ◌≤◌, ◌<◌, take, drop, not, length, IsSome, IsNone};
 ghost use Rattle.std.specs.List.{list_all};
@@ -13,6 +13,9 @@ use babel_table::{Bound, Key, Steps, Table, places_below};
 use std::cmp::Ordering;
 use std::marker::Brand;
 use std::sync::ledger::{Blank, Ledger};
+
+/// How many entries a walk passes before it gives up and searches.
+const FAR: usize = 8;
 
 /// Where in the tables the last reselection was. It only matters for speed: prefixes that rise are
 /// reselected in one walk over the entries, the selections and the sources.
@@ -67,8 +70,8 @@ fn order_on<L: Ledger, K: Key>(key: &K, other: &K, blank: Blank) -> Ordering
     key.compare(other, &mut steps)
 }
 
-/// How many entries have a key below the bound, as `places_below`. It walks on from the index `near` if
-/// the entry there is below, and searches otherwise.
+/// How many entries have a key below the bound, as `places_below`. It walks a few entries on from the index
+/// `near` if the entry there is below, and searches otherwise.
 pub(crate) fn places_below_near<K: Key, V: Copy, T: Table<K, V>, B: Bound<K>>(
     table: &T,
     near: usize,
@@ -98,6 +101,9 @@ fn places_below_from<K: Key, V: Copy, T: Table<K, V>, B: Bound<K>>(
 {
     let len = table.len();
     for place in near + 1..len {
+        if place.wrapping_sub(near) > FAR {
+            return places_below(table, bound);
+        }
         match table.at(place) {
             Some(entry) if bound.is_below(&entry.0) => {}
             _ => return place,
@@ -147,7 +153,11 @@ fn walk_for<K: Key, V: Copy, T: Table<K, V>>(table: &T, near: &mut usize, key: &
     ensures { result ≡ find K.order key.now (T.entries table.now) }
 {
     let len = table.len();
-    for place in *near + 1..len {
+    let start = *near;
+    for place in start + 1..len {
+        if place.wrapping_sub(start) > FAR {
+            return search_for(table, near, key);
+        }
         *near = place;
         let Some(entry) = table.at(place) else {
             return None;
