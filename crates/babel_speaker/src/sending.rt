@@ -241,7 +241,8 @@ impl Core {
             return None;
         };
         let mut builder = Builder::new(source);
-        builder.add(&message);
+        // The first message always fits.
+        let _ = builder.add(&message);
         self.send_message(now, target, &message, settled);
         self.remove_first_item();
         self.fill(now, target, &mut builder, settled);
