@@ -39,16 +39,21 @@ fn try_check<C: Read + Drop, S: Read + Drop, W: Write>(
     snapshot: Option<S>,
     out: &mut W,
 ) -> Result<(), CheckFault> {
-    let octets = read_file(alloc, config)?;
-    let config = read_config(alloc, octets.as_slice())?;
-    config.check()?;
+    let config = checked_config(alloc, config)?;
     match snapshot {
         Some(file) => check_snapshot(alloc, config, file, out),
         None => Ok(write_ok(out)?),
     }
 }
 
-/// Restores a speaker, and writes what it restored.
+/// Reads a configuration of which a speaker can be made.
+fn checked_config<C: Read + Drop>(alloc: Global, config: C) -> Result<Config, CheckFault> {
+    let octets = read_file(alloc, config)?;
+    let config = read_config(alloc, octets.as_slice())?;
+    config.check()?;
+    Ok(config)
+}
+
 fn check_snapshot<S: Read + Drop, W: Write>(
     alloc: Global,
     config: Config,
@@ -56,7 +61,16 @@ fn check_snapshot<S: Read + Drop, W: Write>(
     out: &mut W,
 ) -> Result<(), CheckFault> {
     let octets = read_snapshot(alloc, snapshot)?;
-    let octets = octets.as_slice();
+    check_octets(alloc, config, octets.as_slice(), out)
+}
+
+/// Restores a speaker, and writes what it restored.
+fn check_octets<W: Write>(
+    alloc: Global,
+    config: Config,
+    octets: &[u8],
+    out: &mut W,
+) -> Result<(), CheckFault> {
     let router_id = config.router_id;
     Speaker::restore(alloc, config, MOMENT, octets)?;
     let saved = SavedState::read(&router_id, octets)?;

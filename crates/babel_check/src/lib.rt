@@ -7,6 +7,3 @@ mod errors;
 
 pub use checking::check;
 pub(crate) use errors::CheckFault;
-
-#[cfg(test)]
-mod tests;

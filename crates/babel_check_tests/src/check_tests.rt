@@ -1,6 +1,6 @@
 //! The command's texts and statuses, and what failing readers and writers do.
 
-use super::*;
+use babel_check::check;
 use babel_show::Status;
 use std::alloc::Global;
 use std::io;

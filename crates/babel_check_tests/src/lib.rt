@@ -1,0 +1,5 @@
+//! Tests of the command `check`.
+#![tactic(auto)]
+
+#[cfg(test)]
+mod check_tests;
