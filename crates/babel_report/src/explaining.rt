@@ -1,8 +1,8 @@
 //! `babel explain CONFIG LOG PREFIX`.
 
 use crate::faults::{CommandFault, status};
-use crate::replaying::READ_LEN;
-use babel_config::{FileFault, read_config, read_file};
+use crate::replaying::{READ_LEN, config_in};
+use babel_config::FileFault;
 use babel_show::Status;
 use babel_text::parse_prefix;
 use std::alloc::Global;
@@ -31,8 +31,7 @@ fn try_explain<C: Read + Drop, L: Read + Drop, W: Write>(
     let Some(prefix) = parse_prefix(prefix) else {
         return Err(CommandFault::File(FileFault::Text));
     };
-    let octets = read_file(alloc, config)?;
-    let config = read_config(alloc, octets.as_slice())?;
+    let config = config_in(alloc, config)?;
     let mut log = BufReader::with_capacity(alloc, READ_LEN, log)?;
     babel_replay::explain(alloc, config, &mut log, prefix, out)?;
     Ok(())

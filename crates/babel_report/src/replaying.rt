@@ -1,8 +1,9 @@
 //! `babel replay CONFIG LOG`.
 
 use crate::faults::{CommandFault, status};
-use babel_config::{read_config, read_file};
+use babel_config::{FileFault, read_config, read_file};
 use babel_show::Status;
+use babel_state::Config;
 use std::alloc::Global;
 use std::io::{BufReader, Read, Write};
 
@@ -21,14 +22,19 @@ pub fn replay<C: Read + Drop, L: Read + Drop, W: Write, E: Write>(
     status(try_replay(alloc, config, log, out), err)
 }
 
+/// Reads a configuration.
+pub(crate) fn config_in<C: Read + Drop>(alloc: Global, config: C) -> Result<Config, FileFault> {
+    let octets = read_file(alloc, config)?;
+    read_config(alloc, octets.as_slice())
+}
+
 fn try_replay<C: Read + Drop, L: Read + Drop, W: Write>(
     alloc: Global,
     config: C,
     log: L,
     out: &mut W,
 ) -> Result<(), CommandFault> {
-    let octets = read_file(alloc, config)?;
-    let config = read_config(alloc, octets.as_slice())?;
+    let config = config_in(alloc, config)?;
     let mut log = BufReader::with_capacity(alloc, READ_LEN, log)?;
     babel_replay::replay(alloc, config, &mut log, out)?;
     Ok(())
