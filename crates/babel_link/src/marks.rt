@@ -88,36 +88,3 @@ impl Marks {
         self.word.has_received()
     }
 }
-
-#[cfg(test)]
-mod tests {
-    use super::*;
-
-    // The marks as a word, the newest lowest, how many there are, and the expected number.
-    fn state(marks: Marks) -> (u16, u8, u16) {
-        (marks.word.bits, marks.word.count, marks.expected.0)
-    }
-
-    #[test]
-    fn a_hello_early_or_late(rt: HostRuntime) {
-        let mut marks = Marks::first(Seqno(65534));
-        assert_eq!(rt; marks.heard(Seqno(0)), Heard::Kept);
-        assert_eq!(rt; marks.heard(Seqno(2)), Heard::Kept);
-        assert_eq!(rt; state(marks), (0b10101, 5, 3));
-        assert!(rt; marks.up());
-        let cases = [
-            (19, Heard::Kept, (0b1, 16, 20)),
-            (20, Heard::Flush, (0b1, 1, 21)),
-            (3, Heard::Kept, (0b101011, 6, 4)),
-            (1, Heard::Kept, (0b1011, 4, 2)),
-            (65535, Heard::Kept, (0b11, 2, 0)),
-            (65523, Heard::Kept, (0b1, 1, 65524)),
-            (65522, Heard::Flush, (0b1, 1, 65523)),
-        ];
-        for (seqno, heard, after) in cases {
-            let mut later = marks;
-            assert_eq!(rt; later.heard(Seqno(seqno)), heard, "Hello {seqno}");
-            assert_eq!(rt; state(later), after, "Hello {seqno}");
-        }
-    }
-}

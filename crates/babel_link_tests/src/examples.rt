@@ -20,6 +20,18 @@ fn worked_marks()
     ensures far_marks { heard_marks 20 three_hellos ≡ marks_with (true ∷ []) 21 }
 {}
 
+/// After the same Hellos, the expected one, and late ones. One that is 17 late flushes.
+#[tactic(auto, unfolding(babel_link::specs::Histories::heard_marks, babel_link::specs::Histories::heard_verdict))]
+fn worked_late_marks()
+    ensures expected { heard_marks 3 three_hellos ≡ marks_with (true ∷ five_marks) 4 }
+    ensures late { heard_marks 1 three_hellos ≡ marks_with (true ∷ true ∷ false ∷ true ∷ []) 2 }
+    ensures later { heard_marks 65535 three_hellos ≡ marks_with (true ∷ true ∷ []) 0 }
+    ensures latest { heard_marks 65523 three_hellos ≡ marks_with (true ∷ []) 65524 }
+    ensures kept { heard_verdict 65523 three_hellos ≡ Kept }
+    ensures too_late { heard_verdict 65522 three_hellos ≡ Flush }
+    ensures too_late_marks { heard_marks 65522 three_hellos ≡ marks_with (true ∷ []) 65523 }
+{}
+
 /// A Hello with interval 401 at moment 0 is missed from 601 on, and the next one 401 later.
 #[tactic(auto, unfolding(babel_link::specs::Histories::missed_marks, babel_link::specs::Histories::has_received, babel_link::specs::Links::hello_link, babel_link::specs::Links::fired_history, babel_link::specs::Links::fired_link, babel_link::specs::Links::unless_silent, babel_link::specs::Links::expired_link, babel_link::specs::Links::ticked_link, babel_link::specs::Neighbours::hello_of, babel_link::specs::Neighbours::tick_of))]
 fn worked_deadline()
