@@ -15,3 +15,4 @@ pub mod LinkChanges
 pub mod FirstFits
 pub mod SettledSends
 pub mod Restoring
+pub mod TakenItems

@@ -2,6 +2,7 @@ pub mod Costs
 pub mod LinkChanges
 pub mod Limits
 pub mod Making
+pub mod PendingItems
 pub mod Reaching
 pub mod Sending
 pub mod ShortHellos

@@ -5,6 +5,7 @@ ghost use Rattle.babel_route.specs.declared.sources.TheConstants.{SOURCE_PLACES}
 ghost use Rattle.babel_state.specs.declared.limits.TheConstants.{MAX_INTERFACES, MAX_PREFIXES, MAX_REQUESTS, MAX_PENDING, MAX_HELLO_INTERVAL, REQUEST_HOPS};
 ghost use Rattle.babel_speaker.specs.declared.outgoing.TheConstants.{IHU_HELLOS, UPDATE_HELLOS};
 ghost use Rattle.babel_speaker.specs.Limits.{most_interfaces, most_prefixes, most_requests, most_sources, most_pending, longest_hello, hellos_an_ihu, hellos_an_update, request_hops};
+ghost use Rattle.babel_speaker.specs.PendingItems.{DatagramsTakeItems};
 ghost use Rattle.babel_speaker.specs.Sending.{FirstMessagesFit};
 
 /// The constants of the code are the numbers of the definitions.
@@ -24,4 +25,11 @@ pub fn limits_are_those_of_the_code()
 #[tactic(auto, using(crate::proofs::FirstFits::first_fits))]
 pub fn first_messages_fit()
     ensures { FirstMessagesFit }
+{}
+
+/// Each datagram takes at least one of the pending items. So at most as many datagrams follow one another
+/// as items are pending.
+#[tactic(auto, using(crate::proofs::TakenItems::datagrams_take))]
+pub fn datagrams_take_items()
+    ensures { DatagramsTakeItems }
 {}

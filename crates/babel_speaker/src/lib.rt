@@ -33,7 +33,7 @@ mod updates;
 
 pub use announced::Announced;
 pub use interfaces::Interfaces;
-pub use laws::{first_messages_fit, limits_are_those_of_the_code};
+pub use laws::{datagrams_take_items, first_messages_fit, limits_are_those_of_the_code};
 pub use link_costs::{LinkChange, LinkCosts};
 pub use pending_items::PendingItems;
 pub use prefixes::Prefixes;

@@ -1,7 +1,7 @@
 //! The speaker: its calls, from moments and octets to octets. Each call's meaning is its definition in
 //! `babel_state`.
 
-ghost use Rattle.std.specs.Prelude.{◌≡◌, ◌<◌, ◌↔◌, ℕ, [], true, false, Some, slice_get, IsOk, IsErr, IsNone, IfOk, IfErr, IfSome, OnOk, OnErr, option_map};
+ghost use Rattle.std.specs.Prelude.{◌≡◌, ◌≤◌, ◌<◌, ◌↔◌, ℕ, [], true, false, Some, length, slice_get, IsOk, IsErr, IsNone, IfOk, IfErr, IfSome, OnOk, OnErr, option_map};
 ghost use Rattle.babel_packet.specs.Meaning.{meaning};
 ghost use Rattle.babel_route.specs.Selections.{prefix_after};
 ghost use Rattle.babel_state.specs.Addresses.{source_fault, transport_at};
@@ -349,6 +349,21 @@ impl Speaker {
         ensures { result ≡ self.now.raises }
     {
         self.core.core.raises
+    }
+
+    /// How many items are pending, at most 4,096.
+    pub fn pending_count(&self) -> usize
+        ensures count { result ≡ length self.now.pending.items }
+        ensures few { result ≤ 4096 }
+    {
+        self.core.core.pending.len()
+    }
+
+    /// How many entries the route table has.
+    pub fn route_count(&self) -> usize
+        ensures { result ≡ length self.now.routes.entries }
+    {
+        self.core.core.routes.len()
     }
 
     /// How many pending items were dropped since there was no room.
