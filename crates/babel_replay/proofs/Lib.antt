@@ -1,5 +1,7 @@
 pub mod Comparing
+pub mod Ending
 pub mod Lines
+pub mod Logs
 pub mod MessageCounts
 pub mod Printing
 pub mod Seeing

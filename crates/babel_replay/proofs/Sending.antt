@@ -1,10 +1,12 @@
 -- Datagrams that are taken one after another until there is none.
-use Rattle.std.proofs.Common.{◌≡◌, ◌+◌, ℕ, List, [], ◌∷◌, ◌++◌, length, Option, Some, refl, sym, ap, ◌∙◌, subst}
+use Rattle.std.proofs.Common.{◌≡◌, ◌+◌, ◌≤◌, ℕ, List, [], ◌∷◌, ◌++◌, length, Option, Some, refl, sym, ap, ◌∙◌, subst, arith}
 use Rattle.std.proofs.lemmas.Grind.{flat_map-append}
 use Rattle.std.proofs.lemmas.List.{append-nil, length-append}
 use Rattle.std.specs.Io.KnownBytes.{Appends}
 use Rattle.babel_state.specs.declared.items.Target.{Target}
 use Rattle.babel_state.specs.State.{State}
+use Rattle.babel_speaker.specs.PendingItems.{DatagramsTakeItems}
+use Rattle.babel_speaker.specs.Sending.{fits_by}
 use Rattle.babel_replay.specs.Report.{Sent, IsNext, AreNext, draft_at, line, out_line, out_lines}
 use Rattle.babel_replay.specs.Texts.{out_text}
 use Rattle.babel_replay.proofs.Writing.{appends_none, appends_more}
@@ -36,3 +38,10 @@ sending_goes count time old mid h h1 target messages new h2 so goes counted stat
       written = subst (Appends h h2) (sym lines) (appends_more h h1 h2 (out_lines time so.sent) (out_line time x) so.written appends);
       so_many = length-append so.sent (x ∷ []) ∙ ap (λ n. n + 1) so.so_many;
     }
+
+-- The datagrams so far and the items that are left are at most as many as the items at first.
+pub fewer_left : DatagramsTakeItems → (count most time : ℕ) (mid : State) (target : Target) (new : State) →
+    count + length mid.pending.items ≤ most → Some target ≡ (draft_at time mid).target → new ≡ (draft_at time mid).state →
+    count + 1 + length new.pending.items ≤ most
+fewer_left takes count most time mid target new few goes state =
+    omega (arith, few, takes time (fits_by mid) mid target (sym goes), ap (λ s. length s.pending.items) state)

@@ -1,5 +1,5 @@
 -- The reports of the lines of a log (profile).
-use Rattle.std.specs.Prelude.{◌≡◌, ◌⊎◌, ℕ, List, [], ◌∷◌, ◌++◌, zip, flat_map, length, Option, Some, None, Result, Ok, Err, if◌then◌else◌}
+use Rattle.std.specs.Prelude.{◌≡◌, ℕ, List, [], ◌∷◌, ◌++◌, zip, flat_map, length, Option, Some, None, Result, Ok, Err, if◌then◌else◌}
 use Rattle.std.specs.Io.KnownBytes.{Appends}
 use Rattle.babel_packet.specs.declared.errors.Refusal.{Refusal}
 use Rattle.babel_packet.specs.declared.placements.Placed.{Placed}
@@ -79,16 +79,14 @@ abbrev pub AreNext : ℕ → State → List Sent → State → Type 0
 AreNext now old [] new = new ≡ old
 AreNext now old (x ∷ xs) new = IsNext now old x × AreNext now (draft_at now old).state xs new
 
--- Until there is no other, or there were 4,097, which is more than the queue has room for.
-abbrev pub Ends : ℕ → ℕ → State → State → Type 0
-Ends now count last new =
-    (((draft_at now last).target ≡ None) × (new ≡ (draft_at now last).state))
-    ⊎ ((count ≡ 4097) × (new ≡ last))
+-- Until there is no other. Then only items without a message are left, and they leave the queue.
+abbrev pub Ends : ℕ → State → State → Type 0
+Ends now last new = ((draft_at now last).target ≡ None) × (new ≡ (draft_at now last).state)
 
 pub record AreAll (now : ℕ) (old : State) (sent : List Sent) (new : State) : Type 0 where
   pub last : State
   pub each : AreNext now old sent last
-  pub ends : Ends now (length sent) last new
+  pub ends : Ends now last new
 
 abbrev pub out_line : ℕ → Sent → List ℕ
 out_line time x = line (out_text time x.target x.messages)
@@ -119,6 +117,17 @@ pub record Sends (time : ℕ) (old new : State) (before after : Option (List ℕ
   pub sent : List Sent
   pub sends : AreAll time old sent new
   pub written : Appends before after (out_lines time sent)
+
+-- All datagrams were taken.
+abbrev pub SendsAll : ℕ → State → State → Type 0
+SendsAll now old new = (sent : List Sent) × AreAll now old sent new
+
+-- What follows the step of a line, of which this is the outcome: its report is written, and the datagrams are sent.
+pub record ReportsStep (time : ℕ) (placed : List Placed) (outcome : Outcome) (stepped : State) (seen : List SeenPrefix) (new : State) (later : List SeenPrefix) (before after : Option (List ℕ)) : Type 0 where
+  pub sent : List Sent
+  pub sends : AreAll time stepped sent new
+  pub prefixes : later ≡ printed_all stepped (seen_by placed outcome seen)
+  pub written : Appends before after (outcome_lines time placed outcome ++ (select_lines time stepped (seen_by placed outcome seen) ++ out_lines time sent))
 
 -- ---- the end of a log
 

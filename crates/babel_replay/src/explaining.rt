@@ -1,9 +1,13 @@
 //! The routes of a prefix after a log, and why each is used or not.
 
-ghost use Rattle.std.specs.Prelude.{◌≡◌, true, nat_lt};
-ghost use Rattle.std.specs.Option.{option_map_or};
-ghost use Rattle.babel_value.specs.Distances.{is_better};
+ghost use Rattle.std.specs.Prelude.{◌≡◌, ◌≢◌, [], length, nat_lt, OnOk, OnErr, IfOk, IfErr};
 ghost use Rattle.babel_value.specs.Metrics.{infinity, metric_sum};
+ghost use Rattle.babel_route.specs.Distances.{improves_on};
+ghost use Rattle.babel_state.specs.State.{announces};
+ghost use Rattle.babel_replay.specs.LogReports.{room, IsCause, OfAllLines, OfLinesBefore};
+ghost use Rattle.babel_replay.specs.Report.{SendsAll};
+ghost use Rattle.babel_replay.specs.Routes.{route_fields, status_by, is_selected_over};
+ghost use Rattle.babel_replay.specs.Taking.{LeadsByLine, LeadsTo, TakesLine};
 
 use crate::log_lines::is_skipped;
 use crate::reading::read_line;
@@ -12,9 +16,9 @@ use crate::stepping::step;
 use crate::texts::{RouteLine, RouteStatus};
 use crate::{LineFault, ReplayFault, parse_line};
 use arrayvec::ArrayVec;
-use babel_route::{Entry, ROUTE_PLACES};
-use babel_speaker::Speaker;
-use babel_state::{Config, MAX_PENDING};
+use babel_route::Entry;
+use babel_speaker::{Speaker, datagrams_take_items};
+use babel_state::Config;
 use babel_value::{Distance, Metric, Peer, Prefix, Source};
 use std::alloc::Global;
 use std::io::{BufRead, Write};
@@ -30,13 +34,13 @@ pub fn explain<R: BufRead, W: Write>(
     prefix: Prefix,
     out: &mut W,
 ) -> Result<(), ReplayFault> {
-    let mut speaker = Speaker::new(alloc, config)?;
-    let mut number = 1;
-    let taken = match Buffers::new(alloc) {
-        Ok(mut buffers) => take_lines(&mut speaker, &mut buffers, log, &mut number),
-        Err(_) => Err(LineFault::Memory),
+    let mut speaker = match Speaker::new(alloc, config) {
+        Ok(speaker) => speaker,
+        Err(fault) => return Err(ReplayFault::Config(fault)),
     };
-    match write_routes(&speaker, &prefix, out).and(taken) {
+    let mut number = 1;
+    let taken = take_log(alloc, &mut speaker, log, &mut number);
+    match end_explanation(taken, &speaker, &prefix, out) {
         Ok(()) => Ok(()),
         Err(fault) => Err(ReplayFault::Line { number, fault }),
     }
@@ -44,35 +48,102 @@ pub fn explain<R: BufRead, W: Write>(
 
 /// Takes all lines. `number` becomes the number of the line at which it stops, which is one more than
 /// the last at the end of the log.
-fn take_lines<R: BufRead>(
+fn take_log<R: BufRead>(
+    alloc: Global,
     speaker: &mut Speaker,
-    buffers: &mut Buffers,
     log: &mut R,
     number: &mut u64,
-) -> Result<(), LineFault> {
+) -> Result<(), LineFault>
+    requires { number.old ≡ 1 }
+    ensures taken { OnOk result (OfAllLines (R.remaining log.old) (LeadsTo number.new speaker.old speaker.new)) }
+    ensures fault { IfErr result (λ fault. OfLinesBefore (R.remaining log.old) number.new fault (LeadsTo number.new speaker.old speaker.new)) }
+    ensures not_written { IfErr result (λ fault. fault ≢ LineFault.Write) }
+{
+    match Buffers::new(alloc) {
+        Ok(mut buffers) => take_lines(speaker, &mut buffers.line, &mut buffers.octets, log, number),
+        Err(_) => Err(LineFault::Memory),
+    }
+}
+
+/// The same with the memory that it takes.
+fn take_lines<R: BufRead>(
+    speaker: &mut Speaker,
+    line: &mut Vec<u8>,
+    octets: &mut [u8],
+    log: &mut R,
+    number: &mut u64,
+) -> Result<(), LineFault>
+    requires { length octets.old ≡ room }
+    ensures taken { OnOk result (OfAllLines (R.remaining log.old) (LeadsTo number.new speaker.old speaker.new)) }
+    ensures fault { IfErr result (λ fault. OfLinesBefore (R.remaining log.old) number.new fault (LeadsTo number.new speaker.old speaker.new)) }
+    ensures not_written { IfErr result (λ fault. fault ≢ LineFault.Write) }
+{
     for turn in 1..u64::MAX {
         *number = turn;
-        if !read_line(log, &mut buffers.line)? {
+        let more = match take_line(speaker, line, octets, log) {
+            Ok(more) => more,
+            Err(fault) => return Err(fault),
+        };
+        if !more {
             return Ok(());
         }
-        if is_skipped(&buffers.line) {
-            continue;
-        }
-        let event = parse_line(&buffers.line, &mut buffers.octets)?;
-        let _ = step(speaker, &event)?;
-        send_datagrams(speaker, event.time);
     }
-    Ok(())
+    // No reader has so many lines.
+    *number = u64::MAX;
+    Err(LineFault::Read)
+}
+
+/// Takes the next line. False: the log has ended.
+fn take_line<R: BufRead>(
+    speaker: &mut Speaker,
+    line: &mut Vec<u8>,
+    octets: &mut [u8],
+    log: &mut R,
+) -> Result<bool, LineFault>
+    requires { length octets.old ≡ room }
+    ensures taken { IfOk result (λ more. TakesLine (R.remaining log.old) (R.remaining log.new) more (LeadsByLine speaker.old speaker.new) (speaker.new ≡ speaker.old)) }
+    ensures cause { IfErr result (IsCause (R.remaining log.old) []) }
+    ensures not_written { IfErr result (λ fault. fault ≢ LineFault.Write) }
+    ensures unchanged { OnErr result (speaker.new ≡ speaker.old) }
+{
+    let more = read_line(log, line)?;
+    if !more {
+        return Ok(false);
+    }
+    if is_skipped(line) {
+        return Ok(true);
+    }
+    let event = match parse_line(line, octets) {
+        Ok(event) => event,
+        Err(fault) => return Err(fault),
+    };
+    let _ = step(speaker, &event)?;
+    send_datagrams(speaker, event.time);
+    Ok(true)
 }
 
 /// Takes datagrams from the speaker until there is none.
-fn send_datagrams(speaker: &mut Speaker, time: u64) {
+fn send_datagrams(speaker: &mut Speaker, time: u64)
+    ensures { SendsAll time speaker.old speaker.new }
+{
+    datagrams_take_items();
     let mut datagram = ArrayVec::new();
-    for _ in 0..MAX_PENDING + 1 {
-        if speaker.next_datagram(time, &mut datagram).is_none() {
+    for _ in 0..speaker.pending_count() + 1 {
+        let Some(_target) = speaker.next_datagram(time, &mut datagram) else {
             return;
-        }
+        };
     }
+}
+
+/// Writes the routes of the prefix. The fault is that of the log, or L7 if writing fails.
+fn end_explanation<W: Write>(
+    taken: Result<(), LineFault>,
+    speaker: &Speaker,
+    prefix: &Prefix,
+    out: &mut W,
+) -> Result<(), LineFault> {
+    write_routes(speaker, prefix, out)?;
+    taken
 }
 
 /// Writes a line for each route of the prefix, and flushes.
@@ -81,13 +152,26 @@ fn write_routes<W: Write>(
     prefix: &Prefix,
     out: &mut W,
 ) -> Result<(), LineFault> {
-    for index in 0..ROUTE_PLACES {
-        let Some((peer, entry, cost)) = speaker.entry(prefix, index) else {
-            break;
-        };
-        write_line(out, route_line(speaker, prefix, peer, entry, cost))?;
+    for index in 0..speaker.route_count() {
+        write_route(speaker, prefix, index, out)?;
     }
-    out.flush().map_err(|_| LineFault::Write)
+    match out.flush() {
+        Ok(()) => Ok(()),
+        Err(_) => Err(LineFault::Write),
+    }
+}
+
+/// The line of the prefix's route at the index, if it has so many.
+fn write_route<W: Write>(
+    speaker: &Speaker,
+    prefix: &Prefix,
+    index: usize,
+    out: &mut W,
+) -> Result<(), LineFault> {
+    let Some((peer, entry, cost)) = speaker.entry(prefix, index) else {
+        return Ok(());
+    };
+    write_line(out, route_line(speaker, prefix, peer, entry, cost))
 }
 
 /// The line of a route.
@@ -97,26 +181,16 @@ fn route_line(
     peer: Peer,
     entry: Entry,
     cost: Metric,
-) -> RouteLine {
+) -> RouteLine
+    ensures { result ≡ route_fields prefix.now speaker.now peer entry cost }
+{
     let key = Source {
         prefix: *prefix,
         router: entry.router,
     };
     let source = speaker.source(&key);
     let metric = metric_over(&entry.distance, cost);
-    let status = if speaker.announced(prefix) {
-        RouteStatus::Local
-    } else if !is_finite(&entry.distance) {
-        RouteStatus::Infinite
-    } else if !is_feasible(&entry.distance, &source) {
-        RouteStatus::Unfeasible
-    } else if !metric.is_finite() {
-        RouteStatus::Unreachable
-    } else if is_selected(speaker, prefix, &peer) {
-        RouteStatus::Selected
-    } else {
-        RouteStatus::Candidate
-    };
+    let status = route_status(speaker, prefix, &peer, &entry.distance, &source, metric);
     RouteLine {
         prefix: *prefix,
         peer,
@@ -127,6 +201,35 @@ fn route_line(
         source,
         status,
     }
+}
+
+/// Whether a route is used, or why not, by the first reason that holds.
+fn route_status(
+    speaker: &Speaker,
+    prefix: &Prefix,
+    peer: &Peer,
+    advertised: &Distance,
+    source: &Option<Distance>,
+    metric: Metric,
+) -> RouteStatus
+    ensures { result ≡ status_by (announces prefix.now speaker.now) advertised.now source.now metric (is_selected_over prefix.now peer.now speaker.now) }
+{
+    if speaker.announced(prefix) {
+        return RouteStatus::Local;
+    }
+    if !is_finite(advertised) {
+        return RouteStatus::Infinite;
+    }
+    if !is_feasible(advertised, source) {
+        return RouteStatus::Unfeasible;
+    }
+    if !metric.is_finite() {
+        return RouteStatus::Unreachable;
+    }
+    if is_selected(speaker, prefix, peer) {
+        return RouteStatus::Selected;
+    }
+    RouteStatus::Candidate
 }
 
 /// The metric of a route over a link of this cost.
@@ -146,7 +249,7 @@ fn is_finite(advertised: &Distance) -> bool
 /// Whether a route is feasible against the distance of its source, if there is one (RFC 8966, section
 /// 3.5.1).
 fn is_feasible(advertised: &Distance, source: &Option<Distance>) -> bool
-    ensures { result ≡ option_map_or (is_better advertised.now) source.now true }
+    ensures { result ≡ improves_on source.now advertised.now }
 {
     match source {
         Some(distance) => advertised.better(*distance),
@@ -155,7 +258,9 @@ fn is_feasible(advertised: &Distance, source: &Option<Distance>) -> bool
 }
 
 /// Whether the prefix's selected route leads over the neighbour.
-fn is_selected(speaker: &Speaker, prefix: &Prefix, peer: &Peer) -> bool {
+fn is_selected(speaker: &Speaker, prefix: &Prefix, peer: &Peer) -> bool
+    ensures { result ≡ is_selected_over prefix.now peer.now speaker.now }
+{
     match speaker.selected(prefix) {
         Some(route) => route.peer.cmp(peer).is_eq(),
         None => false,

@@ -1,12 +1,17 @@
 //! A log replayed: what the speaker makes of each line.
 
-ghost use Rattle.std.specs.Prelude.{◌≡◌, [], slice_get, OnOk, IfOk, IfErr, IfSome};
+ghost use Rattle.std.specs.Prelude.{◌≡◌, ◌≢◌, ◌≤◌, ◌⊎◌, [], length, slice_get, Err, IsOk, IsNone, OnOk, IfOk, IfErr, IfSome};
 ghost use Rattle.std.specs.Fmt.{with_newline};
 ghost use Rattle.std.specs.Io.KnownBytes.{Appends};
 ghost use Rattle.std.specs.Option.{option_map_or};
-ghost use Rattle.indexmap.specs.IndexMap.{set_value_at};
-ghost use Rattle.babel_replay.specs.Report.{places_in, note_lines, select_line, select_lines, Sends, table_line, table_lines};
-ghost use Rattle.babel_replay.specs.Seen.{choice_at, choice_printed, printed_all};
+ghost use Rattle.indexmap.specs.IndexMap.{spare, set_value_at};
+ghost use Rattle.babel_state.specs.Calls.{first_state};
+ghost use Rattle.babel_state.specs.Configs.{config_fault};
+ghost use Rattle.babel_replay.specs.declared.faults.LineFault.TheVariants.{Memory, Write};
+ghost use Rattle.babel_replay.specs.LogReports.{room, whole_report, IsCause, IsReplayFault, OfAllLines, OfLinesBefore, Writes};
+ghost use Rattle.babel_replay.specs.Report.{places_in, note_lines, outcome_lines, seen_by, select_line, select_lines, Reports, ReportsStep, Sends, table_line, table_lines};
+ghost use Rattle.babel_replay.specs.Seen.{updates_in, choice_at, choice_printed, printed_all};
+ghost use Rattle.babel_replay.specs.Taking.{IsReported, IsReportedLine, TakesLine};
 
 use crate::counting::count_messages;
 use crate::log_lines::is_skipped;
@@ -17,8 +22,8 @@ use crate::texts::{CostRefusedLine, NoteLine, OutLine, RefusedLine, SelectLine, 
 use crate::{Action, Event, LineFault, MAX_LINE_LEN, ReplayFault, parse_line};
 use arrayvec::ArrayVec;
 use babel_packet::{Placed, Refusal, decode};
-use babel_speaker::Speaker;
-use babel_state::{Config, MAX_PENDING, Note};
+use babel_speaker::{Speaker, datagrams_take_items};
+use babel_state::{Config, Note};
 use babel_value::Prefix;
 use std::alloc::{AllocError, Global};
 use std::fmt::Display;
@@ -35,22 +40,24 @@ pub fn replay<R: BufRead, W: Write>(
     config: Config,
     log: &mut R,
     out: &mut W,
-) -> Result<(), ReplayFault> {
+) -> Result<(), ReplayFault>
+    ensures valid { IsOk result → IsNone (config_fault config) }
+    ensures report { OnOk result (OfAllLines (R.remaining log.old) (Writes whole_report (first_state config) (W.contents out.old) (W.contents out.new))) }
+    ensures fault { IfErr result (IsReplayFault whole_report (first_state config) (config_fault config) (R.remaining log.old) (R.remaining log.new) (W.contents out.old) (W.contents out.new)) }
+{
+    let speaker = match Speaker::new(alloc, config) {
+        Ok(speaker) => speaker,
+        Err(fault) => return Err(ReplayFault::Config(fault)),
+    };
+    let seen = SeenPrefixes::new(alloc);
     let mut replayer = Replayer {
         alloc,
-        speaker: Speaker::new(alloc, config)?,
-        seen: SeenPrefixes::new(alloc),
+        speaker,
+        seen,
     };
     let mut number = 1;
-    let taken = match Buffers::new(alloc) {
-        Ok(mut buffers) => replayer.take_lines(&mut buffers, log, out, &mut number),
-        Err(_) => Err(LineFault::Memory),
-    };
-    let written = match taken {
-        Err(LineFault::Write) => Ok(()),
-        _ => replayer.write_table(out),
-    };
-    match written.and(taken) {
+    let taken = replayer.take_log(log, out, &mut number);
+    match replayer.end_report(taken, out) {
         Ok(()) => Ok(()),
         Err(fault) => Err(ReplayFault::Line { number, fault }),
     }
@@ -67,7 +74,9 @@ pub(crate) struct Buffers {
 
 impl Buffers {
     /// Room for the longest line.
-    pub(crate) fn new(alloc: Global) -> Result<Buffers, AllocError> {
+    pub(crate) fn new(alloc: Global) -> Result<Buffers, AllocError>
+        ensures { IfOk result (λ buffers. length buffers.octets.items ≡ room) }
+    {
         Ok(Buffers {
             line: Vec::with_capacity(alloc, MAX_LINE_LEN + 1)?,
             octets: vec![in alloc; 0u8; MAX_LINE_LEN / 2]?,
@@ -97,45 +106,165 @@ struct Replayer {
 impl Replayer {
     /// Takes all lines, and writes the report of each. `number` becomes the number of the line at which it
     /// stops, which is one more than the last at the end of the log.
-    fn take_lines<R: BufRead, W: Write>(
+    fn take_log<R: BufRead, W: Write>(
         &mut self,
-        buffers: &mut Buffers,
         log: &mut R,
         out: &mut W,
         number: &mut u64,
-    ) -> Result<(), LineFault> {
+    ) -> Result<(), LineFault>
+        requires { number.old ≡ 1 }
+        ensures taken { OnOk result (OfAllLines (R.remaining log.old) (IsReported number.new self.old.speaker self.old.seen.choices.entries self.new.speaker self.new.seen.choices.entries (W.contents out.old) (W.contents out.new))) }
+        ensures fault { IfErr result (λ fault. OfLinesBefore (R.remaining log.old) number.new fault (IsReported number.new self.old.speaker self.old.seen.choices.entries self.new.speaker self.new.seen.choices.entries (W.contents out.old) (W.contents out.new))) }
+    {
+        match Buffers::new(self.alloc) {
+            Ok(mut buffers) => {
+                self.take_lines(&mut buffers.line, &mut buffers.octets, log, out, number)
+            }
+            Err(_) => Err(LineFault::Memory),
+        }
+    }
+
+    /// The same with the memory that it takes.
+    fn take_lines<R: BufRead, W: Write>(
+        &mut self,
+        line: &mut Vec<u8>,
+        octets: &mut [u8],
+        log: &mut R,
+        out: &mut W,
+        number: &mut u64,
+    ) -> Result<(), LineFault>
+        requires { length octets.old ≡ room }
+        ensures taken { OnOk result (OfAllLines (R.remaining log.old) (IsReported number.new self.old.speaker self.old.seen.choices.entries self.new.speaker self.new.seen.choices.entries (W.contents out.old) (W.contents out.new))) }
+        ensures fault { IfErr result (λ fault. OfLinesBefore (R.remaining log.old) number.new fault (IsReported number.new self.old.speaker self.old.seen.choices.entries self.new.speaker self.new.seen.choices.entries (W.contents out.old) (W.contents out.new))) }
+    {
         for turn in 1..u64::MAX {
             *number = turn;
-            if !read_line(log, &mut buffers.line)? {
+            let more = match self.take_line(line, octets, log, out) {
+                Ok(more) => more,
+                Err(fault) => return Err(fault),
+            };
+            if !more {
                 return Ok(());
             }
-            if is_skipped(&buffers.line) {
-                continue;
-            }
-            let event = parse_line(&buffers.line, &mut buffers.octets)?;
-            self.take_event(&event, out)?;
         }
-        Ok(())
+        // No reader has so many lines.
+        *number = u64::MAX;
+        Err(LineFault::Read)
+    }
+
+    /// Takes the next line, and writes its report. False: the log has ended.
+    fn take_line<R: BufRead, W: Write>(
+        &mut self,
+        line: &mut Vec<u8>,
+        octets: &mut [u8],
+        log: &mut R,
+        out: &mut W,
+    ) -> Result<bool, LineFault>
+        requires { length octets.old ≡ room }
+        ensures taken { IfOk result (λ more. TakesLine (R.remaining log.old) (R.remaining log.new) more (IsReportedLine self.old.speaker self.old.seen.choices.entries self.new.speaker self.new.seen.choices.entries (W.contents out.old) (W.contents out.new)) ((self.new.speaker ≡ self.old.speaker) × (self.new.seen.choices.entries ≡ self.old.seen.choices.entries) × (W.contents out.new ≡ W.contents out.old))) }
+        ensures cause { IfErr result (IsCause (R.remaining log.old) []) }
+        ensures unchanged { IfErr result (λ fault. fault ≢ Write → (self.new.speaker ≡ self.old.speaker) × (self.new.seen.choices.entries ≡ self.old.seen.choices.entries) × (W.contents out.new ≡ W.contents out.old)) }
+    {
+        let more = read_line(log, line)?;
+        if !more {
+            return Ok(false);
+        }
+        if is_skipped(line) {
+            return Ok(true);
+        }
+        let event = match parse_line(line, octets) {
+            Ok(event) => event,
+            Err(fault) => return Err(fault),
+        };
+        self.take_event(&event, out)?;
+        Ok(true)
     }
 
     /// Makes the step of a line, and writes its report. All memory is allocated before anything is
     /// changed or written.
-    fn take_event<W: Write>(&mut self, event: &Event<'_>, out: &mut W) -> Result<(), LineFault> {
+    fn take_event<W: Write>(&mut self, event: &Event<'_>, out: &mut W) -> Result<(), LineFault>
+        ensures report { OnOk result (Reports event.now.time event.now.action self.old.speaker self.old.seen.choices.entries self.new.speaker self.new.seen.choices.entries (W.contents out.old) (W.contents out.new)) }
+        ensures fault { IfErr result (λ fault. (fault ≡ Memory) ⊎ (fault ≡ Write)) }
+        ensures unchanged { IfErr result (λ fault. fault ≢ Write → (self.new.speaker ≡ self.old.speaker) × (self.new.seen.choices.entries ≡ self.old.seen.choices.entries) × (W.contents out.new ≡ W.contents out.old)) }
+    {
         let placed = self.decode(event)?;
-        self.seen.reserve(&placed)?;
-        let outcome = step(&mut self.speaker, event)?;
-        let time = event.time;
-        match outcome {
-            Outcome::Silent => {}
-            Outcome::Notes(notes) => {
-                write_notes(time, &placed, &notes, out)?;
-                self.seen.add_stored(&placed, &notes);
-            }
-            Outcome::Refused(fault) => write_line(out, RefusedLine { time, fault })?,
-            Outcome::CostRefused(fault) => write_line(out, CostRefusedLine { time, fault })?,
+        if self.seen.reserve(&placed).is_err() {
+            return Err(LineFault::Memory);
         }
+        let outcome = step(&mut self.speaker, event)?;
+        self.write_report(event.time, &placed, &outcome, out)
+    }
+
+    /// Writes the report of a line after its step, and sends what the speaker has queued.
+    fn write_report<W: Write>(
+        &mut self,
+        time: u64,
+        placed: &[Placed],
+        outcome: &Outcome,
+        out: &mut W,
+    ) -> Result<(), LineFault>
+        requires { updates_in placed.now ≤ spare self.old.seen.choices }
+        ensures report { OnOk result (ReportsStep time placed.now outcome.now self.old.speaker self.old.seen.choices.entries self.new.speaker self.new.seen.choices.entries (W.contents out.old) (W.contents out.new)) }
+        ensures failed { IfErr result (λ fault. fault ≡ LineFault.Write) }
+    {
+        self.write_outcome(time, placed, outcome, out)?;
         self.write_selections(time, out)?;
         send_datagrams(&mut self.speaker, time, out)
+    }
+
+    /// Writes what became of a line, and adds the prefixes of the Updates that were stored.
+    fn write_outcome<W: Write>(
+        &mut self,
+        time: u64,
+        placed: &[Placed],
+        outcome: &Outcome,
+        out: &mut W,
+    ) -> Result<(), LineFault>
+        requires { updates_in placed.now ≤ spare self.old.seen.choices }
+        ensures written { OnOk result (Appends (W.contents out.old) (W.contents out.new) (outcome_lines time placed.now outcome.now)) }
+        ensures seen { OnOk result (self.new.seen.choices.entries ≡ seen_by placed.now outcome.now self.old.seen.choices.entries) }
+        ensures speaker { self.new.speaker ≡ self.old.speaker }
+        ensures failed { IfErr result (λ fault. fault ≡ LineFault.Write) }
+    {
+        match outcome {
+            Outcome::Silent => Ok(()),
+            Outcome::Notes(notes) => {
+                write_notes(time, placed, notes, out)?;
+                self.seen.add_stored(placed, notes);
+                Ok(())
+            }
+            Outcome::Refused(fault) => write_line(
+                out,
+                RefusedLine {
+                    time,
+                    fault: *fault,
+                },
+            ),
+            Outcome::CostRefused(fault) => write_line(
+                out,
+                CostRefusedLine {
+                    time,
+                    fault: *fault,
+                },
+            ),
+        }
+    }
+
+    /// Writes the `table` lines, unless writing failed already. The fault is that of the log, or L7 if writing
+    /// fails now.
+    fn end_report<W: Write>(
+        &self,
+        taken: Result<(), LineFault>,
+        out: &mut W,
+    ) -> Result<(), LineFault>
+        ensures ok { OnOk result (IsOk taken × Appends (W.contents out.old) (W.contents out.new) (table_lines self.now.speaker self.now.seen.choices.entries)) }
+        ensures fault { IfErr result (λ fault. (fault ≡ LineFault.Write) ⊎ ((taken ≡ Err fault) × Appends (W.contents out.old) (W.contents out.new) (table_lines self.now.speaker self.now.seen.choices.entries))) }
+    {
+        if let Err(LineFault::Write) = taken {
+            return taken;
+        }
+        self.write_table(out)?;
+        taken
     }
 
     /// What the line's datagram means, if it has one that can be read.
@@ -259,8 +388,9 @@ fn send_datagrams<W: Write>(speaker: &mut Speaker, time: u64, out: &mut W) -> Re
     ensures sent { OnOk result (Sends time speaker.old speaker.new (W.contents out.old) (W.contents out.new)) }
     ensures failed { IfErr result (λ fault. fault ≡ LineFault.Write) }
 {
+    datagrams_take_items();
     let mut datagram = ArrayVec::new();
-    for _ in 0..MAX_PENDING + 1 {
+    for _ in 0..speaker.pending_count() + 1 {
         let Some(target) = speaker.next_datagram(time, &mut datagram) else {
             return Ok(());
         };

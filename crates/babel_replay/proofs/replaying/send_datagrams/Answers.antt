@@ -1,17 +1,21 @@
+use Rattle.std.proofs.Common.{length, arith}
 use Rattle.babel_state.specs.Addresses.{transport_at}
 use Rattle.babel_replay.specs.Report.{draft_at}
 use Rattle.babel_replay.proofs.MessageCounts.{counted_of}
-use Rattle.babel_replay.proofs.Sending.{sending_begins, sending_goes}
+use Rattle.babel_replay.proofs.Sending.{sending_begins, sending_goes, fewer_left}
 use Rattle.babel_replay.proofs.replaying.send_datagrams.Goals as goal
 
 pub loop-init : goal.loop-init
-loop-init g c = sending_begins c.args.time c.args.speaker.now (g.W.Write.contents c.args.out.now)
+loop-init g c = (sending_begins c.args.time c.args.speaker.now (g.W.Write.contents c.args.out.now), omega arith)
 
 pub loop-preserved : goal.loop-preserved
-loop-preserved g c =
-    sending_goes c.loop.counter c.args.time c.args.speaker.now c.loop.speaker (g.W.Write.contents c.args.out.now) (g.W.Write.contents c.loop.out)
-    c.in-Some.target c.count_messages-messages.result c.next_datagram.new.self (g.W.Write.contents c.write_line.new.out)
-    c.loop.invariant c.in-Some.ensures.target
-    (counted_of (transport_at c.in-Some.target.iface c.loop.speaker) c.next_datagram.new.out.items c.deref.result.now
-    (draft_at c.args.time c.loop.speaker).messages c.count_messages-messages.result c.in-Some.ensures.octets c.deref.ensures.0 c.count_messages-messages.ensures)
-    c.next_datagram.ensures.state c.in_ok-write_line.ensures.written
+loop-preserved g c = (
+  sending_goes c.loop.counter c.args.time c.args.speaker.now c.loop.speaker (g.W.Write.contents c.args.out.now) (g.W.Write.contents c.loop.out)
+      c.in-Some.target c.count_messages-messages.result c.next_datagram.new.self (g.W.Write.contents c.write_line.new.out)
+      c.loop.invariant.0 c.in-Some.ensures.target
+      (counted_of (transport_at c.in-Some.target.iface c.loop.speaker) c.next_datagram.new.out.items c.deref.result.now
+      (draft_at c.args.time c.loop.speaker).messages c.count_messages-messages.result c.in-Some.ensures.octets c.deref.ensures.0 c.count_messages-messages.ensures)
+      c.next_datagram.ensures.state c.in_ok-write_line.ensures.written,
+  fewer_left c.datagrams_take_items.ensures c.loop.counter (length c.args.speaker.now.pending.items) c.args.time c.loop.speaker c.in-Some.target
+      c.next_datagram.new.self c.loop.invariant.1 c.in-Some.ensures.target c.next_datagram.ensures.state,
+)
