@@ -1,5 +1,6 @@
 -- Octets are in the order of the numbers that they spell, the highest octet first.
-use Rattle.std.proofs.Common.{◌≡◌, ℕ, zero, suc, ◌<◌, ◌≤◌, ◌+◌, ◌*◌, ◌^◌, List, [], ◌∷◌, length, take, drop, get_or, refl, sym, ap, ◌∙◌, arith, w32, w64}
+use Rattle.std.proofs.Common.{◌≡◌, ℕ, zero, suc, ◌<◌, ◌≤◌, ◌+◌, ◌*◌, ◌^◌, List, [], ◌∷◌, length, take, drop, get_or, refl, sym, ap, ◌∙◌, arith, length-drop, w32, w64}
+use Rattle.std.proofs.lemmas.List.{take_all, get_or-drop}
 use Rattle.std.specs.declared.cmp.Ordering.{Ordering}
 use Rattle.std.specs.declared.cmp.Ordering.TheVariants.{Less, Equal, Greater}
 use Rattle.std.specs.Ordering.{nat_cmp, ordering_then, MatchOrdering}
@@ -44,24 +45,35 @@ cmp-big_endian a b (x ∷ xs) (y ∷ ys) long xs_small ys_small =
     ∙ ap (λ o. ordering_then o (octets_cmp xs ys)) (sym (octet_more a b x y (xs_small 0) (ys_small 0)))
     ∙ then_then (nat_cmp a b) (nat_cmp x y) (octets_cmp xs ys)
 
-abbrev listed : ℕ → (ℕ → ℕ) → List ℕ
+-- The first n values of f.
+abbrev pub listed : ℕ → (ℕ → ℕ) → List ℕ
 listed zero f = []
 listed (suc n) f = f 0 ∷ listed n (λ i. f (suc i))
 
-listed-get_or : (xs : List ℕ) → listed (length xs) (λ i. get_or xs i 0) ≡ xs
-listed-get_or [] = refl
-listed-get_or (x ∷ xs) = ap (λ rest. x ∷ rest) (listed-get_or xs)
+listed-take : (n : ℕ) (xs : List ℕ) → n ≤ length xs → listed n (λ i. get_or xs i 0) ≡ take n xs
+listed-take zero xs long = refl
+listed-take (suc n) [] long = absurd (omega arith)
+listed-take (suc n) (x ∷ xs) long = ap (λ rest. x ∷ rest) (listed-take n xs (omega arith))
+
+-- The first 8 of 16 octets one by one, and the last 8.
+pub first_eight : (xs : List ℕ) → length xs ≡ 16 → listed 8 (λ i. get_or xs i 0) ≡ take 8 xs
+first_eight xs long = listed-take 8 xs (omega arith)
+
+pub last_eight : (xs : List ℕ) → length xs ≡ 16 → listed 8 (λ i. get_or xs (8 + i) 0) ≡ drop 8 xs
+last_eight xs long =
+    let few : length (drop 8 xs) ≡ 8 = omega (arith, length-drop 8 xs) in
+    sym (λ j. listed 8 (λ i. get_or-drop 8 xs i 0 j)) ∙ listed-take 8 (drop 8 xs) (omega arith) ∙ take_all 8 (drop 8 xs) (omega arith)
 
 four_spell : (xs : List ℕ) → length xs ≡ 4 → from_be_bytes w32 xs ≡ big_endian 0 xs
 four_spell xs long =
     let sum : get_or xs 0 0 * 256 ^ 3 + get_or xs 1 0 * 256 ^ 2 + get_or xs 2 0 * 256 ^ 1 + get_or xs 3 0 ≡ big_endian 0 (listed 4 (λ i. get_or xs i 0)) = omega arith in
-    sum ∙ ap (λ n. big_endian 0 (listed n (λ i. get_or xs i 0))) (sym long) ∙ ap (big_endian 0) (listed-get_or xs)
+    sum ∙ ap (big_endian 0) (listed-take 4 xs (omega arith) ∙ take_all 4 xs (omega arith))
 
 eight_spell : (xs : List ℕ) → length xs ≡ 8 → from_be_bytes w64 xs ≡ big_endian 0 xs
 eight_spell xs long =
     let sum : get_or xs 0 0 * 256 ^ 7 + get_or xs 1 0 * 256 ^ 6 + get_or xs 2 0 * 256 ^ 5 + get_or xs 3 0 * 256 ^ 4 + get_or xs 4 0 * 256 ^ 3 + get_or xs 5 0 * 256 ^ 2 + get_or xs 6 0 * 256 ^ 1 + get_or xs 7 0 ≡
     big_endian 0 (listed 8 (λ i. get_or xs i 0)) = omega arith in
-    sum ∙ ap (λ n. big_endian 0 (listed n (λ i. get_or xs i 0))) (sym long) ∙ ap (big_endian 0) (listed-get_or xs)
+    sum ∙ ap (big_endian 0) (listed-take 8 xs (omega arith) ∙ take_all 8 xs (omega arith))
 
 pub cmp_numbers4 : (xs ys : List ℕ) → length xs ≡ 4 → length ys ≡ 4 → AreSmall xs → AreSmall ys →
     nat_cmp (from_be_bytes w32 xs) (from_be_bytes w32 ys) ≡ octets_cmp xs ys

@@ -1,6 +1,6 @@
 //! The orders of octets. They are compared as numbers, which takes one step in place of eight.
 
-ghost use Rattle.std.specs.Prelude.{◌≡◌, ◌+◌, ◌≤◌, slice_range};
+ghost use Rattle.std.specs.Prelude.{◌≡◌, take, drop};
 ghost use Rattle.std.specs.Int.{from_be_bytes};
 ghost use Rattle.babel_value.specs.Orders.{octets_cmp};
 
@@ -29,20 +29,27 @@ pub(crate) fn compare8(one: &[u8; 8], other: &[u8; 8]) -> Ordering
 pub(crate) fn compare16(one: &[u8; 16], other: &[u8; 16]) -> Ordering
     ensures { result ≡ octets_cmp one.now other.now }
 {
-    let first = compare8(&eight(one, 0), &eight(other, 0));
+    let first = compare8(&first_half(one), &first_half(other));
     if first.is_ne() {
         return first;
     }
-    compare8(&eight(one, 8), &eight(other, 8))
+    compare8(&last_half(one), &last_half(other))
 }
 
-/// The 8 octets from this index on.
 #[inline]
-fn eight(octets: &[u8; 16], from: usize) -> [u8; 8]
-    requires { from ≤ 8 }
-    ensures { result ≡ slice_range octets.now from (from + 8) }
+#[tactic(auto, using(crate::proofs::Numbers::first_eight))]
+fn first_half(octets: &[u8; 16]) -> [u8; 8]
+    ensures { result ≡ take 8 octets.now }
 {
-    let mut eight = [0; 8];
-    eight.copy_from_slice(&octets[from..from + 8]);
-    eight
+    let [a, b, c, d, e, f, g, h, ..] = *octets;
+    [a, b, c, d, e, f, g, h]
+}
+
+#[inline]
+#[tactic(auto, using(crate::proofs::Numbers::last_eight))]
+fn last_half(octets: &[u8; 16]) -> [u8; 8]
+    ensures { result ≡ drop 8 octets.now }
+{
+    let [.., a, b, c, d, e, f, g, h] = *octets;
+    [a, b, c, d, e, f, g, h]
 }

@@ -1,9 +1,8 @@
 -- The first 8 octets decide, then the last 8.
-use Rattle.std.proofs.Common.{◌≡◌, true, false, take, drop, refl, ap, ◌∙◌, arith, length-drop}
+use Rattle.std.proofs.Common.{◌≡◌, true, false, take, drop, refl, ap, ◌∙◌, arith}
 use Rattle.std.specs.declared.cmp.Ordering.{Ordering}
 use Rattle.std.specs.declared.cmp.Ordering.TheVariants.{Less, Equal, Greater}
 use Rattle.std.specs.Ordering.{ordering_then, is_ne}
-use Rattle.std.proofs.lemmas.List.{take_all}
 use Rattle.babel_value.specs.Orders.{octets_cmp}
 use Rattle.babel_value.proofs.Numbers.{cmp_parts}
 use Rattle.babel_value.proofs.orders.compare16.Goals as goal
@@ -23,16 +22,14 @@ returns-then-is_ne c =
     let one = c.args.one.now in
     let other = c.args.other.now in
     decides c.compare8-first.result (octets_cmp (drop 8 one) (drop 8 other)) c.if-is_ne.ensures
-    ∙ ap (λ o. ordering_then o (octets_cmp (drop 8 one) (drop 8 other))) (rw (c.eight.ensures, c.eight-2.ensures) at c.compare8-first.ensures)
+    ∙ ap (λ o. ordering_then o (octets_cmp (drop 8 one) (drop 8 other))) (rw (c.first_half.ensures, c.first_half-2.ensures) at c.compare8-first.ensures)
     ∙ cmp_parts 8 one other (omega arith) (omega arith)
 
 pub returns : goal.returns
 returns c =
     let one = c.args.one.now in
     let other = c.args.other.now in
-    let last : c.eight-3.result ≡ drop 8 one = c.eight-3.ensures ∙ take_all 8 (drop 8 one) (omega (arith, length-drop 8 one)) in
-    let other_last : c.eight-4.result ≡ drop 8 other = c.eight-4.ensures ∙ take_all 8 (drop 8 other) (omega (arith, length-drop 8 other)) in
     leaves c.compare8-first.result c.compare8.result c.if-is_ne.ensures
-    ∙ ap (λ o. ordering_then o c.compare8.result) (rw (c.eight.ensures, c.eight-2.ensures) at c.compare8-first.ensures)
-    ∙ ap (ordering_then (octets_cmp (take 8 one) (take 8 other))) (rw (last, other_last) at c.compare8.ensures)
+    ∙ ap (λ o. ordering_then o c.compare8.result) (rw (c.first_half.ensures, c.first_half-2.ensures) at c.compare8-first.ensures)
+    ∙ ap (ordering_then (octets_cmp (take 8 one) (take 8 other))) (rw (c.last_half.ensures, c.last_half-2.ensures) at c.compare8.ensures)
     ∙ cmp_parts 8 one other (omega arith) (omega arith)
