@@ -185,7 +185,7 @@ fn place_on<L: Ledger, K: Key, V: Copy>(
     search(table, key, &mut steps)
 }
 
-/// The same by a walk from an index on, if all keys up to it are lesser; else from the first.
+/// The same, by a walk from the index `near` on if the key there is lesser.
 fn place_near<K: Key, V: Copy>(
     table: &SortedTable<K, V>,
     near: usize,
@@ -210,34 +210,35 @@ fn near_on<L: Ledger, K: Key, V: Copy>(
     ensures missing { IfErr result (IsGap K.order key.now table.now.entries.items) }
 {
     let mut steps = Steps::<L>::open(blank);
-    let start = start_near(table, near, key, &mut steps);
+    if near >= table.entries.len() {
+        return search(table, key, &mut steps);
+    }
+    match key.compare(&table.entries[near].0, &mut steps) {
+        Ordering::Less => search(table, key, &mut steps),
+        Ordering::Equal => Ok(near),
+        Ordering::Greater => walk(table, near + 1, key, &mut steps),
+    }
+}
+
+/// The same by a walk from an index on; all keys before it are lesser.
+fn walk<L: Ledger, K: Key, V: Copy>(
+    table: &SortedTable<K, V>,
+    start: usize,
+    key: &K,
+    steps: &mut Steps<L>,
+) -> Result<usize, usize>
+    requires within { start ≤ length table.now.entries.items }
+    requires lesser { are_lesser K.order key.now (take start table.now.entries.items) ≡ true }
+    ensures found { IfOk result (IsAt key.now table.now.entries.items) }
+    ensures missing { IfErr result (IsGap K.order key.now table.now.entries.items) }
+{
     let len = table.entries.len();
     for index in start..len {
-        match key.compare(&table.entries[index].0, &mut steps) {
+        match key.compare(&table.entries[index].0, steps) {
             Ordering::Less => return Err(index),
             Ordering::Equal => return Ok(index),
             Ordering::Greater => {}
         }
     }
     Err(len)
-}
-
-/// The index from which on the walk looks for the key.
-fn start_near<L: Ledger, K: Key, V: Copy>(
-    table: &SortedTable<K, V>,
-    near: usize,
-    key: &K,
-    steps: &mut Steps<L>,
-) -> usize
-    ensures within { result ≤ length table.now.entries.items }
-    ensures lesser { are_lesser K.order key.now (take result table.now.entries.items) ≡ true }
-{
-    if near >= table.entries.len() {
-        return 0;
-    }
-    if key.compare(&table.entries[near].0, steps).is_gt() {
-        near + 1
-    } else {
-        0
-    }
 }
