@@ -1,6 +1,7 @@
 //! The command `net`: the next hops of a network after each event of a scenario.
 #![tactic(auto)]
 
+mod errors;
 mod hops;
 mod running;
 

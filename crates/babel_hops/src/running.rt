@@ -1,47 +1,13 @@
 //! `babel net SCENARIO`.
 
+use crate::errors::NetCommandFault;
 use crate::hops::{Hops, node_of};
-use babel_config::{FileFault, Scenario, read_file, read_scenario};
+use babel_config::{Scenario, read_file, read_scenario};
 use babel_net::{Event, NetFault, StepFault};
 use babel_network::Network;
 use babel_show::{Fault, Status, report};
-use std::alloc::{AllocError, Global};
+use std::alloc::Global;
 use std::io::{Read, Write};
-
-/// Why a scenario isn't run to its end.
-#[derive(Clone, Copy, Debug, PartialEq, Eq)]
-enum NetCommandFault {
-    /// The file holds no scenario.
-    File(FileFault),
-    /// No network can be made of the configurations.
-    Net(NetFault),
-    /// An allocation or writing failed.
-    Output(Fault),
-}
-
-impl From<FileFault> for NetCommandFault {
-    fn from(fault: FileFault) -> NetCommandFault {
-        NetCommandFault::File(fault)
-    }
-}
-
-impl From<NetFault> for NetCommandFault {
-    fn from(fault: NetFault) -> NetCommandFault {
-        NetCommandFault::Net(fault)
-    }
-}
-
-impl From<Fault> for NetCommandFault {
-    fn from(fault: Fault) -> NetCommandFault {
-        NetCommandFault::Output(fault)
-    }
-}
-
-impl From<AllocError> for NetCommandFault {
-    fn from(_error: AllocError) -> NetCommandFault {
-        NetCommandFault::Output(Fault::Memory)
-    }
-}
 
 /// Runs the network of the scenario in the file. After each event it writes the next hops that changed, and
 /// at the end how many events and datagrams there were. A refused event is the last line. Else a code is

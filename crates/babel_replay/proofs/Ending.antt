@@ -3,8 +3,8 @@ use Rattle.std.proofs.Common.{◌≡◌, ◌+◌, ◌⊎◌, inl, inr, ℕ, List
 use Rattle.std.proofs.lemmas.Result.{IfErr-at_err}
 use Rattle.std.specs.Io.KnownBytes.{Appends}
 use Rattle.babel_state.specs.State.{State}
-use Rattle.babel_replay.specs.declared.faults.LineFault.{LineFault}
-use Rattle.babel_replay.specs.declared.faults.LineFault.TheVariants.{Write}
+use Rattle.babel_replay.specs.declared.errors.LineFault.{LineFault}
+use Rattle.babel_replay.specs.declared.errors.LineFault.TheVariants.{Write}
 use Rattle.babel_replay.specs.LogReports.{OfAllLines, OfLinesBefore, IsLogReport, Writes, whole_report}
 use Rattle.babel_replay.specs.Report.{table_lines}
 use Rattle.babel_replay.specs.Seen.{SeenPrefix}

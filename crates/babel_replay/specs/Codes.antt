@@ -1,7 +1,7 @@
 -- The codes of the faults of a log (profile).
 use Rattle.std.specs.Prelude.{ℕ, List, codes}
-use Rattle.babel_replay.specs.declared.faults.LineFault.{LineFault}
-use Rattle.babel_replay.specs.declared.faults.LineFault.TheVariants.{Form, Number, Address, Hex, TooLong, Read, Write, Memory}
+use Rattle.babel_replay.specs.declared.errors.LineFault.{LineFault}
+use Rattle.babel_replay.specs.declared.errors.LineFault.TheVariants.{Form, Number, Address, Hex, TooLong, Read, Write, Memory}
 
 abbrev pub line_fault_code : LineFault → List ℕ
 line_fault_code Form = codes "L1"

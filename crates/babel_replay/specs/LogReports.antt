@@ -4,10 +4,10 @@ use Rattle.std.specs.Io.KnownBytes.{Appends, Keeps}
 use Rattle.babel_state.specs.declared.errors.ConfigFault.{ConfigFault}
 use Rattle.babel_state.specs.State.{State}
 use Rattle.babel_speaker.specs.Making.{IsMakingFault}
-use Rattle.babel_replay.specs.declared.faults.LineFault.{LineFault}
-use Rattle.babel_replay.specs.declared.faults.LineFault.TheVariants.{TooLong, Read, Write, Memory}
-use Rattle.babel_replay.specs.declared.faults.ReplayFault.{ReplayFault}
-use Rattle.babel_replay.specs.declared.faults.ReplayFault.TheVariants as faults
+use Rattle.babel_replay.specs.declared.errors.LineFault.{LineFault}
+use Rattle.babel_replay.specs.declared.errors.LineFault.TheVariants.{TooLong, Read, Write, Memory}
+use Rattle.babel_replay.specs.declared.errors.ReplayFault.{ReplayFault}
+use Rattle.babel_replay.specs.declared.errors.ReplayFault.TheVariants as faults
 use Rattle.babel_replay.specs.declared.log_lines.Action.{Action}
 use Rattle.babel_replay.specs.LogLines.{lines_of, is_skipped_line, IsLine, IsLineFault, IsTooLong}
 use Rattle.babel_replay.specs.Report.{IsReport, table_lines}

@@ -8,8 +8,8 @@
 #![tactic(auto)]
 
 mod counting;
+mod errors;
 mod explaining;
-mod faults;
 mod log_lines;
 mod reading;
 mod replaying;
@@ -17,7 +17,7 @@ mod seen;
 mod stepping;
 mod texts;
 
+pub use errors::{LineFault, ReplayFault};
 pub use explaining::explain;
-pub use faults::{LineFault, ReplayFault};
 pub use log_lines::{Action, Event, MAX_LINE_LEN, parse_line};
 pub use replaying::replay;

@@ -2,7 +2,7 @@
 
 ghost use Rattle.std.specs.Prelude.{◌≡◌, IfOk, IfErr, OnErr};
 ghost use Rattle.babel_replay.specs.Stepping.{Steps};
-ghost use Rattle.babel_replay.specs.declared.faults.LineFault.TheVariants.{Memory};
+ghost use Rattle.babel_replay.specs.declared.errors.LineFault.TheVariants.{Memory};
 
 use crate::{Action, Event, LineFault};
 use babel_packet::Refusal;

@@ -1,6 +1,6 @@
 //! `babel explain CONFIG LOG PREFIX`.
 
-use crate::faults::{CommandFault, status};
+use crate::errors::{CommandFault, status};
 use crate::replaying::{READ_LEN, config_in};
 use babel_config::FileFault;
 use babel_show::Status;

@@ -4,8 +4,8 @@
 //! readers, and arguments are text.
 #![tactic(auto)]
 
+mod errors;
 mod explaining;
-mod faults;
 mod replaying;
 
 pub use explaining::explain;

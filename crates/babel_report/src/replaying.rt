@@ -1,6 +1,6 @@
 //! `babel replay CONFIG LOG`.
 
-use crate::faults::{CommandFault, status};
+use crate::errors::{CommandFault, status};
 use babel_config::{FileFault, read_config, read_file};
 use babel_show::Status;
 use babel_state::Config;

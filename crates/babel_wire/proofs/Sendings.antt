@@ -6,7 +6,7 @@ use Rattle.babel_state.specs.declared.items.Target.{Target}
 use Rattle.babel_state.specs.Addresses.{transport_at}
 use Rattle.babel_state.specs.State.{State}
 use Rattle.babel_speaker.specs.Sending.{MeansFrom}
-use Rattle.babel_wire.specs.declared.wire.WireFault.{WireFault}
+use Rattle.babel_wire.specs.declared.errors.WireFault.{WireFault}
 use Rattle.babel_wire.specs.declared.report.Report.{Report}
 use Rattle.babel_wire.specs.Calls.{Call, Send, Sending, Grows, call_of_send, sending_of, failures}
 use Rattle.babel_wire.specs.Turns.{draft_at, IsDraftSent, AreSent, AreSentSoFar, IsSent, sent_by, lost_by}

@@ -3,7 +3,7 @@ use Rattle.std.specs.Prelude.{◌≡◌, ◌≤◌, ℕ, Bool, true, false, List
 use Rattle.babel_value.specs.declared.addresses.Addr.{Addr}
 use Rattle.babel_state.specs.declared.items.Target.{Target}
 use Rattle.babel_wire.specs.declared.wire.Arrival.{Arrival}
-use Rattle.babel_wire.specs.declared.wire.WireFault.{WireFault}
+use Rattle.babel_wire.specs.declared.errors.WireFault.{WireFault}
 
 -- What receiving returned.
 pub data Receipt : Type 0 where

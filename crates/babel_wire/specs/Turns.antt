@@ -54,11 +54,15 @@ abbrev pub AreSent : ℕ → State → List Sending → State → Type 0
 AreSent now old [] new = new ≡ old
 AreSent now old (x ∷ xs) new = IsDraftSent now old x × AreSent now (draft_at now old).state xs new
 
--- Datagrams are sent until there is none, or there were 64.
+-- How many datagrams are sent in a turn at most (profile).
+abbrev pub max_sends : ℕ
+max_sends = 64
+
+-- Datagrams are sent until there is none, or there were so many.
 abbrev pub Ends : ℕ → ℕ → State → State → Type 0
 Ends now count last new =
-    ((count ≡ 64) × (new ≡ last))
-    ⊎ ((count < 64) × ((draft_at now last).target ≡ None) × (new ≡ (draft_at now last).state))
+    ((count ≡ max_sends) × (new ≡ last))
+    ⊎ ((count < max_sends) × ((draft_at now last).target ≡ None) × (new ≡ (draft_at now last).state))
 
 pub record SendsPending (now : ℕ) (old : State) (sendings : List Sending) (new : State) : Type 0 where
   pub last : State

@@ -2,7 +2,7 @@
 
 ghost use Rattle.std.specs.Prelude.{◌≡◌, ◌+◌, ◌*◌, ◌≤◌, ◌<◌, ◌^◌};
 ghost use Rattle.babel_wire.specs.Calls.{receipt_of, IsWithin};
-ghost use Rattle.babel_wire.specs.Turns.{IsRun, IsOneTurn, IsReceived, IsSent};
+ghost use Rattle.babel_wire.specs.Turns.{max_sends, IsRun, IsOneTurn, IsReceived, IsSent};
 
 use crate::{Arrival, Report, Wire, WireFault};
 use arrayvec::ArrayVec;
@@ -23,9 +23,9 @@ pub fn drive<W: Wire>(speaker: &mut Speaker, wire: &mut W, buf: &mut [u8], turns
     ensures run { IsRun turns speaker.old (W.history wire.old) speaker.new (W.history wire.new) result }
     ensures faults { W.fault_count wire.new ≡ W.fault_count wire.old + result.faults }
     ensures received_at_most { result.received ≤ turns }
-    ensures sent_at_most { result.sent ≤ 64 * turns }
+    ensures sent_at_most { result.sent ≤ max_sends * turns }
     ensures refused_at_most { result.refused ≤ turns }
-    ensures faults_at_most { result.faults ≤ 65 * turns }
+    ensures faults_at_most { result.faults ≤ (max_sends + 1) * turns }
 {
     let mut report = Report::default();
     let mut out = ArrayVec::new();
@@ -46,13 +46,13 @@ fn run_turn<W: Wire>(
     buf: &mut [u8],
     out: &mut ArrayVec<u8, DATAGRAM_LEN>,
 ) -> Report
-    requires { W.fault_count wire.old + 65 < 2 ^ 64 }
+    requires { W.fault_count wire.old + (max_sends + 1) < 2 ^ 64 }
     ensures turn { IsOneTurn speaker.old (W.history wire.old) speaker.new (W.history wire.new) result }
     ensures faults { W.fault_count wire.new ≡ W.fault_count wire.old + result.faults }
     ensures received_at_most { result.received ≤ 1 }
-    ensures sent_at_most { result.sent ≤ 64 }
+    ensures sent_at_most { result.sent ≤ max_sends }
     ensures refused_at_most { result.refused ≤ 1 }
-    ensures faults_at_most { result.faults ≤ 65 }
+    ensures faults_at_most { result.faults ≤ max_sends + 1 }
 {
     let came = wire.recv(buf);
     let now = wire.now();
@@ -102,10 +102,10 @@ fn send_pending<W: Wire>(
     now: u64,
     out: &mut ArrayVec<u8, DATAGRAM_LEN>,
 ) -> Report
-    requires { W.fault_count wire.old + 64 < 2 ^ 64 }
+    requires { W.fault_count wire.old + max_sends < 2 ^ 64 }
     ensures sends { IsSent now speaker.old (W.history wire.old) speaker.new (W.history wire.new) result }
     ensures faults { W.fault_count wire.new ≡ W.fault_count wire.old + result.faults }
-    ensures at_most { result.sent + result.faults ≤ 64 }
+    ensures at_most { result.sent + result.faults ≤ max_sends }
 {
     let mut report = Report::default();
     for _ in 0..MAX_SENDS {

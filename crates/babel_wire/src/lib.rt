@@ -3,9 +3,11 @@
 #![tactic(auto)]
 
 mod driving;
+mod errors;
 mod report;
 mod wire;
 
 pub use driving::drive;
+pub use errors::WireFault;
 pub use report::Report;
-pub use wire::{Arrival, Wire, WireFault};
+pub use wire::{Arrival, Wire};

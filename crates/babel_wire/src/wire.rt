@@ -3,9 +3,9 @@
 ghost use Rattle.std.specs.Prelude.{◌≡◌, ◌+◌, ◌<◌, ◌^◌, ℕ, List, [], ◌∷◌, Option, None};
 ghost use Rattle.babel_wire.specs.Calls.{Call, call_of_recv, call_of_now, call_of_send, Grows, failures, IsWithin};
 
+use crate::WireFault;
 use babel_state::Target;
 use babel_value::Addr;
-use thiserror::Error;
 
 /// A datagram that came. Its octets are at the start of the buffer that was passed to [`Wire::recv`].
 #[derive(Clone, Copy, Debug, PartialEq, Eq)]
@@ -17,11 +17,6 @@ pub struct Arrival {
     /// How many octets it has.
     pub len: usize,
 }
-
-/// A call of a wire failed. Nothing was received or sent.
-#[derive(Clone, Copy, Debug, PartialEq, Eq, Error)]
-#[error("the wire failed")]
-pub struct WireFault;
 
 /// A clock, and datagrams that come and go.
 pub trait Wire {

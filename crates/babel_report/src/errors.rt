@@ -1,8 +1,8 @@
 //! Why a command refuses, and how that is written.
 
 use babel_config::FileFault;
-use babel_replay::{LineFault, ReplayFault};
-use babel_show::Status;
+use babel_replay::ReplayFault;
+use babel_show::{Fault, Status};
 use std::io;
 use std::io::Write;
 
@@ -13,8 +13,8 @@ pub(crate) enum CommandFault {
     File(FileFault),
     /// C1 to C7, or a fault of the log.
     Replay(ReplayFault),
-    /// An allocation before the log failed.
-    Memory,
+    /// L8: an allocation before the log failed.
+    Output(Fault),
 }
 
 impl From<FileFault> for CommandFault {
@@ -32,7 +32,7 @@ impl From<ReplayFault> for CommandFault {
 /// The room for what is read of the log ahead of its lines couldn't be allocated.
 impl From<io::Error> for CommandFault {
     fn from(_error: io::Error) -> CommandFault {
-        CommandFault::Memory
+        CommandFault::Output(Fault::Memory)
     }
 }
 
@@ -51,7 +51,7 @@ pub(crate) fn status<E: Write>(outcome: Result<(), CommandFault>, err: &mut E) -
         CommandFault::Replay(ReplayFault::Line { number, fault }) => {
             writeln!(err, "babel: line {number} {}", fault.code())
         }
-        CommandFault::Memory => writeln!(err, "babel: {}", LineFault::Memory.code()),
+        CommandFault::Output(fault) => writeln!(err, "babel: {}", fault.code()),
     };
     Status::Refused
 }
