@@ -1,5 +1,5 @@
 -- The keys of a table, from the first on.
-use Rattle.std.proofs.Common.{◌≡◌, ◌&&◌, true, false, List, [], ◌∷◌, ◌++◌, string_bytes, refl}
+use Rattle.std.proofs.Common.{◌≡◌, true, false, List, [], ◌∷◌, ◌++◌, string_bytes, refl}
 use Rattle.std.proofs.lemmas.Bool.{and_parts, and_from, and_right, and_left}
 use Rattle.toml.specs.View.{members_view}
 use Rattle.toml.proofs.Views.{Entry}

@@ -18,9 +18,11 @@ const DEFAULT_HELLO_INTERVAL: u16 = 400;
 
 /// A table of a configuration.
 impl FromToml for Config {
-    ghost use Rattle.babel_config.specs.Configs.{IsConfig};
+    ghost use Rattle.babel_config.specs.Configs.{IsConfig, HasConfigFault};
 
     ghost means = { IsConfig };
+
+    ghost fault = { HasConfigFault };
 
     fn from_toml(alloc: Global, value: &Value) -> Result<Config, FileFault> {
         if !is_table_of(TableKind::Config, value) {
@@ -43,9 +45,11 @@ impl FromToml for Config {
 
 /// A table of an interface.
 impl FromToml for Interface {
-    ghost use Rattle.babel_config.specs.Configs.{IsInterface};
+    ghost use Rattle.babel_config.specs.Configs.{IsInterface, HasInterfaceFault};
 
     ghost means = { IsInterface };
+
+    ghost fault = { HasInterfaceFault };
 
     fn from_toml(alloc: Global, value: &Value) -> Result<Interface, FileFault> {
         if !is_table_of(TableKind::Interface, value) {

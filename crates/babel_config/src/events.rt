@@ -1,39 +1,22 @@
 //! The texts of events.
 
-ghost use Rattle.std.specs.Prelude.{◌≤◌, IfSome};
+ghost use Rattle.std.specs.Prelude.{◌≡◌, IfOk, IfErr, IfSome, None};
+ghost use Rattle.toml.specs.View.{view};
 ghost use Rattle.babel_text.specs.Readings.{Reads};
 ghost use Rattle.babel_text.specs.Numbers.{IsNumberText};
+ghost use Rattle.babel_text.specs.Prefixes.{IsPrefixText};
+ghost use Rattle.babel_config.specs.Values.{IsText, IsList};
+ghost use Rattle.babel_config.specs.Faults.{IsCaused, HasListFault};
+ghost use Rattle.babel_config.specs.Events.{HasBlank, before_blank, after_blank, IsPair, IsLong, IsEventText};
+ghost use Rattle.babel_config.specs.Scenarios.{HasEventFault};
 
 use crate::FileFault;
+use crate::values::FromToml;
 use babel_net::Event;
 use babel_text::{parse_prefix, parse_u8, parse_u16, parse_u64};
+use babel_value::Prefix;
 use std::alloc::Global;
 use toml::Value;
-
-/// The most words of an event: those of `deliver`.
-const MAX_WORDS: usize = 5;
-
-/// The words of a text, which one blank separates: a front of the array, as many as the number. `None` if
-/// there are more than `MAX_WORDS`.
-fn words_of(text: &str) -> Option<([&str; MAX_WORDS], usize)>
-    ensures { IfSome result (λ words. words.1 ≤ 5) }
-{
-    let mut words = [""; MAX_WORDS];
-    let mut rest = text;
-    for count in 0..MAX_WORDS {
-        match rest.split_once(' ') {
-            Some((word, after)) => {
-                words[count] = word;
-                rest = after;
-            }
-            None => {
-                words[count] = rest;
-                return Some((words, count + 1));
-            }
-        }
-    }
-    None
-}
 
 /// The number of a node or of a datagram.
 fn parse_usize(text: &str) -> Option<usize>
@@ -43,57 +26,156 @@ fn parse_usize(text: &str) -> Option<usize>
     usize::try_from(number).ok()
 }
 
+/// The text before the first blank, and the text after it.
+fn split_word(text: &str) -> Option<(&str, &str)>
+    ensures parted { IfSome result (λ parts. HasBlank text.now) }
+    ensures word { IfSome result (λ parts. parts.0.now ≡ before_blank text.now) }
+    ensures rest { IfSome result (λ parts. parts.1.now ≡ after_blank text.now) }
+    ensures whole { result ≡ None → ¬ (HasBlank text.now) }
+{
+    text.split_once(' ')
+}
+
+/// `N T`: a node and a moment.
+fn parse_node_and_moment(text: &str) -> Option<(usize, u64)>
+    ensures { Reads (IsPair IsLong IsLong) text.now result }
+{
+    let (node, now) = text.split_once(' ')?;
+    Some((parse_usize(node)?, parse_u64(now)?))
+}
+
+/// `N P`: a node and a prefix.
+fn parse_node_and_prefix(text: &str) -> Option<(usize, Prefix)>
+    ensures { Reads (IsPair IsLong IsPrefixText) text.now result }
+{
+    let (node, prefix) = split_word(text)?;
+    Some((parse_usize(node)?, parse_prefix(prefix)?))
+}
+
+/// `I T`: an interface and a moment.
+fn parse_iface_and_moment(text: &str) -> Option<(u8, u64)>
+    ensures { Reads (IsPair (IsNumberText 8) IsLong) text.now result }
+{
+    let (iface, now) = text.split_once(' ')?;
+    Some((parse_u8(iface)?, parse_u64(now)?))
+}
+
+/// `I C`: an interface and a cost.
+fn parse_iface_and_cost(text: &str) -> Option<(u8, u16)>
+    ensures { Reads (IsPair (IsNumberText 8) (IsNumberText 16)) text.now result }
+{
+    let (iface, cost) = text.split_once(' ')?;
+    Some((parse_u8(iface)?, parse_u16(cost)?))
+}
+
+/// `K N I T`: a datagram, a node, an interface and a moment.
+fn parse_delivery(text: &str) -> Option<(usize, (usize, (u8, u64)))>
+    ensures { Reads (IsPair IsLong (IsPair IsLong (IsPair (IsNumberText 8) IsLong))) text.now result }
+{
+    let (datagram, rest) = text.split_once(' ')?;
+    let (node, rest) = rest.split_once(' ')?;
+    Some((
+        parse_usize(datagram)?,
+        (parse_usize(node)?, parse_iface_and_moment(rest)?),
+    ))
+}
+
+/// `N I C`: a node, an interface and a cost.
+fn parse_cost(text: &str) -> Option<(usize, (u8, u16))>
+    ensures { Reads (IsPair IsLong (IsPair (IsNumberText 8) (IsNumberText 16))) text.now result }
+{
+    let (node, rest) = text.split_once(' ')?;
+    Some((parse_usize(node)?, parse_iface_and_cost(rest)?))
+}
+
 /// The event that the text spells.
-pub(crate) fn parse_event(text: &str) -> Option<Event> {
-    let (words, count) = words_of(text)?;
-    match &words[..count] {
-        ["tick", node, now] => Some(Event::Tick {
-            node: parse_usize(node)?,
-            now: parse_u64(now)?,
-        }),
-        ["emit", node, now] => Some(Event::Emit {
-            node: parse_usize(node)?,
-            now: parse_u64(now)?,
-        }),
-        ["deliver", datagram, node, iface, now] => Some(Event::Deliver {
-            datagram: parse_usize(datagram)?,
-            node: parse_usize(node)?,
-            iface: parse_u8(iface)?,
-            now: parse_u64(now)?,
-        }),
-        ["cost", node, iface, cost] => Some(Event::SetCost {
-            node: parse_usize(node)?,
-            iface: parse_u8(iface)?,
-            cost: parse_u16(cost)?,
-        }),
-        ["raise", node] => Some(Event::Raise {
-            node: parse_usize(node)?,
-        }),
-        ["announce", node, prefix] => Some(Event::Announce {
-            node: parse_usize(node)?,
-            prefix: parse_prefix(prefix)?,
-        }),
-        ["withdraw", node, prefix] => Some(Event::Withdraw {
-            node: parse_usize(node)?,
-            prefix: parse_prefix(prefix)?,
-        }),
-        ["restart", node, now] => Some(Event::Restart {
-            node: parse_usize(node)?,
-            now: parse_u64(now)?,
-        }),
+pub(crate) fn parse_event(text: &str) -> Option<Event>
+    ensures { Reads IsEventText text.now result }
+{
+    let (word, fields) = split_word(text)?;
+    match word {
+        "tick" => {
+            let (node, now) = parse_node_and_moment(fields)?;
+            Some(Event::Tick { node, now })
+        }
+        "emit" => {
+            let (node, now) = parse_node_and_moment(fields)?;
+            Some(Event::Emit { node, now })
+        }
+        "deliver" => {
+            let (datagram, (node, (iface, now))) = parse_delivery(fields)?;
+            Some(Event::Deliver {
+                datagram,
+                node,
+                iface,
+                now,
+            })
+        }
+        "cost" => {
+            let (node, (iface, cost)) = parse_cost(fields)?;
+            Some(Event::SetCost { node, iface, cost })
+        }
+        "raise" => {
+            let node = parse_usize(fields)?;
+            Some(Event::Raise { node })
+        }
+        "announce" => {
+            let (node, prefix) = parse_node_and_prefix(fields)?;
+            Some(Event::Announce { node, prefix })
+        }
+        "withdraw" => {
+            let (node, prefix) = parse_node_and_prefix(fields)?;
+            Some(Event::Withdraw { node, prefix })
+        }
+        "restart" => {
+            let (node, now) = parse_node_and_moment(fields)?;
+            Some(Event::Restart { node, now })
+        }
         _ => None,
     }
 }
 
+/// The events of a scenario.
+#[derive(Drop)]
+pub(crate) struct Events(pub(crate) Vec<Event>);
+
+/// A list of the texts of events.
+impl FromToml for Events {
+    ghost use Rattle.babel_config.specs.Values.{IsText, IsList};
+    ghost use Rattle.babel_config.specs.Faults.{HasListFault};
+    ghost use Rattle.babel_config.specs.Events.{IsEventText};
+    ghost use Rattle.babel_config.specs.Scenarios.{HasEventFault};
+
+    ghost means = { λ d events. IsList (IsText IsEventText) d events.0.items };
+
+    ghost fault = { HasListFault (IsText IsEventText) HasEventFault };
+
+    fn from_toml(alloc: Global, value: &Value) -> Result<Events, FileFault> {
+        Ok(Events(read_events(alloc, value)?))
+    }
+}
+
 /// Reads a list of the texts of events.
-pub(crate) fn read_events(alloc: Global, value: &Value) -> Result<Vec<Event>, FileFault> {
+fn read_events(alloc: Global, value: &Value) -> Result<Vec<Event>, FileFault>
+    ensures ok { IfOk result (λ events. IsList (IsText IsEventText) (view value.now) events.items) }
+    ensures refused { IfErr result (IsCaused (HasListFault (IsText IsEventText) HasEventFault (view value.now))) }
+{
     let Some(items) = value.as_array() else {
         return Err(FileFault::Form);
     };
     let mut events = Vec::new(alloc);
-    for (number, item) in items.iter().enumerate() {
-        let text = item.as_str().ok_or(FileFault::Form)?;
-        events.push(parse_event(text).ok_or(FileFault::Event(number))?)?;
+    for number in 0..items.len() {
+        let event = read_event(number, &items[number])?;
+        events.push(event)?;
     }
     Ok(events)
+}
+
+/// Reads the text of the event of this number.
+fn read_event(number: usize, value: &Value) -> Result<Event, FileFault>
+    ensures ok { IfOk result (IsText IsEventText (view value.now)) }
+    ensures refused { IfErr result (HasEventFault number (view value.now)) }
+{
+    let text = value.as_str().ok_or(FileFault::Form)?;
+    parse_event(text).ok_or(FileFault::Event(number))
 }

@@ -2,9 +2,10 @@
 
 ghost use Rattle.std.specs.Prelude.{◌≡◌, ◌<◌, ◌≤◌, length, IfOk, IfErr};
 ghost use Rattle.toml.specs.View.{view};
-ghost use Rattle.babel_config.specs.Configs.{IsConfig};
-ghost use Rattle.babel_config.specs.Scenarios.{IsScenario};
-ghost use Rattle.babel_config.specs.Files.{IsFileOf, HasFileCause};
+ghost use Rattle.babel_config.specs.Configs.{IsConfig, HasConfigFault};
+ghost use Rattle.babel_config.specs.Scenarios.{IsScenario, HasScenarioFault};
+ghost use Rattle.babel_config.specs.Faults.{IsCaused};
+ghost use Rattle.babel_config.specs.Files.{IsFileOf, HasNoTable, HasFileFault};
 
 use crate::FileFault;
 use crate::scenarios::{Scenario, scenario_from_toml};
@@ -20,6 +21,8 @@ pub const MAX_FILE_LEN: usize = 1_048_576;
 /// Reads a configuration from the octets of a TOML file.
 pub fn read_config(alloc: Global, octets: &[u8]) -> Result<Config, FileFault>
     ensures ok { IfOk result (λ config. IsFileOf (λ d. IsConfig d config) octets.now) }
+    ensures refused { IfErr result (IsCaused (HasFileFault HasConfigFault octets.now)) }
+    ensures only { IfErr result (IsCaused (λ _. (config : Config) → ¬ (IsFileOf (λ d. IsConfig d config) octets.now))) }
     ensures too_long { 1048576 < length octets.now → result ≡ Err FileFault.Unreadable }
 {
     let file = read_toml(alloc, octets)?;
@@ -29,6 +32,8 @@ pub fn read_config(alloc: Global, octets: &[u8]) -> Result<Config, FileFault>
 /// Reads a scenario from the octets of a TOML file.
 pub fn read_scenario(alloc: Global, octets: &[u8]) -> Result<Scenario, FileFault>
     ensures ok { IfOk result (λ scenario. IsFileOf (λ d. IsScenario d scenario) octets.now) }
+    ensures refused { IfErr result (IsCaused (HasFileFault HasScenarioFault octets.now)) }
+    ensures only { IfErr result (IsCaused (λ _. (scenario : Scenario) → ¬ (IsFileOf (λ d. IsScenario d scenario) octets.now))) }
     ensures too_long { 1048576 < length octets.now → result ≡ Err FileFault.Unreadable }
 {
     let file = read_toml(alloc, octets)?;
@@ -38,7 +43,7 @@ pub fn read_scenario(alloc: Global, octets: &[u8]) -> Result<Scenario, FileFault
 /// Reads the table of a TOML file.
 fn read_toml(alloc: Global, octets: &[u8]) -> Result<Value, FileFault>
     ensures ok { IfOk result (λ file. IsFileOf (λ d. d ≡ view file) octets.now) }
-    ensures refused { IfErr result (HasFileCause octets.now) }
+    ensures refused { IfErr result (IsCaused (HasNoTable octets.now)) }
     ensures too_long { 1048576 < length octets.now → result ≡ Err FileFault.Unreadable }
 {
     if octets.len() > MAX_FILE_LEN {

@@ -8,8 +8,11 @@ use toml::Value;
 /// A list of such values.
 impl<T: FromToml> FromToml for Vec<T> {
     ghost use Rattle.babel_config.specs.Values.{IsList};
+    ghost use Rattle.babel_config.specs.Faults.{HasListFault};
 
     ghost means = { λ d list. IsList T.means d list.items };
+
+    ghost fault = { HasListFault T.means (λ _. T.fault) };
 
     fn from_toml(alloc: Global, value: &Value) -> Result<Vec<T>, FileFault> {
         let Some(items) = value.as_array() else {

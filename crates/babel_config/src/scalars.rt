@@ -10,8 +10,11 @@ use toml::Value;
 /// A number from 0 to 65535.
 impl FromToml for u16 {
     ghost use Rattle.babel_config.specs.Scalars.{IsNumber};
+    ghost use Rattle.babel_config.specs.Faults.{HasFormFault};
 
     ghost means = { IsNumber };
+
+    ghost fault = { HasFormFault IsNumber };
 
     fn from_toml(_alloc: Global, value: &Value) -> Result<u16, FileFault> {
         let number = value.as_integer().ok_or(FileFault::Form)?;
@@ -22,8 +25,11 @@ impl FromToml for u16 {
 /// A truth value.
 impl FromToml for bool {
     ghost use Rattle.babel_config.specs.Scalars.{IsFlag};
+    ghost use Rattle.babel_config.specs.Faults.{HasFormFault};
 
     ghost means = { IsFlag };
+
+    ghost fault = { HasFormFault IsFlag };
 
     fn from_toml(_alloc: Global, value: &Value) -> Result<bool, FileFault> {
         value.as_bool().ok_or(FileFault::Form)
@@ -33,8 +39,11 @@ impl FromToml for bool {
 /// `ipv4` or `ipv6`.
 impl FromToml for Family {
     ghost use Rattle.babel_config.specs.Scalars.{IsTransport};
+    ghost use Rattle.babel_config.specs.Faults.{HasFormFault};
 
     ghost means = { IsTransport };
+
+    ghost fault = { HasFormFault IsTransport };
 
     fn from_toml(_alloc: Global, value: &Value) -> Result<Family, FileFault> {
         match value.as_str() {
@@ -49,8 +58,11 @@ impl FromToml for Family {
 impl FromToml for Addr {
     ghost use Rattle.babel_value.specs.Texts.{IsAddrText};
     ghost use Rattle.babel_config.specs.Values.{IsText};
+    ghost use Rattle.babel_config.specs.Faults.{HasTextFault};
 
     ghost means = { IsText IsAddrText };
+
+    ghost fault = { HasTextFault IsAddrText };
 
     fn from_toml(_alloc: Global, value: &Value) -> Result<Addr, FileFault> {
         let text = value.as_str().ok_or(FileFault::Form)?;
@@ -62,8 +74,11 @@ impl FromToml for Addr {
 impl FromToml for Prefix {
     ghost use Rattle.babel_text.specs.Prefixes.{IsPrefixText};
     ghost use Rattle.babel_config.specs.Values.{IsText};
+    ghost use Rattle.babel_config.specs.Faults.{HasTextFault};
 
     ghost means = { IsText IsPrefixText };
+
+    ghost fault = { HasTextFault IsPrefixText };
 
     fn from_toml(_alloc: Global, value: &Value) -> Result<Prefix, FileFault> {
         let text = value.as_str().ok_or(FileFault::Form)?;
@@ -79,8 +94,11 @@ pub(crate) struct RouterIdOctets(pub(crate) [u8; 8]);
 impl FromToml for RouterIdOctets {
     ghost use Rattle.babel_text.specs.RouterIds.{IsRouterIdText};
     ghost use Rattle.babel_config.specs.Values.{IsText};
+    ghost use Rattle.babel_config.specs.Faults.{HasTextFault};
 
     ghost means = { λ d router. IsText IsRouterIdText d router.0 };
+
+    ghost fault = { HasTextFault IsRouterIdText };
 
     fn from_toml(_alloc: Global, value: &Value) -> Result<RouterIdOctets, FileFault> {
         let text = value.as_str().ok_or(FileFault::Form)?;
@@ -98,8 +116,11 @@ pub(crate) struct Ipv4Network(pub(crate) ([u8; 4], u8));
 impl FromToml for Ipv4Network {
     ghost use Rattle.babel_config.specs.Scalars.{IsIpv4NetworkText};
     ghost use Rattle.babel_config.specs.Values.{IsText};
+    ghost use Rattle.babel_config.specs.Faults.{HasTextFault};
 
     ghost means = { λ d net. IsText IsIpv4NetworkText d net.0 };
+
+    ghost fault = { HasTextFault IsIpv4NetworkText };
 
     fn from_toml(_alloc: Global, value: &Value) -> Result<Ipv4Network, FileFault> {
         let text = value.as_str().ok_or(FileFault::Form)?;
@@ -118,8 +139,11 @@ pub(crate) struct Ipv6Octets(pub(crate) [u8; 16]);
 impl FromToml for Ipv6Octets {
     ghost use Rattle.babel_config.specs.Scalars.{IsIpv6AddrText};
     ghost use Rattle.babel_config.specs.Values.{IsText};
+    ghost use Rattle.babel_config.specs.Faults.{HasTextFault};
 
     ghost means = { λ d addr. IsText IsIpv6AddrText d addr.0 };
+
+    ghost fault = { HasTextFault IsIpv6AddrText };
 
     fn from_toml(_alloc: Global, value: &Value) -> Result<Ipv6Octets, FileFault> {
         let text = value.as_str().ok_or(FileFault::Form)?;

@@ -1,11 +1,12 @@
 //! The keys of a scenario.
 
-ghost use Rattle.std.specs.Prelude.{IfOk};
+ghost use Rattle.std.specs.Prelude.{IfOk, IfErr};
 ghost use Rattle.toml.specs.View.{view};
-ghost use Rattle.babel_config.specs.Scenarios.{IsScenario};
+ghost use Rattle.babel_config.specs.Scenarios.{IsScenario, HasScenarioFault};
+ghost use Rattle.babel_config.specs.Faults.{IsCaused};
 
 use crate::FileFault;
-use crate::events::read_events;
+use crate::events::Events;
 use crate::keys::{TableKind, is_table_of};
 use crate::values::optional;
 use babel_net::Event;
@@ -24,16 +25,15 @@ pub struct Scenario {
 
 /// Reads the table of a scenario.
 pub(crate) fn scenario_from_toml(alloc: Global, value: &Value) -> Result<Scenario, FileFault>
-    ensures { IfOk result (IsScenario (view value.now)) }
+    ensures ok { IfOk result (IsScenario (view value.now)) }
+    ensures refused { IfErr result (IsCaused (HasScenarioFault (view value.now))) }
 {
     if !is_table_of(TableKind::Scenario, value) {
         return Err(FileFault::Form);
     }
-    let events = match value.get("events") {
-        Some(list) => read_events(alloc, list)?,
-        None => Vec::new(alloc),
-    };
-    let configs = optional(alloc, value, "node")?;
+    let read: Option<Events> = optional(alloc, value, "events")?;
+    let configs: Option<Vec<Config>> = optional(alloc, value, "node")?;
+    let Events(events) = read.unwrap_or(Events(Vec::new(alloc)));
     Ok(Scenario {
         configs: configs.unwrap_or(Vec::new(alloc)),
         events,

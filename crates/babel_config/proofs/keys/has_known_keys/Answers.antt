@@ -1,8 +1,6 @@
 -- One more key, which is known or not.
-use Rattle.std.proofs.Common.{◌≡◌, List, [], ◌∷◌, ◌++◌, true, false, sym, ap, ◌∙◌, append_assoc}
-use Rattle.toml.specs.View.{members_view}
+use Rattle.std.proofs.Common.{◌≡◌, [], ◌∷◌, ◌++◌, sym, ap, ◌∙◌, append_assoc}
 use Rattle.toml.proofs.Views.{Entry}
-use Rattle.babel_config.specs.Keys.{is_key_of, all_keys_of}
 use Rattle.babel_config.proofs.Tables.{keys_push, keys_fail}
 use Rattle.babel_config.proofs.keys.has_known_keys.Goals as goal
 

@@ -1,21 +1,94 @@
 -- Each key, with its default.
-use Rattle.std.proofs.Common.{◌≡◌, Vec, Global}
+use Rattle.std.proofs.Common.{inl, inr, Vec, Global}
+use Rattle.toml.specs.View.{view}
 use Rattle.babel_value.specs.declared.addresses.Addr.{Addr}
 use Rattle.babel_value.specs.Texts.{IsAddrText}
 use Rattle.babel_config.specs.declared.scalars.Ipv4Network.{Ipv4Network}
 use Rattle.babel_config.specs.declared.scalars.Ipv6Octets.{Ipv6Octets}
+use Rattle.babel_config.specs.Configs.{HasInterfaceFault}
 use Rattle.babel_config.specs.Scalars.{IsNumber, IsIpv4NetworkText, IsIpv6AddrText}
 use Rattle.babel_config.specs.Values.{IsText, IsList}
+use Rattle.babel_config.proofs.Faults.{given_read, err_caused}
 use Rattle.babel_config.proofs.Reading.{given_or, list_given_or, optional_map}
 use Rattle.babel_config.proofs.configs.InterfaceFromToml.from_toml.Goals as goal
 
-pub returns : goal.returns
-returns c = record {
+pub returns-clause-ok : goal.returns-clause-ok
+returns-clause-ok c = record {
   keys = cc;
-  transport = c.in_ok-transport.ensures;
-  ipv4 = optional_map (IsText IsIpv4NetworkText) (λ (n : Ipv4Network). n.0) _ c.in_ok-ipv4.ipv4 c.network_of.result c.network_of.ensures c.in_ok-ipv4.ensures;
-  ipv6 = optional_map (IsText IsIpv6AddrText) (λ (a : Ipv6Octets). a.0) _ c.in_ok-ipv6.ipv6 c.octets_of.result c.octets_of.ensures c.in_ok-ipv6.ensures;
-  peers = list_given_or (IsList (IsText IsAddrText)) (λ (v : Vec Addr Global). v.items) _ c.in_ok-peers.peers c.new.result c.unwrap_or.result c.unwrap_or.ensures c.new.ensures.items c.in_ok-peers.ensures;
-  cost = given_or IsNumber 96 _ c.in_ok-cost.cost c.unwrap_or-2.result c.unwrap_or-2.ensures c.in_ok-cost.ensures;
-  hello = given_or IsNumber 400 _ c.in_ok-hello.hello c.unwrap_or-3.result c.unwrap_or-3.ensures c.in_ok-hello.ensures;
+  transport = c.in_ok-transport.ensures.ok;
+  ipv4 = optional_map (IsText IsIpv4NetworkText) (λ (n : Ipv4Network). n.0) _ c.in_ok-ipv4.ipv4 c.network_of.result c.network_of.ensures c.in_ok-ipv4.ensures.ok;
+  ipv6 = optional_map (IsText IsIpv6AddrText) (λ (a : Ipv6Octets). a.0) _ c.in_ok-ipv6.ipv6 c.octets_of.result c.octets_of.ensures c.in_ok-ipv6.ensures.ok;
+  peers = list_given_or (IsList (IsText IsAddrText)) (λ (v : Vec Addr Global). v.items) _ c.in_ok-peers.peers c.new.result c.unwrap_or.result c.unwrap_or.ensures c.new.ensures.items c.in_ok-peers.ensures.ok;
+  cost = given_or IsNumber 96 _ c.in_ok-cost.cost c.unwrap_or-2.result c.unwrap_or-2.ensures c.in_ok-cost.ensures.ok;
+  hello = given_or IsNumber 400 _ c.in_ok-hello.hello c.unwrap_or-3.result c.unwrap_or-3.ensures c.in_ok-hello.ensures.ok;
 }
+
+pub returns-in_err-ipv6-clause-refused : goal.returns-in_err-ipv6-clause-refused
+returns-in_err-ipv6-clause-refused c =
+    err_caused _ (HasInterfaceFault (view c.args.value.now)) c.in_err-ipv6.field-0.0 c.from_residual-in_err-ipv6.ensures.1 (λ other. inr (
+      cc,
+      inr (
+        (_, c.in_ok-transport.ensures.ok),
+        inr (
+          given_read (IsText IsIpv4NetworkText) (λ (n : Ipv4Network). n.0) _ c.in_ok-ipv4.ipv4 c.in_ok-ipv4.ensures.ok,
+          inl (c.in_err-ipv6.ensures.refused other),
+        ),
+      ),
+    ))
+
+pub returns-in_err-peers-clause-refused : goal.returns-in_err-peers-clause-refused
+returns-in_err-peers-clause-refused c =
+    err_caused _ (HasInterfaceFault (view c.args.value.now)) c.in_err-peers.field-0.0 c.from_residual-in_err-peers.ensures.1 (λ other. inr (
+      cc,
+      inr (
+        (_, c.in_ok-transport.ensures.ok),
+        inr (
+          given_read (IsText IsIpv4NetworkText) (λ (n : Ipv4Network). n.0) _ c.in_ok-ipv4.ipv4 c.in_ok-ipv4.ensures.ok,
+          inr (
+            given_read (IsText IsIpv6AddrText) (λ (a : Ipv6Octets). a.0) _ c.in_ok-ipv6.ipv6 c.in_ok-ipv6.ensures.ok,
+            inl (c.in_err-peers.ensures.refused other),
+          ),
+        ),
+      ),
+    ))
+
+pub returns-in_err-cost-clause-refused : goal.returns-in_err-cost-clause-refused
+returns-in_err-cost-clause-refused c =
+    err_caused _ (HasInterfaceFault (view c.args.value.now)) c.in_err-cost.field-0.0 c.from_residual-in_err-cost.ensures.1 (λ other. inr (
+      cc,
+      inr (
+        (_, c.in_ok-transport.ensures.ok),
+        inr (
+          given_read (IsText IsIpv4NetworkText) (λ (n : Ipv4Network). n.0) _ c.in_ok-ipv4.ipv4 c.in_ok-ipv4.ensures.ok,
+          inr (
+            given_read (IsText IsIpv6AddrText) (λ (a : Ipv6Octets). a.0) _ c.in_ok-ipv6.ipv6 c.in_ok-ipv6.ensures.ok,
+            inr (
+              given_read (IsList (IsText IsAddrText)) (λ (v : Vec Addr Global). v.items) _ c.in_ok-peers.peers c.in_ok-peers.ensures.ok,
+              inl (c.in_err-cost.ensures.refused other),
+            ),
+          ),
+        ),
+      ),
+    ))
+
+pub returns-in_err-hello-clause-refused : goal.returns-in_err-hello-clause-refused
+returns-in_err-hello-clause-refused c =
+    err_caused _ (HasInterfaceFault (view c.args.value.now)) c.in_err-hello.field-0.0 c.from_residual-in_err-hello.ensures.1 (λ other. inr (
+      cc,
+      inr (
+        (_, c.in_ok-transport.ensures.ok),
+        inr (
+          given_read (IsText IsIpv4NetworkText) (λ (n : Ipv4Network). n.0) _ c.in_ok-ipv4.ipv4 c.in_ok-ipv4.ensures.ok,
+          inr (
+            given_read (IsText IsIpv6AddrText) (λ (a : Ipv6Octets). a.0) _ c.in_ok-ipv6.ipv6 c.in_ok-ipv6.ensures.ok,
+            inr (
+              given_read (IsList (IsText IsAddrText)) (λ (v : Vec Addr Global). v.items) _ c.in_ok-peers.peers c.in_ok-peers.ensures.ok,
+              inr (
+                given_read IsNumber (λ n. n) _ c.in_ok-cost.cost c.in_ok-cost.ensures.ok,
+                inl (c.in_err-hello.ensures.refused other),
+              ),
+            ),
+          ),
+        ),
+      ),
+    ))

@@ -1,0 +1,95 @@
+-- A text with an event's word spells no event, if what follows the word cannot be read.
+use Rattle.std.proofs.Common.{◌≡◌, ℕ, List, false, codes, refl, sym, ◌∙◌}
+use Rattle.std.proofs.lemmas.Bool.{both_ways}
+use Rattle.std.proofs.lemmas.Slice.Eq.{bytes_eq-Decides}
+use Rattle.std.specs.Str.{bytes_eq}
+use Rattle.babel_net.specs.declared.events.Event.{Event}
+use Rattle.babel_net.specs.declared.events.Event.TheVariants as events
+use Rattle.babel_value.specs.Prefixes.{PrefixValue}
+use Rattle.babel_text.specs.Numbers.{IsNumberText}
+use Rattle.babel_text.specs.Prefixes.{IsPrefixText}
+use Rattle.babel_config.specs.Events.{HasBlank, IsPair, IsLong, before_blank, after_blank, word_of, HasFields, IsEventText}
+
+module _ {A B : Type 0} (IsWord : List ℕ → A → Type 0) (IsRest : List ℕ → B → Type 0) (text word rest : List ℕ) where
+  pub pair : (a : A) (b : B) → HasBlank text → word ≡ before_blank text → rest ≡ after_blank text → IsWord word a → IsRest rest b → IsPair IsWord IsRest text (a, b)
+  pair a b blank is follows h k = (blank, rw (sym is) h, rw (sym follows) k)
+
+  pub no_pair : rest ≡ after_blank text → ((b : B) → ¬ (IsRest rest b)) → (p : A × B) → ¬ (IsPair IsWord IsRest text p)
+  no_pair follows none p h = none p.1 (rw follows h.2)
+
+apart : (a b : List ℕ) → bytes_eq a b ≡ false → a ≡ b → ⊥
+apart a b other same = both_ways (bytes_eq a b) other ((bytes_eq-Decides a b).1 same)
+
+module _ (text word rest : List ℕ) (is : word ≡ before_blank text) (follows : rest ≡ after_blank text) where
+  pub event_text : (event : Event) → HasBlank text → word ≡ word_of event → HasFields rest event → IsEventText text event
+  event_text event blank same h = (blank, sym is ∙ same, rw (sym follows) h)
+
+  pub no_tick : word ≡ codes "tick" → ((p : ℕ × ℕ) → ¬ (IsPair IsLong IsLong rest p)) → (event : Event) → ¬ (IsEventText text event)
+  no_tick same none (events.Tick node now) h = none (node, now) (rw follows h.2)
+  no_tick same none (events.Emit node now) h = apart (codes "tick") (codes "emit") refl (sym same ∙ is ∙ h.1)
+  no_tick same none (events.Deliver datagram node iface now) h = apart (codes "tick") (codes "deliver") refl (sym same ∙ is ∙ h.1)
+  no_tick same none (events.SetCost node iface cost) h = apart (codes "tick") (codes "cost") refl (sym same ∙ is ∙ h.1)
+  no_tick same none (events.Raise node) h = apart (codes "tick") (codes "raise") refl (sym same ∙ is ∙ h.1)
+  no_tick same none (events.Announce node prefix) h = apart (codes "tick") (codes "announce") refl (sym same ∙ is ∙ h.1)
+  no_tick same none (events.Withdraw node prefix) h = apart (codes "tick") (codes "withdraw") refl (sym same ∙ is ∙ h.1)
+  no_tick same none (events.Restart node now) h = apart (codes "tick") (codes "restart") refl (sym same ∙ is ∙ h.1)
+
+  pub no_emit : word ≡ codes "emit" → ((p : ℕ × ℕ) → ¬ (IsPair IsLong IsLong rest p)) → (event : Event) → ¬ (IsEventText text event)
+  no_emit same none (events.Tick node now) h = apart (codes "emit") (codes "tick") refl (sym same ∙ is ∙ h.1)
+  no_emit same none (events.Emit node now) h = none (node, now) (rw follows h.2)
+  no_emit same none (events.Deliver datagram node iface now) h = apart (codes "emit") (codes "deliver") refl (sym same ∙ is ∙ h.1)
+  no_emit same none (events.SetCost node iface cost) h = apart (codes "emit") (codes "cost") refl (sym same ∙ is ∙ h.1)
+  no_emit same none (events.Raise node) h = apart (codes "emit") (codes "raise") refl (sym same ∙ is ∙ h.1)
+  no_emit same none (events.Announce node prefix) h = apart (codes "emit") (codes "announce") refl (sym same ∙ is ∙ h.1)
+  no_emit same none (events.Withdraw node prefix) h = apart (codes "emit") (codes "withdraw") refl (sym same ∙ is ∙ h.1)
+  no_emit same none (events.Restart node now) h = apart (codes "emit") (codes "restart") refl (sym same ∙ is ∙ h.1)
+
+  pub no_deliver : word ≡ codes "deliver" → ((p : ℕ × (ℕ × (ℕ × ℕ))) → ¬ (IsPair IsLong (IsPair IsLong (IsPair (IsNumberText 8) IsLong)) rest p)) → (event : Event) → ¬ (IsEventText text event)
+  no_deliver same none (events.Tick node now) h = apart (codes "deliver") (codes "tick") refl (sym same ∙ is ∙ h.1)
+  no_deliver same none (events.Emit node now) h = apart (codes "deliver") (codes "emit") refl (sym same ∙ is ∙ h.1)
+  no_deliver same none (events.Deliver datagram node iface now) h = none (datagram, (node, (iface, now))) (rw follows h.2)
+  no_deliver same none (events.SetCost node iface cost) h = apart (codes "deliver") (codes "cost") refl (sym same ∙ is ∙ h.1)
+  no_deliver same none (events.Raise node) h = apart (codes "deliver") (codes "raise") refl (sym same ∙ is ∙ h.1)
+  no_deliver same none (events.Announce node prefix) h = apart (codes "deliver") (codes "announce") refl (sym same ∙ is ∙ h.1)
+  no_deliver same none (events.Withdraw node prefix) h = apart (codes "deliver") (codes "withdraw") refl (sym same ∙ is ∙ h.1)
+  no_deliver same none (events.Restart node now) h = apart (codes "deliver") (codes "restart") refl (sym same ∙ is ∙ h.1)
+
+  pub no_cost : word ≡ codes "cost" → ((p : ℕ × (ℕ × ℕ)) → ¬ (IsPair IsLong (IsPair (IsNumberText 8) (IsNumberText 16)) rest p)) → (event : Event) → ¬ (IsEventText text event)
+  no_cost same none (events.Tick node now) h = apart (codes "cost") (codes "tick") refl (sym same ∙ is ∙ h.1)
+  no_cost same none (events.Emit node now) h = apart (codes "cost") (codes "emit") refl (sym same ∙ is ∙ h.1)
+  no_cost same none (events.Deliver datagram node iface now) h = apart (codes "cost") (codes "deliver") refl (sym same ∙ is ∙ h.1)
+  no_cost same none (events.SetCost node iface cost) h = none (node, (iface, cost)) (rw follows h.2)
+  no_cost same none (events.Raise node) h = apart (codes "cost") (codes "raise") refl (sym same ∙ is ∙ h.1)
+  no_cost same none (events.Announce node prefix) h = apart (codes "cost") (codes "announce") refl (sym same ∙ is ∙ h.1)
+  no_cost same none (events.Withdraw node prefix) h = apart (codes "cost") (codes "withdraw") refl (sym same ∙ is ∙ h.1)
+  no_cost same none (events.Restart node now) h = apart (codes "cost") (codes "restart") refl (sym same ∙ is ∙ h.1)
+
+  pub no_announce : word ≡ codes "announce" → ((p : ℕ × PrefixValue) → ¬ (IsPair IsLong IsPrefixText rest p)) → (event : Event) → ¬ (IsEventText text event)
+  no_announce same none (events.Tick node now) h = apart (codes "announce") (codes "tick") refl (sym same ∙ is ∙ h.1)
+  no_announce same none (events.Emit node now) h = apart (codes "announce") (codes "emit") refl (sym same ∙ is ∙ h.1)
+  no_announce same none (events.Deliver datagram node iface now) h = apart (codes "announce") (codes "deliver") refl (sym same ∙ is ∙ h.1)
+  no_announce same none (events.SetCost node iface cost) h = apart (codes "announce") (codes "cost") refl (sym same ∙ is ∙ h.1)
+  no_announce same none (events.Raise node) h = apart (codes "announce") (codes "raise") refl (sym same ∙ is ∙ h.1)
+  no_announce same none (events.Announce node prefix) h = none (node, prefix) (rw follows h.2)
+  no_announce same none (events.Withdraw node prefix) h = apart (codes "announce") (codes "withdraw") refl (sym same ∙ is ∙ h.1)
+  no_announce same none (events.Restart node now) h = apart (codes "announce") (codes "restart") refl (sym same ∙ is ∙ h.1)
+
+  pub no_withdraw : word ≡ codes "withdraw" → ((p : ℕ × PrefixValue) → ¬ (IsPair IsLong IsPrefixText rest p)) → (event : Event) → ¬ (IsEventText text event)
+  no_withdraw same none (events.Tick node now) h = apart (codes "withdraw") (codes "tick") refl (sym same ∙ is ∙ h.1)
+  no_withdraw same none (events.Emit node now) h = apart (codes "withdraw") (codes "emit") refl (sym same ∙ is ∙ h.1)
+  no_withdraw same none (events.Deliver datagram node iface now) h = apart (codes "withdraw") (codes "deliver") refl (sym same ∙ is ∙ h.1)
+  no_withdraw same none (events.SetCost node iface cost) h = apart (codes "withdraw") (codes "cost") refl (sym same ∙ is ∙ h.1)
+  no_withdraw same none (events.Raise node) h = apart (codes "withdraw") (codes "raise") refl (sym same ∙ is ∙ h.1)
+  no_withdraw same none (events.Announce node prefix) h = apart (codes "withdraw") (codes "announce") refl (sym same ∙ is ∙ h.1)
+  no_withdraw same none (events.Withdraw node prefix) h = none (node, prefix) (rw follows h.2)
+  no_withdraw same none (events.Restart node now) h = apart (codes "withdraw") (codes "restart") refl (sym same ∙ is ∙ h.1)
+
+  pub no_restart : word ≡ codes "restart" → ((p : ℕ × ℕ) → ¬ (IsPair IsLong IsLong rest p)) → (event : Event) → ¬ (IsEventText text event)
+  no_restart same none (events.Tick node now) h = apart (codes "restart") (codes "tick") refl (sym same ∙ is ∙ h.1)
+  no_restart same none (events.Emit node now) h = apart (codes "restart") (codes "emit") refl (sym same ∙ is ∙ h.1)
+  no_restart same none (events.Deliver datagram node iface now) h = apart (codes "restart") (codes "deliver") refl (sym same ∙ is ∙ h.1)
+  no_restart same none (events.SetCost node iface cost) h = apart (codes "restart") (codes "cost") refl (sym same ∙ is ∙ h.1)
+  no_restart same none (events.Raise node) h = apart (codes "restart") (codes "raise") refl (sym same ∙ is ∙ h.1)
+  no_restart same none (events.Announce node prefix) h = apart (codes "restart") (codes "announce") refl (sym same ∙ is ∙ h.1)
+  no_restart same none (events.Withdraw node prefix) h = apart (codes "restart") (codes "withdraw") refl (sym same ∙ is ∙ h.1)
+  no_restart same none (events.Restart node now) h = none (node, now) (rw follows h.2)
