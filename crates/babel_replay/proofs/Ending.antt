@@ -2,13 +2,15 @@
 use Rattle.std.proofs.Common.{◌≡◌, ◌+◌, ◌⊎◌, inl, inr, ℕ, List, [], length, Option, Result, Ok, Err, IsOk, OnOk, IfErr, sym, subst, true≢false}
 use Rattle.std.proofs.lemmas.Result.{IfErr-at_err}
 use Rattle.std.specs.Io.KnownBytes.{Appends}
+use Rattle.babel_value.specs.Prefixes.{PrefixValue}
 use Rattle.babel_state.specs.State.{State}
 use Rattle.babel_replay.specs.declared.errors.LineFault.{LineFault}
 use Rattle.babel_replay.specs.declared.errors.LineFault.TheVariants.{Write}
-use Rattle.babel_replay.specs.LogReports.{OfAllLines, OfLinesBefore, IsLogReport, Writes, whole_report}
+use Rattle.babel_replay.specs.LogReports.{OfAllLines, OfLinesBefore, IsLogReport, Writes, whole_report, routes_after}
 use Rattle.babel_replay.specs.Report.{table_lines}
+use Rattle.babel_replay.specs.Routes.{route_lines}
 use Rattle.babel_replay.specs.Seen.{SeenPrefix}
-use Rattle.babel_replay.specs.Taking.{IsReported}
+use Rattle.babel_replay.specs.Taking.{IsReported, LeadsTo}
 use Rattle.babel_replay.proofs.Logs.{all_weaker, before_weaker, write_failed}
 use Rattle.babel_replay.proofs.Writing.{appends_more}
 
@@ -44,4 +46,17 @@ reported_whole number first old seen s later a b c is none table texts so = reco
   report = so.report;
   reported = subst (λ t. IsLogReport texts t [] s later so.report) is (subst (λ es. IsLogReport texts old es s later so.report) none so.reported);
   written = appends_more a b c so.report (table_lines s later) so.written table;
+}
+
+pub counted_led : (number : ℕ) (old new : State) (texts : List (List ℕ)) → LeadsTo number old new texts → number ≡ length texts + 1
+counted_led number old new texts so = so.before_it
+
+pub routes_written : (number : ℕ) (prefix : PrefixValue) (first old s : State) (a b : Option (List ℕ)) →
+    old ≡ first → Appends a b (route_lines prefix s) → (texts : List (List ℕ)) → LeadsTo number old s texts → Writes (routes_after prefix) first a b texts
+routes_written number prefix first old s a b is routes texts so = record {
+  last = s;
+  seen = so.seen;
+  report = so.report;
+  reported = subst (λ t. IsLogReport texts t [] s so.seen so.report) is so.reported;
+  written = routes;
 }

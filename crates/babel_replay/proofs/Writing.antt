@@ -1,7 +1,7 @@
 -- What is written bit by bit.
 use Rattle.std.proofs.Common.{◌≡◌, ℕ, List, [], ◌++◌, Option, Some, None, sym, ap, ◌∙◌, subst, append_assoc}
 use Rattle.std.proofs.lemmas.List.{append-nil}
-use Rattle.std.specs.Io.KnownBytes.{Appends}
+use Rattle.std.specs.Io.KnownBytes.{Appends, Keeps}
 
 -- The known bytes grew, so that the rest makes the whole text complete.
 pub record IsWritten (old new : Option (List ℕ)) (rest all : List ℕ) : Type 0 where
@@ -30,3 +30,9 @@ more a b c before bit rest all so same goes = record {
 -- Nothing is left.
 pub ended : (a b : Option (List ℕ)) (rest all : List ℕ) → IsWritten a b rest all → rest ≡ [] → Appends a b all
 ended a b rest all so none = subst (Appends a b) (sym (append-nil so.text) ∙ ap (λ l. so.text ++ l) (sym none) ∙ so.whole) so.written
+
+pub appends_kept : (a b c : Option (List ℕ)) (xs : List ℕ) → Appends a b xs → Keeps b c → Appends a c xs
+appends_kept None b c xs first then = tt
+appends_kept (Some x) None c xs first then = absurd first
+appends_kept (Some x) (Some y) None xs first then = absurd then
+appends_kept (Some x) (Some y) (Some z) xs first then = then ∙ first

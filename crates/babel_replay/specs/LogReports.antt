@@ -1,6 +1,7 @@
 -- The reports of whole logs (profile).
 use Rattle.std.specs.Prelude.{◌≡◌, ◌≢◌, ◌⊎◌, ◌+◌, ℕ, Bool, true, false, List, [], ◌∷◌, ◌++◌, length, Option, Some, None, IsNone, ⊤}
 use Rattle.std.specs.Io.KnownBytes.{Appends, Keeps}
+use Rattle.babel_value.specs.Prefixes.{PrefixValue}
 use Rattle.babel_state.specs.declared.errors.ConfigFault.{ConfigFault}
 use Rattle.babel_state.specs.State.{State}
 use Rattle.babel_speaker.specs.Making.{IsMakingFault}
@@ -11,6 +12,7 @@ use Rattle.babel_replay.specs.declared.errors.ReplayFault.TheVariants as faults
 use Rattle.babel_replay.specs.declared.log_lines.Action.{Action}
 use Rattle.babel_replay.specs.LogLines.{lines_of, is_skipped_line, IsLine, IsLineFault, IsTooLong}
 use Rattle.babel_replay.specs.Report.{IsReport, table_lines}
+use Rattle.babel_replay.specs.Routes.{route_lines}
 use Rattle.babel_replay.specs.Seen.{SeenPrefix}
 
 -- ---- line after line
@@ -92,6 +94,10 @@ Ending = State → List SeenPrefix → List ℕ → List ℕ
 -- The reports, and then the selected route of each seen prefix.
 abbrev pub whole_report : Ending
 whole_report s seen report = report ++ table_lines s seen
+
+-- The routes of a prefix.
+abbrev pub routes_after : PrefixValue → Ending
+routes_after prefix s seen report = route_lines prefix s
 
 -- The speaker takes the lines from this state on, with no prefix seen, and the known bytes of the writer grow by the ending.
 pub record Writes (ending : Ending) (first : State) (before after : Option (List ℕ)) (texts : List (List ℕ)) : Type 0 where

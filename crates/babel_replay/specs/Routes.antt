@@ -1,5 +1,5 @@
--- The routes of a prefix, and why each is used or not (profile).
-use Rattle.std.specs.Prelude.{ℕ, Bool, false, not, Option, nat_lt, if◌then◌else◌}
+-- The lines of the routes of a prefix, and why each is used or not (profile).
+use Rattle.std.specs.Prelude.{ℕ, Bool, false, not, List, Option, flat_map, nat_lt, if◌then◌else◌}
 use Rattle.std.specs.Option.{option_map_or}
 use Rattle.babel_value.specs.declared.distances.Distance.{Distance}
 use Rattle.babel_value.specs.declared.keys.Peer.{Peer}
@@ -7,12 +7,14 @@ use Rattle.babel_value.specs.Metrics.{infinity, metric_sum}
 use Rattle.babel_value.specs.Prefixes.{PrefixValue}
 use Rattle.babel_route.specs.declared.routes.entries.Entry.{Entry}
 use Rattle.babel_route.specs.Distances.{improves_on}
-use Rattle.babel_state.specs.Calls.{selected_route}
+use Rattle.babel_state.specs.Calls.{selected_route, reported_entries}
 use Rattle.babel_state.specs.Sameness.{is_same_peer}
 use Rattle.babel_state.specs.State.{State, announces, pair_at}
 use Rattle.babel_replay.specs.declared.texts.RouteLine.{RouteLine}
 use Rattle.babel_replay.specs.declared.texts.RouteStatus.{RouteStatus}
 use Rattle.babel_replay.specs.declared.texts.RouteStatus.TheVariants as statuses
+use Rattle.babel_replay.specs.Report.{line}
+use Rattle.babel_replay.specs.Texts.{route_text}
 
 -- The prefix's selected route leads over the neighbour.
 abbrev pub is_selected_over : PrefixValue → Peer → State → Bool
@@ -41,3 +43,10 @@ route_fields prefix s peer entry cost = record {
   source = pair_at prefix entry.router s;
   status = status_by (announces prefix s) entry.distance (pair_at prefix entry.router s) (metric_sum entry.distance.metric cost) (is_selected_over prefix peer s);
 }
+
+abbrev pub route_line : PrefixValue → State → Peer × Entry × ℕ → List ℕ
+route_line prefix s (peer, entry, cost) = line (route_text (route_fields prefix s peer entry cost))
+
+-- A line for each entry of the prefix, ascending by neighbour.
+abbrev pub route_lines : PrefixValue → State → List ℕ
+route_lines prefix s = flat_map (route_line prefix s) (reported_entries prefix s)

@@ -18,6 +18,7 @@ use Rattle.babel_state.specs.declared.notes.Verdict.{Verdict}
 use Rattle.babel_state.specs.declared.notes.Verdict.TheVariants as verdicts
 use Rattle.babel_state.specs.Codes.{recv_code, set_cost_code}
 use Rattle.babel_replay.specs.declared.seen.Choice.{Choice}
+use Rattle.babel_replay.specs.declared.texts.RouteLine.{RouteLine}
 use Rattle.babel_replay.specs.declared.texts.RouteStatus.{RouteStatus}
 use Rattle.babel_replay.specs.declared.texts.RouteStatus.TheVariants as statuses
 
@@ -99,3 +100,23 @@ source_text (Some d) = distance_text d
 -- the cost of the link, the metric over it, and the feasibility distance
 abbrev pub link_text : ℕ → ℕ → Option Distance → List ℕ
 link_text cost metric source = codes "cost " ++ decimal cost ++ codes " metric " ++ decimal metric ++ codes " source " ++ source_text source
+
+-- the seqno and the metric that the neighbour advertised
+abbrev pub advertised_distance_text : Distance → List ℕ
+advertised_distance_text d = codes "seqno " ++ decimal d.seqno ++ codes " advertised " ++ decimal d.metric
+
+-- what the neighbour advertised
+abbrev pub advertised_text : List ℕ → Distance → List ℕ
+advertised_text router d = codes "router " ++ router_text router ++ codes " " ++ advertised_distance_text d
+
+-- the neighbour, and what it advertised
+abbrev pub hop_text : Peer → List ℕ → Distance → List ℕ
+hop_text peer router d = codes "via " ++ peer_text peer ++ codes " " ++ advertised_text router d
+
+-- the link, and whether the route is used
+abbrev pub usage_text : ℕ → ℕ → Option Distance → RouteStatus → List ℕ
+usage_text cost metric source status = link_text cost metric source ++ codes " " ++ status_text status
+
+-- a route of a prefix
+abbrev pub route_text : RouteLine → List ℕ
+route_text r = prefix_text r.prefix ++ codes " " ++ hop_text r.peer r.router r.advertised ++ codes " " ++ usage_text r.cost r.metric r.source r.status

@@ -1,12 +1,16 @@
 //! The routes of a prefix after a log, and why each is used or not.
 
-ghost use Rattle.std.specs.Prelude.{◌≡◌, ◌≢◌, [], length, nat_lt, OnOk, OnErr, IfOk, IfErr};
+ghost use Rattle.std.specs.Prelude.{◌≡◌, ◌≢◌, ◌⊎◌, [], length, nat_lt, slice_get, Err, IsOk, IsNone, OnOk, OnErr, IfOk, IfErr};
+ghost use Rattle.std.specs.Io.KnownBytes.{Appends};
+ghost use Rattle.std.specs.Option.{option_map_or};
 ghost use Rattle.babel_value.specs.Metrics.{infinity, metric_sum};
 ghost use Rattle.babel_route.specs.Distances.{improves_on};
+ghost use Rattle.babel_state.specs.Calls.{first_state, reported_entries};
+ghost use Rattle.babel_state.specs.Configs.{config_fault};
 ghost use Rattle.babel_state.specs.State.{announces};
-ghost use Rattle.babel_replay.specs.LogReports.{room, IsCause, OfAllLines, OfLinesBefore};
+ghost use Rattle.babel_replay.specs.LogReports.{room, routes_after, IsCause, IsReplayFault, OfAllLines, OfLinesBefore, Writes};
 ghost use Rattle.babel_replay.specs.Report.{SendsAll};
-ghost use Rattle.babel_replay.specs.Routes.{route_fields, status_by, is_selected_over};
+ghost use Rattle.babel_replay.specs.Routes.{route_fields, route_line, route_lines, status_by, is_selected_over};
 ghost use Rattle.babel_replay.specs.Taking.{LeadsByLine, LeadsTo, TakesLine};
 
 use crate::log_lines::is_skipped;
@@ -33,7 +37,11 @@ pub fn explain<R: BufRead, W: Write>(
     log: &mut R,
     prefix: Prefix,
     out: &mut W,
-) -> Result<(), ReplayFault> {
+) -> Result<(), ReplayFault>
+    ensures valid { IsOk result → IsNone (config_fault config) }
+    ensures routes { OnOk result (OfAllLines (R.remaining log.old) (Writes (routes_after prefix) (first_state config) (W.contents out.old) (W.contents out.new))) }
+    ensures fault { IfErr result (IsReplayFault (routes_after prefix) (first_state config) (config_fault config) (R.remaining log.old) (R.remaining log.new) (W.contents out.old) (W.contents out.new)) }
+{
     let mut speaker = match Speaker::new(alloc, config) {
         Ok(speaker) => speaker,
         Err(fault) => return Err(ReplayFault::Config(fault)),
@@ -141,17 +149,19 @@ fn end_explanation<W: Write>(
     speaker: &Speaker,
     prefix: &Prefix,
     out: &mut W,
-) -> Result<(), LineFault> {
+) -> Result<(), LineFault>
+    ensures ok { OnOk result (IsOk taken × Appends (W.contents out.old) (W.contents out.new) (route_lines prefix.now speaker.now)) }
+    ensures fault { IfErr result (λ fault. (fault ≡ LineFault.Write) ⊎ ((taken ≡ Err fault) × Appends (W.contents out.old) (W.contents out.new) (route_lines prefix.now speaker.now))) }
+{
     write_routes(speaker, prefix, out)?;
     taken
 }
 
 /// Writes a line for each route of the prefix, and flushes.
-fn write_routes<W: Write>(
-    speaker: &Speaker,
-    prefix: &Prefix,
-    out: &mut W,
-) -> Result<(), LineFault> {
+fn write_routes<W: Write>(speaker: &Speaker, prefix: &Prefix, out: &mut W) -> Result<(), LineFault>
+    ensures written { OnOk result (Appends (W.contents out.old) (W.contents out.new) (route_lines prefix.now speaker.now)) }
+    ensures failed { IfErr result (λ fault. fault ≡ LineFault.Write) }
+{
     for index in 0..speaker.route_count() {
         write_route(speaker, prefix, index, out)?;
     }
@@ -167,7 +177,10 @@ fn write_route<W: Write>(
     prefix: &Prefix,
     index: usize,
     out: &mut W,
-) -> Result<(), LineFault> {
+) -> Result<(), LineFault>
+    ensures written { OnOk result (Appends (W.contents out.old) (W.contents out.new) (option_map_or (route_line prefix.now speaker.now) (slice_get (reported_entries prefix.now speaker.now) index) [])) }
+    ensures failed { IfErr result (λ fault. fault ≡ LineFault.Write) }
+{
     let Some((peer, entry, cost)) = speaker.entry(prefix, index) else {
         return Ok(());
     };

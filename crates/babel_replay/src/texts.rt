@@ -287,40 +287,134 @@ pub(crate) struct RouteLine {
 }
 
 impl fmt::Display for RouteLine {
+    ghost use Rattle.std.specs.Prelude.{Some};
+    ghost use Rattle.babel_replay.specs.Texts.{route_text};
+
+    ghost output = { λ line. Some (route_text line) };
+
     fn fmt<W: fmt::Write>(&self, f: &mut fmt::Formatter<W>) -> fmt::Result {
         let prefix = self.prefix;
-        let advertised = AdvertisedText {
+        let hop = HopText {
             peer: self.peer,
             router: self.router,
             distance: self.advertised,
         };
-        let link = LinkText {
+        let usage = UsageText {
             cost: self.cost,
             metric: self.metric,
             source: self.source,
+            status: self.status,
         };
-        let status = self.status;
-        write!(f, "{prefix} via {advertised} {link} {status}")
+        write!(f, "{prefix} {hop} {usage}")
+    }
+}
+
+/// The neighbour, and what it advertised.
+#[derive(Clone, Copy)]
+struct HopText {
+    peer: Peer,
+    router: RouterId,
+    distance: Distance,
+}
+
+impl fmt::Display for HopText {
+    ghost use Rattle.std.specs.Prelude.{Some};
+    ghost use Rattle.babel_replay.specs.Texts.{hop_text};
+
+    ghost output = { λ line. Some (hop_text line.peer line.router line.distance) };
+
+    fn fmt<W: fmt::Write>(&self, f: &mut fmt::Formatter<W>) -> fmt::Result {
+        let peer = PeerText { peer: self.peer };
+        let advertised = AdvertisedText {
+            router: self.router,
+            distance: self.distance,
+        };
+        write!(f, "via {peer} {advertised}")
+    }
+}
+
+/// An interface and an address.
+#[derive(Clone, Copy)]
+struct PeerText {
+    peer: Peer,
+}
+
+impl fmt::Display for PeerText {
+    ghost use Rattle.std.specs.Prelude.{Some};
+    ghost use Rattle.babel_replay.specs.Texts.{peer_text};
+
+    ghost output = { λ line. Some (peer_text line.peer) };
+
+    fn fmt<W: fmt::Write>(&self, f: &mut fmt::Formatter<W>) -> fmt::Result {
+        let Peer { iface, addr } = self.peer;
+        write!(f, "{iface} {addr}")
     }
 }
 
 /// What the neighbour advertised.
 #[derive(Clone, Copy)]
 struct AdvertisedText {
-    peer: Peer,
     router: RouterId,
     distance: Distance,
 }
 
 impl fmt::Display for AdvertisedText {
+    ghost use Rattle.std.specs.Prelude.{Some};
+    ghost use Rattle.babel_replay.specs.Texts.{advertised_text};
+
+    ghost output = { λ line. Some (advertised_text line.router line.distance) };
+
     fn fmt<W: fmt::Write>(&self, f: &mut fmt::Formatter<W>) -> fmt::Result {
-        let Peer { iface, addr } = self.peer;
         let router = self.router;
-        let Distance { seqno, metric } = self.distance;
-        write!(
-            f,
-            "{iface} {addr} router {router} seqno {seqno} advertised {metric}"
-        )
+        let distance = AdvertisedDistanceText {
+            distance: self.distance,
+        };
+        write!(f, "router {router} {distance}")
+    }
+}
+
+/// The seqno and the metric that the neighbour advertised.
+#[derive(Clone, Copy)]
+struct AdvertisedDistanceText {
+    distance: Distance,
+}
+
+impl fmt::Display for AdvertisedDistanceText {
+    ghost use Rattle.std.specs.Prelude.{Some};
+    ghost use Rattle.babel_replay.specs.Texts.{advertised_distance_text};
+
+    ghost output = { λ line. Some (advertised_distance_text line.distance) };
+
+    fn fmt<W: fmt::Write>(&self, f: &mut fmt::Formatter<W>) -> fmt::Result {
+        let seqno = self.distance.seqno;
+        let metric = self.distance.metric;
+        write!(f, "seqno {seqno} advertised {metric}")
+    }
+}
+
+/// The link, and whether the route is used.
+#[derive(Clone, Copy)]
+struct UsageText {
+    cost: Metric,
+    metric: Metric,
+    source: Option<Distance>,
+    status: RouteStatus,
+}
+
+impl fmt::Display for UsageText {
+    ghost use Rattle.std.specs.Prelude.{Some};
+    ghost use Rattle.babel_replay.specs.Texts.{usage_text};
+
+    ghost output = { λ line. Some (usage_text line.cost line.metric line.source line.status) };
+
+    fn fmt<W: fmt::Write>(&self, f: &mut fmt::Formatter<W>) -> fmt::Result {
+        let link = LinkText {
+            cost: self.cost,
+            metric: self.metric,
+            source: self.source,
+        };
+        let status = self.status;
+        write!(f, "{link} {status}")
     }
 }
 
