@@ -1,9 +1,7 @@
 -- Why a list cannot be read, and that a fault excludes a reading.
 use Rattle.std.proofs.Common.{◌≡◌, ℕ, zero, suc, ◌<◌, List, [], ◌∷◌, take, length, get_or, Option, Some, None, Result, Ok, Err, IfErr, IsErrAnd, MatchOption, sym, ap, arith}
-use Rattle.std.proofs.NetLemmas.Ipv6.{IsDotted-not_colon_hex}
 use Rattle.babel_value.specs.declared.addresses.Addr.{Addr}
-use Rattle.babel_value.specs.declared.addresses.Addr.TheVariants.{V4, V6}
-use Rattle.babel_value.specs.Texts.{IsAddrText}
+use Rattle.babel_value.specs.declared.addresses.Addr.TheVariants.{V4}
 use Rattle.babel_text.specs.Prefixes.{IsNetworkText}
 use Rattle.std.specs.Net.Grammar.{Parses}
 use Rattle.babel_config.specs.Scalars.{IsIpv4NetworkText}
@@ -48,12 +46,6 @@ module _ {A B : Type 0} (Means : Data → A → Type 0) (f : B → A) where
 pub err_caused : {A : Type 0} (r : Result A FileFault) (P : FileFault → Type 0) (fault : FileFault) → IsErrAnd r (λ given. given ≡ fault) → IsCaused P fault → IfErr r (IsCaused P)
 err_caused (Ok a) P fault is h = absurd is
 err_caused (Err given) P fault is h = rw is h
-
-no_other_family : (text a b : List ℕ) → IsAddrText text (V4 a) → IsAddrText text (V6 b) → ⊥
-no_other_family text a b (ip, spelled, same) (iq, spelled', same', none) = IsDotted-not_colon_hex text _ _ spelled spelled'
-
-pub no_ipv4_network : (text octets : List ℕ) (length : ℕ) → IsNetworkText text (V6 octets, length) → (net : List ℕ × ℕ) → ¬ (IsIpv4NetworkText text net)
-no_ipv4_network text octets length h net k = no_other_family _ net.0 octets k.1 h.1
 
 pub never_spelled : {A E : Type 0} (Spells : List ℕ → A → Type 0) (text : List ℕ) (r : Result A E) (e : E) → r ≡ Err e → Parses Spells text r → (a : A) → ¬ (Spells text a)
 never_spelled Spells text r e is h = rw is at h
