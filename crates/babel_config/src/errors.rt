@@ -48,6 +48,11 @@ pub struct FileFaultCode {
 
 /// The code, with the number of the event after `F6`.
 impl fmt::Display for FileFaultCode {
+    ghost use Rattle.std.specs.Prelude.{Some};
+    ghost use Rattle.babel_config.specs.Files.{fault_text};
+
+    ghost output = { λ code. Some (fault_text code.fault) };
+
     fn fmt<W: fmt::Write>(&self, f: &mut fmt::Formatter<W>) -> fmt::Result {
         match self.fault {
             FileFault::NotToml => f.write_str("F1"),
@@ -82,6 +87,12 @@ impl<T: Drop> From<AllocFailed<T>> for FileFault {
 
 /// The fault of a call that opens or reads a file.
 impl From<io::Error> for FileFault {
+    ghost use Rattle.std.specs.Prelude.{◌≡◌};
+    ghost use Rattle.std.specs.IoError.{error_kind};
+    ghost use Rattle.babel_config.specs.Files.{reading_fault};
+
+    ghost from_gives = { λ error fault. fault ≡ reading_fault (error_kind error) };
+
     fn from(error: io::Error) -> FileFault {
         match error.kind() {
             io::ErrorKind::OutOfMemory => FileFault::Memory,

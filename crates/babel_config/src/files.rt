@@ -1,6 +1,6 @@
 //! Files as octets.
 
-ghost use Rattle.std.specs.Prelude.{◌≡◌, ◌<◌, ◌≤◌, length, IfOk, IfErr};
+ghost use Rattle.std.specs.Prelude.{◌≡◌, ◌⊎◌, ◌<◌, ◌≤◌, length, IsErr, IfOk, IfErr, IfSome};
 ghost use Rattle.toml.specs.View.{view};
 ghost use Rattle.babel_config.specs.Configs.{IsConfig, HasConfigFault};
 ghost use Rattle.babel_config.specs.Scenarios.{IsScenario, HasScenarioFault};
@@ -57,8 +57,15 @@ fn read_toml(alloc: Global, octets: &[u8]) -> Result<Value, FileFault>
 }
 
 /// Reads the octets of a file, of which there may be `MAX_FILE_LEN`.
+///
+/// # Errors
+///
+/// F5 if reading fails or the file has more octets, F4 if an allocation fails.
 pub fn read_file<R: Read + Drop>(alloc: Global, input: R) -> Result<Vec<u8>, FileFault>
-    ensures { IfOk result (λ octets. length octets.items ≤ 1048576) }
+    ensures whole { IfSome (R.remaining input) (λ file. IfOk result (λ octets. octets.items ≡ file)) }
+    ensures bounded { IfOk result (λ octets. length octets.items ≤ 1048576) }
+    ensures too_long { IfSome (R.remaining input) (λ file. 1048576 < length file → IsErr result) }
+    ensures fault { IfErr result (λ fault. (fault ≡ FileFault.Unreadable) ⊎ (fault ≡ FileFault.Memory)) }
 {
     let mut octets = Vec::new(alloc);
     let mut front = input.take(MAX_FILE_LEN as u64 + 1);

@@ -1,7 +1,7 @@
-//! Tests of the files, and of the values that they and the logs have as text.
+//! The readers of files, with each allocation refused.
 #![tactic(auto)]
 
 #[cfg(test)]
-mod config_tests;
+mod each_key;
 #[cfg(test)]
-mod text_tests;
+mod memory;

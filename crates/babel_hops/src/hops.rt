@@ -2,9 +2,10 @@
 
 use babel_net::Event;
 use babel_network::Network;
+use babel_route::Selection;
 use babel_show::Fault;
 use babel_state::Config;
-use babel_value::{Prefix, RouterId};
+use babel_value::{Peer, Prefix, RouterId};
 use indexmap::IndexSet;
 use std::alloc::{AllocError, Global};
 use std::io::Write;
@@ -18,58 +19,159 @@ struct Hop {
     router: RouterId,
 }
 
+/// What the next hop of a selected route depends on.
+#[derive(Clone, Copy, Debug, PartialEq, Eq)]
+struct Route {
+    /// The neighbour that the route leads over.
+    peer: Peer,
+    /// The router that announces the prefix.
+    router: RouterId,
+}
+
+/// What is kept of a node and a prefix.
+#[derive(Clone, Copy, Debug)]
+struct Kept {
+    /// The selected route after the node's last event.
+    route: Option<Route>,
+    /// Whether the event changed the route.
+    is_changed: bool,
+    /// The next hop that was printed last.
+    printed: Option<Hop>,
+}
+
 /// For each node and then each prefix the next hop that was printed last.
 #[derive(Drop)]
 pub(crate) struct Hops {
-    prefixes: IndexSet<Prefix>,
-    printed: Vec<Vec<Option<Hop>>>,
+    /// The prefixes, in the order in which they are listed first.
+    prefixes: Vec<Prefix>,
+    /// The same in ascending order, each with its index in `prefixes`.
+    ascending: Vec<(Prefix, usize)>,
+    /// For each node what is kept of each prefix, by its index in `prefixes`.
+    nodes: Vec<Vec<Kept>>,
 }
 
 impl Hops {
     /// No next hop for the distinct prefixes of the configurations, in the order in which they are listed
     /// first.
     pub(crate) fn new(alloc: Global, configs: &[Config]) -> Result<Hops, AllocError> {
-        let mut prefixes = IndexSet::new(alloc);
-        for config in configs {
-            for prefix in config.prefixes.as_slice() {
-                prefixes.insert(*prefix)?;
-            }
-        }
-        let mut printed = Vec::with_capacity(alloc, configs.len())?;
+        let prefixes = prefixes_of(alloc, configs)?;
+        let ascending = ascending_of(alloc, prefixes.as_slice())?;
+        let mut nodes = Vec::with_capacity(alloc, configs.len())?;
         for _ in configs {
-            printed.push(no_hops(alloc, prefixes.len())?)?;
+            nodes.push(no_hops(alloc, prefixes.len())?)?;
         }
-        Ok(Hops { prefixes, printed })
+        Ok(Hops {
+            prefixes,
+            ascending,
+            nodes,
+        })
     }
 
-    /// Writes each next hop of the node that changed in the event.
+    /// Writes each next hop of the event's node that changed in the event.
     pub(crate) fn write_changes<W: Write>(
         &mut self,
         number: usize,
-        node: usize,
+        event: &Event,
         network: &Network,
         out: &mut W,
     ) -> Result<(), Fault> {
-        let Some(printed) = self.printed.get_mut(node) else {
+        let Some(node) = changed_node(event) else {
             return Ok(());
         };
-        for (prefix, printed) in self.prefixes.iter().zip(printed.iter_mut()) {
-            let hop = hop_of(network, node, prefix);
-            if hop != *printed {
-                *printed = hop;
-                write_hop(number, node, prefix, hop, out)?;
+        let Some(kept) = self.nodes.get_mut(node) else {
+            return Ok(());
+        };
+        if !see_routes(network, node, self.ascending.as_slice(), kept) {
+            return Ok(());
+        }
+        for (prefix, kept) in self.prefixes.iter().zip(kept.iter_mut()) {
+            if kept.is_changed {
+                kept.is_changed = false;
+                let hop = hop_of(network, node, prefix);
+                if hop != kept.printed {
+                    kept.printed = hop;
+                    write_hop(number, node, prefix, hop, out)?;
+                }
             }
         }
         Ok(())
     }
 }
 
-fn no_hops(alloc: Global, prefixes: usize) -> Result<Vec<Option<Hop>>, AllocError> {
+/// The distinct prefixes of the configurations, in the order in which they are listed first.
+fn prefixes_of(alloc: Global, configs: &[Config]) -> Result<Vec<Prefix>, AllocError> {
+    let mut distinct = IndexSet::new(alloc);
+    for config in configs {
+        for prefix in config.prefixes.as_slice() {
+            distinct.insert(*prefix)?;
+        }
+    }
+    let mut prefixes = Vec::with_capacity(alloc, distinct.len())?;
+    for prefix in distinct.iter() {
+        prefixes.push(*prefix)?;
+    }
+    Ok(prefixes)
+}
+
+/// The prefixes with their indices, in ascending order.
+fn ascending_of(alloc: Global, prefixes: &[Prefix]) -> Result<Vec<(Prefix, usize)>, AllocError> {
+    let mut ascending = Vec::with_capacity(alloc, prefixes.len())?;
+    for (index, prefix) in prefixes.iter().enumerate() {
+        ascending.push((*prefix, index))?;
+    }
+    ascending.sort_unstable();
+    Ok(ascending)
+}
+
+fn no_hops(alloc: Global, prefixes: usize) -> Result<Vec<Kept>, AllocError> {
     let mut hops = Vec::with_capacity(alloc, prefixes)?;
     for _ in 0..prefixes {
-        hops.push(None)?;
+        hops.push(Kept {
+            route: None,
+            is_changed: false,
+            printed: None,
+        })?;
     }
     Ok(hops)
+}
+
+/// Looks at all selected routes of the node, in one walk over them. Returns whether one changed.
+fn see_routes(
+    network: &Network,
+    node: usize,
+    ascending: &[(Prefix, usize)],
+    kept: &mut [Kept],
+) -> bool {
+    let mut place = 0;
+    let mut has_changed = false;
+    for (prefix, index) in ascending {
+        let route = next_route(network, node, prefix, &mut place);
+        if let Some(kept) = kept.get_mut(*index) {
+            if route != kept.route {
+                kept.route = route;
+                kept.is_changed = true;
+                has_changed = true;
+            }
+        }
+    }
+    has_changed
+}
+
+/// The node's selected route to the prefix, if `place` is no greater than its place among the selections. The next
+/// greater prefix is then at `place` or after it.
+fn next_route(network: &Network, node: usize, prefix: &Prefix, place: &mut usize) -> Option<Route> {
+    for at in *place..usize::MAX {
+        let (selected, Selection { peer, entry }) = network.selection_at(node, at)?;
+        if selected == *prefix {
+            *place = at + 1;
+            let router = entry.router;
+            return Some(Route { peer, router });
+        }
+        if selected > *prefix {
+            return None;
+        }
+    }
+    None
 }
 
 fn hop_of(network: &Network, node: usize, prefix: &Prefix) -> Option<Hop> {
@@ -97,16 +199,16 @@ fn write_hop<W: Write>(
     written.map_err(Fault::of_writing)
 }
 
-/// The node whose selected routes an event may change.
-pub(crate) fn node_of(event: &Event) -> usize {
+/// The node whose selected routes an event may change. Sending a datagram changes none.
+fn changed_node(event: &Event) -> Option<usize> {
     match event {
+        Event::Emit { .. } => None,
         Event::Tick { node, .. }
-        | Event::Emit { node, .. }
         | Event::Deliver { node, .. }
         | Event::SetCost { node, .. }
         | Event::Raise { node }
         | Event::Announce { node, .. }
         | Event::Withdraw { node, .. }
-        | Event::Restart { node, .. } => *node,
+        | Event::Restart { node, .. } => Some(*node),
     }
 }

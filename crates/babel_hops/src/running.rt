@@ -1,7 +1,7 @@
 //! `babel net SCENARIO`.
 
 use crate::errors::NetCommandFault;
-use crate::hops::{Hops, node_of};
+use crate::hops::Hops;
 use babel_config::{Scenario, read_file, read_scenario};
 use babel_net::{Event, NetFault, StepFault};
 use babel_network::Network;
@@ -66,7 +66,7 @@ fn write_events<W: Write>(
         if network.sent(datagrams).is_some() {
             datagrams = datagrams.saturating_add(1);
         }
-        hops.write_changes(number, node_of(event), network, out)?;
+        hops.write_changes(number, event, network, out)?;
     }
     writeln!(out, "end {} events {datagrams} datagrams", events.len()).map_err(Fault::of_writing)?;
     Ok(Status::Done)

@@ -4,11 +4,12 @@ use Rattle.std.specs.List.{insert, count_by}
 use Rattle.std.specs.List.Sorted.{IsSearchInRange, IsBinarySearchResult, IsNonDecreasingBy, IsPartitionPoint}
 use Rattle.std.specs.declared.cmp.Ordering.{Ordering}
 use Rattle.std.specs.declared.cmp.Ordering.TheVariants.{Less, Equal, Greater}
-use Rattle.std.specs.Ordering.{is_lt, ordering_index, ordering_reverse}
+use Rattle.std.specs.Ordering.{is_lt, is_eq, ordering_index, ordering_reverse}
 use Rattle.std.specs.Cmp.{IsTotalOrder, alike_right, tied_back, tied_itself, first_so, second_so}
 use Rattle.std.specs.FinMap.{find, put, is_sorted}
 use Rattle.std.specs.FinMap.Entries.{below_all, is_sorted-put}
 use Rattle.std.proofs.lemmas.Bool.{cases_lt}
+use Rattle.std.proofs.lemmas.List.{get_or_default}
 use Rattle.std.proofs.lemmas.List.Sums.{sum_by-cons}
 use Rattle.babel_value.specs.declared.keys.Peer.{Peer}
 use Rattle.babel_value.specs.Orders.{peer_cmp}
@@ -25,6 +26,11 @@ pub less : (r : Ordering) → is_lt r ≡ true → r ≡ Less
 less Less e = refl
 less Equal e = cc
 less Greater e = cc
+
+equal : (r : Ordering) → is_eq r ≡ true → r ≡ Equal
+equal Less e = cc
+equal Equal e = refl
+equal Greater e = cc
 
 module _ {K : Type 0} {R : K → K → Ordering} (o : IsTotalOrder R) where
   turned : (k x : K) (r : Ordering) → R x k ≡ r → R k x ≡ ordering_reverse r
@@ -118,6 +124,11 @@ module _ (es : Links) (sorted : is_sorted peer_cmp es ≡ true) (peer : Peer) wh
         found = λ d. find_at peer_cmp peer es i d before within (tied_back peer_total (get_or es i d).0 peer (here d));
         written = λ link d. put_at peer_cmp peer link es i d before within (tied_back peer_total (get_or es i d).0 peer (here d));
       }
+
+  -- An entry with the peer's key is at the peer's place.
+  pub place_of_entry : (i : ℕ) (e : Peer × Link) → i < length es → e ≡ get_or es i e → is_eq (peer_cmp e.0 peer) ≡ true → IsPlaceOf peer es i
+  place_of_entry i e within read same =
+      place_of_found i within (λ d. ap (λ (x : Peer × Link). peer_cmp x.0 peer) (get_or_default es i d e within ∙ sym read) ∙ equal (peer_cmp e.0 peer) same)
 
   gap_of_absent : (i : ℕ) → i ≤ length es → IsPartitionPoint (λ e. peer_cmp e.0 peer ≡ Less) (λ e. peer_cmp e.0 peer ≡ Greater) es i → IsGapFor peer es i
   gap_of_absent i within parted =

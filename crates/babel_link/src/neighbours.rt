@@ -12,6 +12,7 @@ use crate::{Full, Heard, Link, Memory, Peers};
 use arrayvec::ArrayVec;
 use babel_value::{Metric, Peer, Seqno};
 use std::alloc::Global;
+use std::cell::Cell;
 use std::marker::Model;
 
 /// How many neighbours there is room for.
@@ -24,6 +25,8 @@ pub struct Neighbours {
     links: Vec<(Peer, Link)>,
     /// Before this moment no deadline is due.
     due: u64,
+    /// Where the neighbour is that was looked up last. It only matters for speed: a look-up begins there.
+    near: Cell<usize>,
 }
 
 impl Model for Neighbours {
@@ -91,17 +94,56 @@ impl Neighbours {
             Ok(links) => Ok(Neighbours {
                 links,
                 due: u64::MAX,
+                near: Cell::new(0),
             }),
             Err(_) => Err(Memory),
         }
     }
 
     /// Where the peer's entry is, or where it would be inserted.
-    fn search(&self, peer: Peer) -> Result<usize, usize>
-        ensures found { IfOk result (IsPlaceOf peer self.now) }
-        ensures absent { IfErr result (IsGapFor peer self.now) }
+    fn search(&self, peer: &Peer) -> Result<usize, usize>
+        ensures found { IfOk result (IsPlaceOf peer.now self.now) }
+        ensures absent { IfErr result (IsGapFor peer.now self.now) }
     {
-        self.links.binary_search_by_key(&peer, |entry| entry.0)
+        self.links.binary_search_by_key(peer, |entry| entry.0)
+    }
+
+    /// Whether the peer's entry is at this place.
+    fn is_at(&self, place: usize, peer: &Peer) -> bool
+        ensures { IsTrue result → IsPlaceOf peer.now self.now place }
+    {
+        match self.links.get(place) {
+            Some(entry) => entry.0.cmp(peer).is_eq(),
+            None => false,
+        }
+    }
+
+    /// The place after this one; after the last one the first.
+    fn next_place(&self, place: usize) -> usize {
+        let next = place.wrapping_add(1);
+        if next < self.links.len() { next } else { 0 }
+    }
+
+    /// Where the peer's entry is, or where it would be inserted. It looks first where the last one was found, then at
+    /// the next place: a datagram is of one neighbour, and the routes of a prefix are in the order of theirs.
+    fn search_near(&self, peer: &Peer) -> Result<usize, usize>
+        ensures found { IfOk result (IsPlaceOf peer.now self.now) }
+        ensures absent { IfErr result (IsGapFor peer.now self.now) }
+    {
+        let near = self.near.get();
+        if self.is_at(near, peer) {
+            return Ok(near);
+        }
+        let next = self.next_place(near);
+        if self.is_at(next, peer) {
+            self.near.set(next);
+            return Ok(next);
+        }
+        let found = self.search(peer);
+        if let Ok(place) = found {
+            self.near.set(place);
+        }
+        found
     }
 
     /// What is known of the peer, by the place that a search for it found.
@@ -122,7 +164,7 @@ impl Neighbours {
     fn get(&self, peer: Peer) -> Option<Link>
         ensures { result ≡ find peer_cmp peer self.now }
     {
-        self.link_at(peer, self.search(peer))
+        self.link_at(peer, self.search_near(&peer))
     }
 
     /// Writes what is known of the peer, at the place that a search for it found.
@@ -160,7 +202,7 @@ impl Neighbours {
         ensures ok { OnOk result (self.new ≡ hello_of now peer unicast seqno interval self.old) }
         ensures err { OnErr result (self.new ≡ self.old) }
     {
-        let place = self.search(peer);
+        let place = self.search_near(&peer);
         let known = self.link_at(peer, place);
         if known.is_none() && self.links.len() == MAX_NEIGHBOURS {
             return Err(Full);
@@ -181,7 +223,7 @@ impl Neighbours {
         ensures known { result ≡ is_some (find peer_cmp peer self.old) }
         ensures links { self.new ≡ ihu_of now peer rxcost interval self.old }
     {
-        let place = self.search(peer);
+        let place = self.search_near(&peer);
         let Some(mut link) = self.link_at(peer, place) else {
             return false;
         };

@@ -3,6 +3,7 @@
 use arrayvec::ArrayVec;
 use babel_link::*;
 use babel_value::{Addr, Metric, Peer, Seqno};
+use std::process::Abort;
 use std::test::Fail;
 
 const NOMINAL: Metric = Metric(256);
@@ -61,29 +62,35 @@ fn a_flush_clears_both_histories(rt: HostRuntime) -> Result<(), Fail> {
         neighbours.hello(0, peer(1), false, Seqno(seqno), 400)?;
     }
     // The first unicast Hello begins a history of its own.
-    assert_eq!(rt;
-        neighbours.hello(0, peer(1), true, Seqno(100), 0)?,
-        Heard::Kept
-    );
+    check_hello(&rt, &mut neighbours, true, 100, Heard::Kept);
     neighbours.ihu(0, peer(1), Metric(96), 1200);
     assert_eq!(rt; neighbours.cost(peer(1), NOMINAL), Metric(96));
+    check_flush(&rt, &mut neighbours);
+    Ok(())
+}
+
+/// A Hello of the first neighbour without a timer.
+fn check_hello(
+    rt: &impl Abort,
+    neighbours: &mut Neighbours,
+    unicast: bool,
+    seqno: u16,
+    heard: Heard,
+) {
     assert_eq!(rt;
-        neighbours.hello(0, peer(1), true, Seqno(118), 0)?,
-        Heard::Flush
+        neighbours.hello(0, peer(1), unicast, Seqno(seqno), 0),
+        Ok(heard)
     );
+}
+
+fn check_flush(rt: &impl Abort, neighbours: &mut Neighbours) {
+    check_hello(rt, neighbours, true, 118, Heard::Flush);
     assert_eq!(rt; neighbours.rxcost(peer(1), NOMINAL), Metric::INFINITE);
     // Its multicast history begins again too, whatever the number is.
-    assert_eq!(rt;
-        neighbours.hello(0, peer(1), false, Seqno(1000), 0)?,
-        Heard::Kept
-    );
-    assert_eq!(rt;
-        neighbours.hello(0, peer(1), true, Seqno(119), 0)?,
-        Heard::Kept
-    );
+    check_hello(rt, neighbours, false, 1000, Heard::Kept);
+    check_hello(rt, neighbours, true, 119, Heard::Kept);
     assert_eq!(rt; neighbours.rxcost(peer(1), NOMINAL), NOMINAL);
     assert_eq!(rt; neighbours.cost(peer(1), NOMINAL), Metric::INFINITE);
-    Ok(())
 }
 
 #[test]
@@ -94,18 +101,26 @@ fn silent_neighbours_go(rt: HostRuntime) -> Result<(), Fail> {
     for (last, interval) in [(3, 100), (1, 100), (2, 0)] {
         neighbours.hello(0, peer(last), false, Seqno(0), interval)?;
     }
-    // The sixteenth missed mark, at 1650, pushes out the last one of a Hello that came.
+    check_silence(&rt, &mut neighbours, &mut gone);
+    check_one_is_left(&rt, &mut neighbours, &mut gone);
+    Ok(())
+}
+
+/// The sixteenth missed mark, at 1650, pushes out the last one of a Hello that came.
+fn check_silence(rt: &impl Abort, neighbours: &mut Neighbours, gone: &mut ArrayVec<Peer, 64>) {
     for tick in 0..16 {
         assert!(rt; neighbours.known(peer(1)), "before tick {tick}");
-        neighbours.tick(150 + 100 * tick, &mut gone);
+        neighbours.tick(150 + 100 * tick, gone);
         assert_eq!(rt; gone.is_empty(), tick < 15, "tick {tick}");
     }
+}
+
+fn check_one_is_left(rt: &impl Abort, neighbours: &mut Neighbours, gone: &mut ArrayVec<Peer, 64>) {
     assert_eq!(rt; gone.as_slice(), [peer(1), peer(3)].as_slice());
     assert_eq!(rt; neighbours.at(0), Some(peer(2)));
     assert_eq!(rt; neighbours.at(1), None);
-    neighbours.tick(u64::MAX, &mut gone);
+    neighbours.tick(u64::MAX, gone);
     assert!(rt; gone.is_empty());
-    Ok(())
 }
 
 #[test]
@@ -114,6 +129,13 @@ fn no_room_for_a_65th(rt: HostRuntime) -> Result<(), Fail> {
     for last in (0..64).rev() {
         neighbours.hello(0, peer(last), false, Seqno(0), 400)?;
     }
+    check_refusal(&rt, &mut neighbours);
+    check_costs(&rt, &neighbours);
+    check_peers(&rt, &neighbours);
+    Ok(())
+}
+
+fn check_refusal(rt: &impl Abort, neighbours: &mut Neighbours) {
     assert_eq!(rt;
         neighbours.hello(0, peer(64), false, Seqno(0), 400),
         Err(Full)
@@ -123,9 +145,15 @@ fn no_room_for_a_65th(rt: HostRuntime) -> Result<(), Fail> {
         neighbours.hello(0, peer(63), false, Seqno(1), 400),
         Ok(Heard::Kept)
     );
+}
+
+fn check_costs(rt: &impl Abort, neighbours: &Neighbours) {
     assert_eq!(rt; neighbours.rxcost(peer(63), NOMINAL), NOMINAL);
     assert_eq!(rt; neighbours.cost(peer(64), NOMINAL), Metric::INFINITE);
     assert_eq!(rt; neighbours.rxcost(peer(64), NOMINAL), Metric::INFINITE);
+}
+
+fn check_peers(rt: &impl Abort, neighbours: &Neighbours) {
     let mut peers = neighbours.peers();
     for last in 0..64 {
         assert_eq!(rt; peers.next(), Some(peer(last)));
@@ -133,7 +161,6 @@ fn no_room_for_a_65th(rt: HostRuntime) -> Result<(), Fail> {
     }
     assert_eq!(rt; peers.next(), None);
     assert_eq!(rt; neighbours.at(64), None);
-    Ok(())
 }
 
 /// `tests/refused-memory` runs it with each allocation refused in turn: the first call fails, and the next

@@ -1,5 +1,7 @@
-//! Tests of the message machine.
+//! The machine, with each allocation refused.
 #![tactic(auto)]
 
 #[cfg(test)]
-mod machine_tests;
+mod machines;
+#[cfg(test)]
+mod memory;

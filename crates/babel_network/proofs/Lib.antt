@@ -7,6 +7,7 @@ mod SharedAddresses
 mod TableOwners
 mod AddrCmp
 mod SentOctetsLaws
+mod Recorded
 mod Chains
 mod NextHops
 mod CallFaults

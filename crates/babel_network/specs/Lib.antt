@@ -7,3 +7,4 @@ pub mod Laws
 pub mod Owned
 pub mod Making
 pub mod Shared
+pub mod Recording

@@ -20,7 +20,8 @@ use babel_speaker::Speaker;
 use babel_state::{
     Config, ConfigFault, RecvFault, RestoreFault, SetCostFault, datagrams_send, items_mean_messages,
 };
-use babel_value::Prefix;
+use babel_tlv::DATAGRAM_LEN;
+use babel_value::{Addr, Prefix};
 use std::alloc::Global;
 
 /// The node that an event is of.
@@ -122,18 +123,23 @@ fn withdraw(speaker: &mut Speaker, config: &Config, prefix: Prefix) -> Result<()
     }
 }
 
-/// The next datagram of a node's speaker, if there is one.
-pub(crate) fn send(speaker: &mut Speaker, node: usize, now: u64) -> Option<Sent>
+/// The source address of the next datagram of a node's speaker, if there is one. Its octets are written to
+/// `octets`, in place of what was there.
+pub(crate) fn send(
+    speaker: &mut Speaker,
+    node: usize,
+    now: u64,
+    octets: &mut ArrayVec<u8, DATAGRAM_LEN>,
+) -> Option<Addr>
     requires { IsWellFormed speaker.old }
     ensures state { speaker.new ≡ (next_of now speaker.old).state }
-    ensures sent { IsSent node speaker.old (next_of now speaker.old) (next_of now speaker.old).target result }
+    ensures sent { IsSent node speaker.old (next_of now speaker.old) (next_of now speaker.old).target (option_map (λ source. record { node = node; source = source; octets = octets.new.items }) result) }
 {
     datagrams_send();
     items_mean_messages();
-    let mut octets = ArrayVec::new();
-    let target = speaker.next_datagram(now, &mut octets)?;
+    let target = speaker.next_datagram(now, octets)?;
     match speaker.transport(target.iface) {
-        Some(source) => Some(Sent::new(node, source, octets)),
+        Some(source) => Some(source),
         None => unreachable!(),
     }
 }
@@ -143,7 +149,7 @@ pub(crate) fn send(speaker: &mut Speaker, node: usize, now: u64) -> Option<Sent>
 #[tactic(auto, unfolding(babel_state::specs::Addresses::source_fault))]
 pub(crate) fn receive(
     speaker: &mut Speaker,
-    sent: &Sent,
+    sent: &Sent<'_>,
     iface: u8,
     now: u64,
 ) -> Result<(), StepFault>

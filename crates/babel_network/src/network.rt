@@ -18,6 +18,7 @@ use crate::nodes::Nodes;
 use crate::owners::Owners;
 use babel_net::laws::{events_are_machine_runs, next_hops_are_picks, sound_networks_have_no_loop};
 use babel_net::{Event, NetFault, StepFault};
+use babel_route::Selection;
 use babel_state::{Config, Selected};
 use babel_value::{Addr, Prefix, RouterId};
 use std::alloc::Global;
@@ -149,6 +150,13 @@ impl Network {
         sound_networks_have_no_loop();
         let selected = self.nodes.selected(node, prefix);
         router_of(selected)
+    }
+
+    /// The node's selection whose prefix has exactly `place` lesser ones among its selections' prefixes.
+    pub fn selection_at(&self, node: usize, place: usize) -> Option<(Prefix, Selection)>
+        ensures { result ≡ option_and_then (λ (s : State). slice_get s.routes.selections place) (slice_get self.now.speakers node) }
+    {
+        self.nodes.selection_at(node, place)
     }
 
     /// How often the node's own seqno grew. `None` if there is no such node.

@@ -12,9 +12,10 @@ ghost use Rattle.babel_network.specs.Making.{IsOutOfMemory};
 ghost use Rattle.babel_network.specs.Promises.{first_network};
 ghost use Rattle.babel_network.specs.Steps.{Makes, MakesEmit, MakesDeliver, MakesRestart};
 
-use crate::calls::{call, node_of, receive, restart, send};
-use crate::sent::Sent;
+use crate::calls::{call, node_of, receive, restart};
+use crate::sent::Record;
 use babel_net::{Event, NetFault, StepFault};
+use babel_route::Selection;
 use babel_speaker::Speaker;
 use babel_state::{Config, Selected};
 use babel_value::{Addr, Prefix};
@@ -27,7 +28,7 @@ pub struct Nodes {
     alloc: Global,
     configs: Vec<Config>,
     speakers: Vec<Speaker>,
-    sent: Vec<Sent>,
+    sent: Record,
 }
 
 impl Model for Nodes {
@@ -35,7 +36,7 @@ impl Model for Nodes {
 
     ghost Value = { NetworkState };
 
-    ghost view = { λ n. record { configs = n.configs.items; speakers = n.speakers.items; sent = n.sent.items } };
+    ghost view = { λ n. record { configs = n.configs.items; speakers = n.speakers.items; sent = n.sent } };
 }
 
 impl Nodes {
@@ -51,7 +52,7 @@ impl Nodes {
             alloc,
             configs,
             speakers,
-            sent: Vec::new(alloc),
+            sent: Record::new(alloc),
         })
     }
 
@@ -89,13 +90,10 @@ impl Nodes {
         ensures refused { IfErr result (λ fault. fault ≡ StepFault.Memory) }
         ensures err { OnErr result (self.new ≡ self.old) }
     {
-        if self.sent.reserve(1).is_err() {
-            return Err(StepFault::Memory);
+        match self.sent.record_next(&mut self.speakers[node], node, now) {
+            Ok(()) => Ok(()),
+            Err(fault) => Err(fault),
         }
-        if let Some(sent) = send(&mut self.speakers[node], node, now) {
-            self.sent.push_reserved(sent);
-        }
-        Ok(())
     }
 
     /// The node receives the recorded datagram.
@@ -107,10 +105,10 @@ impl Nodes {
         ensures refused { IfErr result (λ fault. (speaker : State) → slice_get self.old.speakers node ≡ Some speaker → IsFaultOrMemory (deliver_fault number iface speaker self.old) fault) }
         ensures err { OnErr result (self.new ≡ self.old) }
     {
-        if number >= self.sent.len() {
+        let Some(sent) = self.sent.get(number) else {
             return Err(StepFault::NoDatagram);
-        }
-        receive(&mut self.speakers[node], &self.sent[number], iface, now)
+        };
+        receive(&mut self.speakers[node], &sent, iface, now)
     }
 
     /// The node's speaker is saved, and restored with its configuration.
@@ -139,6 +137,16 @@ impl Nodes {
     {
         match self.speakers.get(node) {
             Some(speaker) => speaker.selected(prefix),
+            None => None,
+        }
+    }
+
+    /// The node's selection whose prefix has exactly `place` lesser ones among its selections' prefixes.
+    pub fn selection_at(&self, node: usize, place: usize) -> Option<(Prefix, Selection)>
+        ensures { result ≡ option_and_then (λ (s : State). slice_get s.routes.selections place) (slice_get self.now.speakers node) }
+    {
+        match self.speakers.get(node) {
+            Some(speaker) => speaker.selection_at(place),
             None => None,
         }
     }

@@ -8,10 +8,12 @@ use Rattle.babel_value.specs.Prefixes.{PrefixValue}
 use Rattle.babel_value.specs.Orders.{addr_cmp, peer_cmp, prefix_cmp}
 use Rattle.babel_value.specs.contracts.addresses.AddrOrd.TheImpl as addrs
 use Rattle.babel_value.specs.contracts.keys.PeerOrd.TheImpl as peers
+use Rattle.babel_value.specs.contracts.keys.PeerOrd.TheImpl.Laws.{matches_eq-law as peers_match}
+use Rattle.babel_value.specs.contracts.keys.PeerPartialEq.TheImpl as equal_peers
 use Rattle.babel_value.specs.contracts.prefixes.PrefixOrd.TheImpl as prefixes
 use Rattle.babel_value.specs.contracts.prefixes.PrefixOrd.TheImpl.Laws.{matches_eq-law}
 use Rattle.babel_value.specs.contracts.prefixes.PrefixPartialEq.TheImpl as same_prefixes
-use Rattle.babel_state.specs.Sameness.{is_same_prefix}
+use Rattle.babel_state.specs.Sameness.{is_same_peer, is_same_prefix}
 
 cmp_of_addrs : (a b : Addr) → (addrs.ghosts).cmp a b ≡ addr_cmp a b
 cmp_of_addrs (V4 a) (V4 b) = refl
@@ -19,7 +21,7 @@ cmp_of_addrs (V4 a) (V6 b) = refl
 cmp_of_addrs (V6 a) (V4 b) = refl
 cmp_of_addrs (V6 a) (V6 b) = refl
 
-pub cmp_of_peers : (a b : Peer) → (peers.ghosts).cmp a b ≡ peer_cmp a b
+cmp_of_peers : (a b : Peer) → (peers.ghosts).cmp a b ≡ peer_cmp a b
 cmp_of_peers a b = ap (ordering_then (nat_cmp a.iface b.iface)) (cmp_of_addrs a.addr b.addr)
 
 cmp_of_prefixes : (a b : PrefixValue) → (prefixes.ghosts).cmp a b ≡ prefix_cmp a b
@@ -27,3 +29,6 @@ cmp_of_prefixes a b = ap (λ o. ordering_then o (nat_cmp a.length b.length)) (cm
 
 pub same_prefix : (p q : PrefixValue) → (same_prefixes.ghosts).eq p q ≡ is_same_prefix p q
 same_prefix p q = matches_eq-law p q ∙ ap is_eq (cmp_of_prefixes p q)
+
+pub same_peer : (p q : Peer) → (equal_peers.ghosts).eq p q ≡ is_same_peer p q
+same_peer p q = peers_match p q ∙ ap is_eq (cmp_of_peers p q)

@@ -1,12 +1,15 @@
 -- What is written at the end of a log.
-use Rattle.std.proofs.Common.{◌≡◌, ◌+◌, ◌⊎◌, inl, inr, ℕ, List, [], length, Option, Result, Ok, Err, IsOk, OnOk, IfErr, sym, subst, true≢false}
+use Rattle.std.proofs.Common.{◌≡◌, ◌+◌, ◌⊎◌, inl, inr, ℕ, List, [], length, Option, IsNone, Result, Ok, Err, IsOk, OnOk, IfErr, sym, subst, true≢false}
 use Rattle.std.proofs.lemmas.Result.{IfErr-at_err}
 use Rattle.std.specs.Io.KnownBytes.{Appends}
 use Rattle.babel_value.specs.Prefixes.{PrefixValue}
+use Rattle.babel_state.specs.declared.errors.ConfigFault.{ConfigFault}
 use Rattle.babel_state.specs.State.{State}
 use Rattle.babel_replay.specs.declared.errors.LineFault.{LineFault}
 use Rattle.babel_replay.specs.declared.errors.LineFault.TheVariants.{Write}
-use Rattle.babel_replay.specs.LogReports.{OfAllLines, OfLinesBefore, IsLogReport, Writes, whole_report, routes_after}
+use Rattle.babel_replay.specs.declared.errors.ReplayFault.{ReplayFault}
+use Rattle.babel_replay.specs.declared.errors.ReplayFault.TheVariants.{Config, Line}
+use Rattle.babel_replay.specs.LogReports.{Ending, OfAllLines, OfLinesBefore, IsLogReport, IsReplayFault, IsStopped, Writes, whole_report, routes_after}
 use Rattle.babel_replay.specs.Report.{table_lines}
 use Rattle.babel_replay.specs.Routes.{route_lines}
 use Rattle.babel_replay.specs.Seen.{SeenPrefix}
@@ -38,25 +41,32 @@ pub counted : (number : ℕ) (old : State) (seen : List SeenPrefix) (new : State
     IsReported number old seen new later a b texts → number ≡ length texts + 1
 counted number old seen new later a b texts so = so.before_it
 
-pub reported_whole : (number : ℕ) (first old : State) (seen : List SeenPrefix) (s : State) (later : List SeenPrefix) (a b c : Option (List ℕ)) →
-    old ≡ first → seen ≡ [] → Appends b c (table_lines s later) → (texts : List (List ℕ)) → IsReported number old seen s later a b texts → Writes whole_report first a c texts
-reported_whole number first old seen s later a b c is none table texts so = record {
+pub reported_whole : (number : ℕ) (first : State) (seen : List SeenPrefix) (s : State) (later : List SeenPrefix) (a b c : Option (List ℕ)) →
+    seen ≡ [] → Appends b c (table_lines s later) → (texts : List (List ℕ)) → IsReported number first seen s later a b texts → Writes whole_report first a c texts
+reported_whole number first seen s later a b c none table texts so = record {
   last = s;
   seen = later;
   report = so.report;
-  reported = subst (λ t. IsLogReport texts t [] s later so.report) is (subst (λ es. IsLogReport texts old es s later so.report) none so.reported);
+  reported = subst (λ es. IsLogReport texts first es s later so.report) none so.reported;
   written = appends_more a b c so.report (table_lines s later) so.written table;
 }
 
 pub counted_led : (number : ℕ) (old new : State) (texts : List (List ℕ)) → LeadsTo number old new texts → number ≡ length texts + 1
 counted_led number old new texts so = so.before_it
 
-pub routes_written : (number : ℕ) (prefix : PrefixValue) (first old s : State) (a b : Option (List ℕ)) →
-    old ≡ first → Appends a b (route_lines prefix s) → (texts : List (List ℕ)) → LeadsTo number old s texts → Writes (routes_after prefix) first a b texts
-routes_written number prefix first old s a b is routes texts so = record {
-  last = s;
-  seen = so.seen;
-  report = so.report;
-  reported = subst (λ t. IsLogReport texts t [] s so.seen so.report) is so.reported;
-  written = routes;
-}
+pub routes_written : (number : ℕ) (prefix : PrefixValue) (first s : State) (a b : Option (List ℕ)) →
+    Appends a b (route_lines prefix s) → (texts : List (List ℕ)) → LeadsTo number first s texts → Writes (routes_after prefix) first a b texts
+routes_written number prefix first s a b routes texts so = record { last = s; seen = so.seen; report = so.report; reported = so.reported; written = routes }
+
+-- ---- with a speaker of the configuration
+
+pub from_first : (ending : Ending) (first s : State) (log a b : Option (List ℕ)) (ended : Result Unit ReplayFault) → s ≡ first →
+    OnOk ended (OfAllLines log (Writes ending s a b)) → OnOk ended (OfAllLines log (Writes ending first a b))
+from_first ending first s log a b ended is = subst (λ t. OnOk ended (OfAllLines log (Writes ending t a b))) is
+
+pub stopped_from_first : (ending : Ending) (first s : State) (cause : Option ConfigFault) (log left a b : Option (List ℕ)) (ended : Result Unit ReplayFault) →
+    s ≡ first → IsNone cause → IfErr ended (IsStopped ending s log a b) → IfErr ended (IsReplayFault ending first cause log left a b)
+stopped_from_first ending first s cause log left a b (Ok u) is valid stopped = tt
+stopped_from_first ending first s cause log left a b (Err (Config fault)) is valid stopped = absurd stopped
+stopped_from_first ending first s cause log left a b (Err (Line number fault)) is valid stopped =
+    (valid, subst (λ t. OfLinesBefore log number fault (Writes ending t a b)) is stopped)

@@ -6,13 +6,11 @@ use Rattle.babel_state.specs.State.{State}
 use Rattle.babel_replay.specs.declared.errors.LineFault.{LineFault}
 use Rattle.babel_replay.specs.declared.errors.LineFault.TheVariants.{Read, Write, Memory}
 use Rattle.babel_replay.specs.declared.log_lines.Action.{Action}
-use Rattle.babel_replay.specs.declared.stepping.Outcome.{Outcome}
 use Rattle.babel_replay.specs.LogLines.{lines_of, is_skipped_line, ReadsLine, IsLine, IsLineFault}
 use Rattle.babel_replay.specs.LogReports.{IsLineReport, IsLogReport, HasLines, BeginsWith, IsRefusedAfter, IsTooLongAfter, IsCause, OfAllLines, OfLinesBefore, room}
-use Rattle.babel_replay.specs.Report.{places_in, outcome_lines, seen_by, select_lines, out_lines, SendsAll}
+use Rattle.babel_replay.specs.Report.{places_in, outcome_lines, seen_by, select_lines, out_lines}
 use Rattle.babel_replay.specs.Seen.{SeenPrefix, printed_all}
-use Rattle.babel_replay.specs.Stepping.{Steps}
-use Rattle.babel_replay.specs.Taking.{IsNextLine, TakesLine, IsReported, IsReportedLine, LeadsByLine, LeadsTo}
+use Rattle.babel_replay.specs.Taking.{IsNextLine, TakesLine, IsReported, IsReportedLine, LeadsByEvent, LeadsByLine, LeadsTo}
 use Rattle.babel_replay.proofs.Writing.{appends_none, appends_more}
 
 -- ---- reports
@@ -317,25 +315,26 @@ line_skipped log left more tested text view s is reads same test true_so =
       holds = λ (seen : List SeenPrefix). (seen, [], subst (λ b. IsLineReport b text s seen s seen []) (sym skipped) (refl, refl, refl));
     }
 
-pub line_leads : (log left : Option (List ℕ)) (more tested : Bool) (text view other : List ℕ) (n time : ℕ) (action : Action) (old stepped : State) (outcome : Outcome) (new : State) →
+pub line_leads : (log left : Option (List ℕ)) (more tested : Bool) (text view other : List ℕ) (n time : ℕ) (action : Action) (old new : State) →
     more ≡ true → ReadsLine log left more text → view ≡ text → tested ≡ is_skipped_line view → tested ≡ false → n ≡ room → other ≡ text → IsLine n other time action →
-    Steps time action old stepped outcome → SendsAll time stepped new → IsNextLine log left (LeadsByLine old new)
-line_leads log left more tested text view other n time action old stepped outcome new is_more reads viewed test false_so same view_too is_line steps (sent, sends) =
+    LeadsByEvent time action old new → IsNextLine log left (LeadsByLine old new)
+line_leads log left more tested text view other n time action old new is_more reads viewed test false_so same view_too is_line so =
+    let (sent, sends) = so.sends in
     let event : is_skipped_line text ≡ false = ap is_skipped_line (sym viewed) ∙ sym test ∙ false_so in
     let is : IsLine n text time action = subst (λ l. IsLine n l time action) view_too is_line in
     record {
       text = text;
       reads = subst (λ b. ReadsLine log left b text) is_more reads;
       holds = λ (seen : List SeenPrefix).
-          let es = seen_by (places_in action) outcome seen in
-          let report = outcome_lines time (places_in action) outcome ++ (select_lines time stepped es ++ out_lines time sent) in (
-            printed_all stepped es,
+          let es = seen_by (places_in action) so.outcome seen in
+          let report = outcome_lines time (places_in action) so.outcome ++ (select_lines time so.stepped es ++ out_lines time sent) in (
+            printed_all so.stepped es,
             report,
-            subst (λ b. IsLineReport b text old seen new (printed_all stepped es) report) (sym event) (record {
+            subst (λ b. IsLineReport b text old seen new (printed_all so.stepped es) report) (sym event) (record {
               time = time;
               action = action;
               event = subst (λ m. IsLine m text time action) same is;
-              reported = record { outcome = outcome; stepped = stepped; steps = steps; sent = sent; sends = sends; prefixes = refl; text_is = refl };
+              reported = record { outcome = so.outcome; stepped = so.stepped; steps = so.steps; sent = sent; sends = sends; prefixes = refl; text_is = refl };
             }),
           );
     }

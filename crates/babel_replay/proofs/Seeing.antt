@@ -1,11 +1,22 @@
 -- The prefixes that a replay has seen, in the code's table.
-use Rattle.std.proofs.Common.{◌≡◌, ℕ, zero, suc, ◌<◌, Bool, true, false, cond, true≢false, List, [], ◌∷◌, Option, Some, None, is_some, refl, sym, ap, length, arith}
+use Rattle.std.proofs.Common.{◌≡◌, ℕ, zero, suc, ◌<◌, Bool, true, false, ◌&&◌, cond, true≢false, nat_eq, List, [], ◌∷◌, Option, Some, None, is_some, slice_get, refl, sym, ap, ◌∙◌, length, arith}
+use Rattle.std.proofs.lemmas.Bool.{eqb-true}
+use Rattle.std.proofs.lemmas.Option.{same_Some}
+use Rattle.std.specs.Cmp.Lexicographic.{pointwise, same_text}
+use Rattle.std.specs.declared.cmp.Ordering.{Ordering}
+use Rattle.std.specs.declared.cmp.Ordering.TheVariants.{Less, Equal, Greater}
 use Rattle.std.specs.Map.{lookup}
+use Rattle.std.specs.Option.{option_map_or}
+use Rattle.std.specs.Ordering.{is_eq}
 use Rattle.indexmap.specs.IndexMap.{insert_entry, set_value_at}
+use Rattle.babel_value.specs.declared.keys.Peer.{Peer}
+use Rattle.babel_value.specs.Orders.{peer_cmp}
 use Rattle.babel_value.specs.Prefixes.{PrefixValue}
-use Rattle.babel_state.specs.Sameness.{is_same_prefix}
+use Rattle.babel_value.proofs.OrderLaws.{peer_exact}
+use Rattle.babel_state.specs.Sameness.{is_same_peer, is_same_prefix}
+use Rattle.babel_state.specs.State.{State}
 use Rattle.babel_replay.specs.declared.seen.Choice.{Choice}
-use Rattle.babel_replay.specs.Seen.{SeenPrefix, with_seen}
+use Rattle.babel_replay.specs.Seen.{SeenPrefix, choice_at, choice_printed, is_same_route, is_same_choice, with_seen}
 
 inserted_first : (here : Bool) (same : Bool) (p : PrefixValue) (e : SeenPrefix) (es rest more : List SeenPrefix) (found : Option (Option Choice)) → here ≡ same →
     is_some (cond here (Some e.1) found) ≡ false → (is_some found ≡ false → rest ≡ more) → cond here ((e.0, None) ∷ es) (e ∷ rest) ≡ cond same (e ∷ es) (e ∷ more)
@@ -38,3 +49,47 @@ pub set_past : {X : Type 0} (es : List (PrefixValue × X)) (i : ℕ) (w : X) →
 set_past [] i w past = refl
 set_past (e ∷ es) zero w past = absurd (true≢false (sym (past (omega arith))))
 set_past (e ∷ es) (suc i) w past = ap (λ rest. e ∷ rest) (set_past es i w (λ (within : i < length es). past (omega (arith, within))))
+
+-- ---- what was last printed
+
+both : (a b : Bool) → a && b ≡ true → (a ≡ true) × (b ≡ true)
+both true true is = (refl, refl)
+both true false is = absurd (true≢false (sym is))
+both false b is = absurd (true≢false (sym is))
+
+tied : (r : Ordering) → is_eq r ≡ true → r ≡ Equal
+tied Less is = absurd (true≢false (sym is))
+tied Equal is = refl
+tied Greater is = absurd (true≢false (sym is))
+
+same_route : (a b : Choice) → is_same_route a b ≡ true → a ≡ b
+same_route a b same =
+    let (peer, rest) = both (is_same_peer a.peer b.peer) _ same in
+    let (metric, others) = both (nat_eq a.metric b.metric) _ rest in
+    let (router, seqno) = both (pointwise nat_eq a.router b.router) (nat_eq a.seqno b.seqno) others in
+    ap (λ (p : Peer). record { peer = p; metric = a.metric; router = a.router; seqno = a.seqno }) (peer_exact a.peer b.peer (tied (peer_cmp a.peer b.peer) peer))
+    ∙ ap (λ (m : ℕ). record { peer = b.peer; metric = m; router = a.router; seqno = a.seqno }) (eqb-true a.metric b.metric metric)
+    ∙ ap (λ (r : List ℕ). record { peer = b.peer; metric = b.metric; router = r; seqno = a.seqno }) (same_text a.router b.router (sym router))
+    ∙ ap (λ (n : ℕ). record { peer = b.peer; metric = b.metric; router = b.router; seqno = n }) (eqb-true a.seqno b.seqno seqno)
+
+same_choice : (a b : Option Choice) → is_same_choice a b ≡ true → a ≡ b
+same_choice None None same = refl
+same_choice None (Some b) same = absurd (true≢false (sym same))
+same_choice (Some a) None same = absurd (true≢false (sym same))
+same_choice (Some a) (Some b) same = ap Some (same_route a b same)
+
+set_itself : (es : List SeenPrefix) (i : ℕ) (e : SeenPrefix) → slice_get es i ≡ Some e → es ≡ set_value_at es i e.1
+set_itself [] zero e at = refl
+set_itself [] (suc i) e at = refl
+set_itself (d ∷ es) zero e at = ap (λ (f : SeenPrefix). (d.0, f.1) ∷ es) (same_Some d e at)
+set_itself (d ∷ es) (suc i) e at = ap (λ rest. d ∷ rest) (set_itself es i e at)
+
+-- If the same is printed, nothing changes.
+pub set_same : (s : State) (es later : List SeenPrefix) (i : ℕ) (got : Option SeenPrefix) (p : PrefixValue) (last now : Option Choice) (same : Bool) →
+    later ≡ es → got ≡ slice_get es i → got ≡ Some (p, last) → now ≡ choice_at s p → same ≡ is_same_choice now last → same ≡ true →
+    later ≡ option_map_or (λ e. set_value_at es i (choice_printed s e)) (slice_get es i) es
+set_same s es later i got p last now same kept at is chosen tested true_so =
+    kept
+    ∙ set_itself es i (p, last) (sym at ∙ is)
+    ∙ ap (set_value_at es i) (sym (same_choice now last (sym tested ∙ true_so)) ∙ chosen)
+    ∙ ap (λ m. option_map_or (λ e. set_value_at es i (choice_printed s e)) m es) (sym is ∙ at)

@@ -111,3 +111,8 @@ pub record Writes (ending : Ending) (first : State) (before after : Option (List
 abbrev pub IsReplayFault : Ending → State → Option ConfigFault → Option (List ℕ) → Option (List ℕ) → Option (List ℕ) → Option (List ℕ) → ReplayFault → Type 0
 IsReplayFault ending first cause log left before after (faults.Config fault) = IsMakingFault cause fault × Keeps log left × Keeps before after
 IsReplayFault ending first cause log left before after (faults.Line number fault) = IsNone cause × OfLinesBefore log number fault (Writes ending first before after)
+
+-- The same once a speaker is made: it can only be a line's fault.
+abbrev pub IsStopped : Ending → State → Option (List ℕ) → Option (List ℕ) → Option (List ℕ) → ReplayFault → Type 0
+IsStopped ending first log before after (faults.Config fault) = ⊥
+IsStopped ending first log before after (faults.Line number fault) = OfLinesBefore log number fault (Writes ending first before after)

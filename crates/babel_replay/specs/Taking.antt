@@ -2,9 +2,13 @@
 use Rattle.std.specs.Prelude.{◌≡◌, ◌+◌, ℕ, Bool, true, false, List, [], length, Option}
 use Rattle.std.specs.Io.KnownBytes.{Appends}
 use Rattle.babel_state.specs.State.{State}
+use Rattle.babel_replay.specs.declared.log_lines.Action.{Action}
+use Rattle.babel_replay.specs.declared.stepping.Outcome.{Outcome}
 use Rattle.babel_replay.specs.LogLines.{is_skipped_line, ReadsLine}
 use Rattle.babel_replay.specs.LogReports.{IsLineReport, IsLogReport}
+use Rattle.babel_replay.specs.Report.{SendsAll}
 use Rattle.babel_replay.specs.Seen.{SeenPrefix}
+use Rattle.babel_replay.specs.Stepping.{Steps}
 
 -- A line was taken, and its report written.
 pub record IsReportedLine (old : State) (seen : List SeenPrefix) (new : State) (later : List SeenPrefix) (before after : Option (List ℕ)) (text : List ℕ) : Type 0 where
@@ -29,6 +33,13 @@ pub record IsReported (number : ℕ) (old : State) (seen : List SeenPrefix) (new
   pub report : List ℕ
   pub reported : IsLogReport texts old seen new later report
   pub written : Appends before after report
+
+-- What happened was a step of the speaker, and all datagrams were taken.
+pub record LeadsByEvent (time : ℕ) (action : Action) (old new : State) : Type 0 where
+  pub outcome : Outcome
+  pub stepped : State
+  pub steps : Steps time action old stepped outcome
+  pub sends : SendsAll time stepped new
 
 -- A line was taken, whose report isn't written.
 abbrev pub LeadsByLine : State → State → List ℕ → Type 0

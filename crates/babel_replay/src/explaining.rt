@@ -8,17 +8,17 @@ ghost use Rattle.babel_route.specs.Distances.{improves_on};
 ghost use Rattle.babel_state.specs.Calls.{first_state, reported_entries};
 ghost use Rattle.babel_state.specs.Configs.{config_fault};
 ghost use Rattle.babel_state.specs.State.{announces};
-ghost use Rattle.babel_replay.specs.LogReports.{room, routes_after, IsCause, IsReplayFault, OfAllLines, OfLinesBefore, Writes};
+ghost use Rattle.babel_replay.specs.LogReports.{room, routes_after, IsCause, IsReplayFault, IsStopped, OfAllLines, OfLinesBefore, Writes};
 ghost use Rattle.babel_replay.specs.Report.{SendsAll};
 ghost use Rattle.babel_replay.specs.Routes.{route_fields, route_line, route_lines, status_by, is_selected_over};
-ghost use Rattle.babel_replay.specs.Taking.{LeadsByLine, LeadsTo, TakesLine};
+ghost use Rattle.babel_replay.specs.Taking.{LeadsByEvent, LeadsByLine, LeadsTo, TakesLine};
 
 use crate::log_lines::is_skipped;
 use crate::reading::read_line;
 use crate::replaying::{Buffers, write_line};
 use crate::stepping::step;
 use crate::texts::{RouteLine, RouteStatus};
-use crate::{LineFault, ReplayFault, parse_line};
+use crate::{Event, LineFault, ReplayFault, parse_line};
 use arrayvec::ArrayVec;
 use babel_route::Entry;
 use babel_speaker::{Speaker, datagrams_take_items};
@@ -42,13 +42,26 @@ pub fn explain<R: BufRead, W: Write>(
     ensures routes { OnOk result (OfAllLines (R.remaining log.old) (Writes (routes_after prefix) (first_state config) (W.contents out.old) (W.contents out.new))) }
     ensures fault { IfErr result (IsReplayFault (routes_after prefix) (first_state config) (config_fault config) (R.remaining log.old) (R.remaining log.new) (W.contents out.old) (W.contents out.new)) }
 {
-    let mut speaker = match Speaker::new(alloc, config) {
-        Ok(speaker) => speaker,
-        Err(fault) => return Err(ReplayFault::Config(fault)),
-    };
+    match Speaker::new(alloc, config) {
+        Ok(mut speaker) => explain_log(alloc, &mut speaker, log, &prefix, out),
+        Err(fault) => Err(ReplayFault::Config(fault)),
+    }
+}
+
+/// The same with a speaker of the configuration.
+fn explain_log<R: BufRead, W: Write>(
+    alloc: Global,
+    speaker: &mut Speaker,
+    log: &mut R,
+    prefix: &Prefix,
+    out: &mut W,
+) -> Result<(), ReplayFault>
+    ensures routes { OnOk result (OfAllLines (R.remaining log.old) (Writes (routes_after prefix.now) speaker.old (W.contents out.old) (W.contents out.new))) }
+    ensures fault { IfErr result (IsStopped (routes_after prefix.now) speaker.old (R.remaining log.old) (W.contents out.old) (W.contents out.new)) }
+{
     let mut number = 1;
-    let taken = take_log(alloc, &mut speaker, log, &mut number);
-    match end_explanation(taken, &speaker, &prefix, out) {
+    let taken = take_log(alloc, speaker, log, &mut number);
+    match end_explanation(taken, speaker, prefix, out) {
         Ok(()) => Ok(()),
         Err(fault) => Err(ReplayFault::Line { number, fault }),
     }
@@ -125,9 +138,25 @@ fn take_line<R: BufRead>(
         Ok(event) => event,
         Err(fault) => return Err(fault),
     };
-    let _ = step(speaker, &event)?;
-    send_datagrams(speaker, event.time);
-    Ok(true)
+    match take_event(speaker, &event) {
+        Ok(()) => Ok(true),
+        Err(fault) => Err(fault),
+    }
+}
+
+/// Makes the step of a line, and takes the datagrams that the speaker then sends.
+fn take_event(speaker: &mut Speaker, event: &Event<'_>) -> Result<(), LineFault>
+    ensures ok { OnOk result (LeadsByEvent event.now.time event.now.action speaker.old speaker.new) }
+    ensures memory { IfErr result (λ fault. fault ≡ LineFault.Memory) }
+    ensures unchanged { OnErr result (speaker.new ≡ speaker.old) }
+{
+    match step(speaker, event) {
+        Ok(_) => {
+            send_datagrams(speaker, event.time);
+            Ok(())
+        }
+        Err(fault) => Err(fault),
+    }
 }
 
 /// Takes datagrams from the speaker until there is none.
@@ -275,7 +304,7 @@ fn is_selected(speaker: &Speaker, prefix: &Prefix, peer: &Peer) -> bool
     ensures { result ≡ is_selected_over prefix.now peer.now speaker.now }
 {
     match speaker.selected(prefix) {
-        Some(route) => route.peer.cmp(peer).is_eq(),
+        Some(route) => route.peer == *peer,
         None => false,
     }
 }

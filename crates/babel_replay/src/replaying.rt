@@ -7,8 +7,9 @@ ghost use Rattle.std.specs.Option.{option_map_or};
 ghost use Rattle.indexmap.specs.IndexMap.{spare, set_value_at};
 ghost use Rattle.babel_state.specs.Calls.{first_state};
 ghost use Rattle.babel_state.specs.Configs.{config_fault};
+ghost use Rattle.babel_speaker.specs.Making.{IsMakingFault};
 ghost use Rattle.babel_replay.specs.declared.errors.LineFault.TheVariants.{Memory, Write};
-ghost use Rattle.babel_replay.specs.LogReports.{room, whole_report, IsCause, IsReplayFault, OfAllLines, OfLinesBefore, Writes};
+ghost use Rattle.babel_replay.specs.LogReports.{room, whole_report, IsCause, IsReplayFault, IsStopped, OfAllLines, OfLinesBefore, Writes};
 ghost use Rattle.babel_replay.specs.Report.{places_in, note_lines, outcome_lines, seen_by, select_line, select_lines, Reports, ReportsStep, Sends, table_line, table_lines};
 ghost use Rattle.babel_replay.specs.Seen.{updates_in, choice_at, choice_printed, printed_all};
 ghost use Rattle.babel_replay.specs.Taking.{IsReported, IsReportedLine, TakesLine};
@@ -23,7 +24,7 @@ use crate::{Action, Event, LineFault, MAX_LINE_LEN, ReplayFault, parse_line};
 use arrayvec::ArrayVec;
 use babel_packet::{Placed, Refusal, decode};
 use babel_speaker::{Speaker, datagrams_take_items};
-use babel_state::{Config, Note};
+use babel_state::{Config, ConfigFault, Note};
 use babel_value::Prefix;
 use std::alloc::{AllocError, Global};
 use std::fmt::Display;
@@ -45,21 +46,9 @@ pub fn replay<R: BufRead, W: Write>(
     ensures report { OnOk result (OfAllLines (R.remaining log.old) (Writes whole_report (first_state config) (W.contents out.old) (W.contents out.new))) }
     ensures fault { IfErr result (IsReplayFault whole_report (first_state config) (config_fault config) (R.remaining log.old) (R.remaining log.new) (W.contents out.old) (W.contents out.new)) }
 {
-    let speaker = match Speaker::new(alloc, config) {
-        Ok(speaker) => speaker,
-        Err(fault) => return Err(ReplayFault::Config(fault)),
-    };
-    let seen = SeenPrefixes::new(alloc);
-    let mut replayer = Replayer {
-        alloc,
-        speaker,
-        seen,
-    };
-    let mut number = 1;
-    let taken = replayer.take_log(log, out, &mut number);
-    match replayer.end_report(taken, out) {
-        Ok(()) => Ok(()),
-        Err(fault) => Err(ReplayFault::Line { number, fault }),
+    match Replayer::new(alloc, config) {
+        Ok(mut replayer) => replayer.report_log(log, out),
+        Err(fault) => Err(ReplayFault::Config(fault)),
     }
 }
 
@@ -89,7 +78,7 @@ pub(crate) fn write_line<W: Write, D: Display + Drop>(out: &mut W, line: D) -> R
     ensures written { OnOk result (IfSome (with_newline (D.output line)) (Appends (W.contents out.old) (W.contents out.new))) }
     ensures failed { IfErr result (λ fault. fault ≡ LineFault.Write) }
 {
-    match out.writeln(line) {
+    match write!(out, "{line}\n") {
         Ok(()) => Ok(()),
         Err(_) => Err(LineFault::Write),
     }
@@ -104,6 +93,41 @@ struct Replayer {
 }
 
 impl Replayer {
+    /// A speaker of the configuration, of which nothing was seen yet.
+    fn new(alloc: Global, config: Config) -> Result<Replayer, ConfigFault>
+        ensures speaker { IfOk result (λ replayer. replayer.speaker ≡ first_state config) }
+        ensures seen { IfOk result (λ replayer. replayer.seen.choices.entries ≡ []) }
+        ensures valid { IsOk result → IsNone (config_fault config) }
+        ensures refused { IfErr result (IsMakingFault (config_fault config)) }
+    {
+        match Speaker::new(alloc, config) {
+            Ok(speaker) => Ok(Replayer {
+                alloc,
+                speaker,
+                seen: SeenPrefixes::new(alloc),
+            }),
+            Err(fault) => Err(fault),
+        }
+    }
+
+    /// Takes all lines, and writes the report of each and the `table` lines.
+    fn report_log<R: BufRead, W: Write>(
+        &mut self,
+        log: &mut R,
+        out: &mut W,
+    ) -> Result<(), ReplayFault>
+        requires { self.old.seen.choices.entries ≡ [] }
+        ensures report { OnOk result (OfAllLines (R.remaining log.old) (Writes whole_report self.old.speaker (W.contents out.old) (W.contents out.new))) }
+        ensures fault { IfErr result (IsStopped whole_report self.old.speaker (R.remaining log.old) (W.contents out.old) (W.contents out.new)) }
+    {
+        let mut number = 1;
+        let taken = self.take_log(log, out, &mut number);
+        match self.end_report(taken, out) {
+            Ok(()) => Ok(()),
+            Err(fault) => Err(ReplayFault::Line { number, fault }),
+        }
+    }
+
     /// Takes all lines, and writes the report of each. `number` becomes the number of the line at which it
     /// stops, which is one more than the last at the end of the log.
     fn take_log<R: BufRead, W: Write>(
@@ -188,11 +212,26 @@ impl Replayer {
         ensures unchanged { IfErr result (λ fault. fault ≢ Write → (self.new.speaker ≡ self.old.speaker) × (self.new.seen.choices.entries ≡ self.old.seen.choices.entries) × (W.contents out.new ≡ W.contents out.old)) }
     {
         let placed = self.decode(event)?;
-        if self.seen.reserve(&placed).is_err() {
+        self.take_placed(event, &placed, out)
+    }
+
+    /// The same with what the line's datagram means.
+    fn take_placed<W: Write>(
+        &mut self,
+        event: &Event<'_>,
+        placed: &[Placed],
+        out: &mut W,
+    ) -> Result<(), LineFault>
+        requires { placed.now ≡ places_in event.now.action }
+        ensures report { OnOk result (Reports event.now.time event.now.action self.old.speaker self.old.seen.choices.entries self.new.speaker self.new.seen.choices.entries (W.contents out.old) (W.contents out.new)) }
+        ensures fault { IfErr result (λ fault. (fault ≡ Memory) ⊎ (fault ≡ Write)) }
+        ensures unchanged { IfErr result (λ fault. fault ≢ Write → (self.new.speaker ≡ self.old.speaker) × (self.new.seen.choices.entries ≡ self.old.seen.choices.entries) × (W.contents out.new ≡ W.contents out.old)) }
+    {
+        if self.seen.reserve(placed).is_err() {
             return Err(LineFault::Memory);
         }
         let outcome = step(&mut self.speaker, event)?;
-        self.write_report(event.time, &placed, &outcome, out)
+        self.write_report(event.time, placed, &outcome, out)
     }
 
     /// Writes the report of a line after its step, and sends what the speaker has queued.
@@ -308,14 +347,15 @@ impl Replayer {
         ensures speaker { self.new.speaker ≡ self.old.speaker }
         ensures failed { IfErr result (λ fault. fault ≡ LineFault.Write) }
     {
-        let Some((prefix, last)) = self.seen.get(index) else {
+        let Some(seen) = self.seen.get(index) else {
             return Ok(());
         };
+        let (prefix, last) = seen;
         let choice = self.choice(&prefix);
-        self.seen.set(index, choice);
         if is_same(&choice, &last) {
             return Ok(());
         }
+        self.seen.set(index, choice);
         write_line(
             out,
             SelectLine {

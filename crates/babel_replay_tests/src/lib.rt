@@ -1,13 +1,7 @@
-//! Tests of the reports of logs, from worked logs and with readers, writers and allocations that fail.
+//! The reports of logs, with each allocation refused.
 #![tactic(auto)]
 
-#[cfg(test)]
-mod failing;
-#[cfg(test)]
-mod lines;
 #[cfg(test)]
 mod logs;
 #[cfg(test)]
 mod memory;
-#[cfg(test)]
-mod reports;

@@ -7,3 +7,4 @@ pub mod RunLemmas
 pub mod ListLemmas
 pub mod NearLemmas
 pub mod DueLemmas
+pub mod CurrencyLemmas

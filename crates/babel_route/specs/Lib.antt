@@ -4,6 +4,7 @@ pub mod SourceLaws
 pub mod RouteKeys
 pub mod Routes
 pub mod Selections
+pub mod Currency
 pub mod PrefixBounds
 pub mod RouteLaws
 pub mod PrefixLists

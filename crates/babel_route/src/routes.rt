@@ -12,6 +12,7 @@ ghost use Rattle.babel_table.specs.Firsts.{first_of, lesser_of};
 
 mod bounds;
 mod choices;
+mod current;
 mod entries;
 mod prefixes;
 mod revisions;
@@ -25,6 +26,7 @@ use babel_value::{Addr, Distance, Peer, Prefix, RouterId, Source, hold_time};
 use bounds::Through;
 pub use choices::Costs;
 use choices::choose;
+use current::replace_near;
 pub use entries::{Entry, RouteKey, Selection};
 use prefixes::{add_routes, add_selections};
 pub use prefixes::{PREFIX_PLACES, PrefixList, PrefixListOver};
@@ -101,6 +103,28 @@ impl<E: Table<RouteKey, Entry>, S: Table<Prefix, Selection>> RoutesOver<E, S> {
         ensures ok { OnOk result (self.new ≡ record self.old { entries = updated now prefix peer router distance next_hop interval self.old.entries }) }
         ensures err { OnErr result (self.new ≡ self.old) }
     {
+        let cursor = Cursor::new();
+        self.update_near(
+            now, prefix, peer, router, distance, next_hop, interval, &cursor,
+        )
+    }
+
+    /// The same. The search begins at the cursor.
+    pub fn update_near(
+        &mut self,
+        now: u64,
+        prefix: Prefix,
+        peer: Peer,
+        router: RouterId,
+        distance: Distance,
+        next_hop: Addr,
+        interval: u16,
+        cursor: &Cursor,
+    ) -> Result<(), Full>
+        ensures full { IsErr result ↔ (IsNone (find route_cmp (key_of prefix peer) self.old.entries) × (places_taken self.old ≡ 256)) }
+        ensures ok { OnOk result (self.new ≡ record self.old { entries = updated now prefix peer router distance next_hop interval self.old.entries }) }
+        ensures err { OnErr result (self.new ≡ self.old) }
+    {
         let key = RouteKey { prefix, peer };
         let deadline = now.saturating_add(hold_time(interval));
         let entry = Entry {
@@ -110,11 +134,13 @@ impl<E: Table<RouteKey, Entry>, S: Table<Prefix, Selection>> RoutesOver<E, S> {
             interval,
             deadline,
         };
-        if find_in(&self.entries, &key).is_none() && is_crowded(&self.entries, &self.selections) {
+        let mut place = cursor.entry;
+        let known = find_near(&self.entries, &mut place, &key);
+        if known.is_none() && is_crowded(&self.entries, &self.selections) {
             return Err(Full);
         }
         self.due = self.due.min(deadline);
-        set(&mut self.entries, key, Some(entry));
+        set_near(&mut self.entries, place, key, Some(entry));
         Ok(())
     }
 
@@ -257,6 +283,14 @@ impl<E: Table<RouteKey, Entry>, S: Table<Prefix, Selection>> RoutesOver<E, S> {
         find_in(&self.selections, prefix).map(|selection| (selection.peer, selection.entry))
     }
 
+    /// The selection of the prefix, as the last reselection left it. The search begins at the cursor, which goes to
+    /// the prefix.
+    pub fn selected_near(&self, prefix: &Prefix, cursor: &mut Cursor) -> Option<Selection>
+        ensures { result ≡ selection_at prefix.now self.now }
+    {
+        find_near(&self.selections, &mut cursor.selection, prefix)
+    }
+
     /// Selects the route of the prefix again (RFC 8966, section 3.6): the candidate of the least metric,
     /// among equals the one selected before, then that of the least neighbour; none if the prefix is
     /// the speaker's own. A candidate is feasible against the source table now, and its metric by the
@@ -305,7 +339,7 @@ impl<E: Table<RouteKey, Entry>, S: Table<Prefix, Selection>> RoutesOver<E, S> {
             costs,
             cursor,
         );
-        set_near(&mut self.selections, place, *prefix, after);
+        replace_near(&mut self.selections, place, *prefix, &before, after);
         cursor.selection = place;
         (copy_of(&before), copy_of(&after))
     }

@@ -7,6 +7,7 @@ ghost use Rattle.babel_table.specs.Digits.{binary_digits};
 ghost use Rattle.babel_route.specs.Distances.{is_feasible, improves_on, better_pair};
 ghost use Rattle.babel_route.specs.Sources.{pair_of, lowered, collected, collected_entry};
 
+use crate::Cursor;
 use crate::near::find_near;
 use babel_table::{
     Change, Due, Full, Memory, Revised, Revision, SortedTable, Sought, Steps, Table, find_in,
@@ -100,6 +101,13 @@ impl<T: Table<Source, SourceEntry>> SourcesOver<T> {
         find_in(&self.table, source).map(|source_entry| source_entry.distance)
     }
 
+    /// The same. The search begins at the cursor, which goes to the source.
+    pub fn pair_near(&self, source: &Source, cursor: &mut Cursor) -> Option<Distance>
+        ensures { result ≡ pair_of source.now self.now }
+    {
+        self.pair_from(source, &mut cursor.source)
+    }
+
     /// How many sources have an entry.
     pub fn len(&self) -> usize
         ensures len { result ≡ length self.now }
@@ -134,10 +142,10 @@ impl<T: Table<Source, SourceEntry>> SourcesOver<T> {
         if !update.metric.is_finite() {
             return true;
         }
-        improves(self.pair_near(&source, near), update)
+        improves(self.pair_from(&source, near), update)
     }
 
-    fn pair_near(&self, source: &Source, near: &mut usize) -> Option<Distance>
+    fn pair_from(&self, source: &Source, near: &mut usize) -> Option<Distance>
         ensures { result ≡ pair_of source.now self.now }
     {
         find_near(&self.table, near, source).map(|source_entry| source_entry.distance)
@@ -151,9 +159,32 @@ impl<T: Table<Source, SourceEntry>> SourcesOver<T> {
         ensures ok { OnOk result (self.new ≡ lowered now source sent self.old) }
         ensures err { OnErr result (self.new ≡ self.old) }
     {
+        let mut cursor = Cursor::new();
+        self.lower_near(now, source, sent, &mut cursor)
+    }
+
+    /// The same. The search begins at the cursor, which goes to the source.
+    pub fn lower_near(
+        &mut self,
+        now: u64,
+        source: Source,
+        sent: Distance,
+        cursor: &mut Cursor,
+    ) -> Result<(), Full>
+        ensures full { IsErr result ↔ (IsNone (find source_cmp source self.old) × (length self.old ≡ SOURCE_PLACES)) }
+        ensures ok { OnOk result (self.new ≡ lowered now source sent self.old) }
+        ensures err { OnErr result (self.new ≡ self.old) }
+    {
         let due = now.saturating_add(COLLECTION_TIME);
         self.due = self.due.min(due);
-        self.table.change(source, &Sending { sent, due })
+        let sending = Sending { sent, due };
+        match self.table.change_near(cursor.source, source, &sending) {
+            Ok(place) => {
+                cursor.source = place;
+                Ok(())
+            }
+            Err(full) => Err(full),
+        }
     }
 
     /// Removes each entry whose time of collection has come (RFC 8966, section 3.2.5). Returns `false` if

@@ -63,24 +63,14 @@ fn try_show_lines<R: Read + Drop, W: Write>(
     number: &mut u64,
 ) -> Result<(), Fault> {
     let source = read_source(options.source)?;
-    let mut input = BufReader::with_capacity(alloc, READ_LEN, input).map_err(Fault::of_reading)?;
-    let mut line = Vec::with_capacity(alloc, MAX_LINE_LEN + 1)?;
-    let mut octets = vec![in alloc; 0u8; MAX_LINE_LEN / 2]?;
     let mut shower = Shower {
         alloc,
         source,
         header: options.header,
         is_first: true,
     };
-    for turn in 1..u64::MAX {
-        *number = turn;
-        flush_before_waiting(&input, out)?;
-        if !read_line(&mut input, &mut line)? {
-            break;
-        }
-        shower.show_line(turn, line.as_slice(), octets.as_mut_slice(), out)?;
-    }
-    out.flush().map_err(Fault::of_writing)
+    let mut input = BufReader::with_capacity(alloc, READ_LEN, input).map_err(Fault::of_reading)?;
+    shower.show_all(&mut input, out, number)
 }
 
 /// Flushes what was shown, unless the whole of the next line was read already.
@@ -104,6 +94,38 @@ struct Shower {
 }
 
 impl Shower {
+    /// Shows the datagrams of all lines.
+    fn show_all<R: Read + Drop, W: Write>(
+        &mut self,
+        input: &mut BufReader<R>,
+        out: &mut W,
+        number: &mut u64,
+    ) -> Result<(), Fault> {
+        let mut line = Vec::with_capacity(self.alloc, MAX_LINE_LEN + 1)?;
+        let mut octets = vec![in self.alloc; 0u8; MAX_LINE_LEN / 2]?;
+        self.show_each(input, &mut line, octets.as_mut_slice(), out, number)
+    }
+
+    /// The same, with room for a line and for the octets of its datagram.
+    fn show_each<R: Read + Drop, W: Write>(
+        &mut self,
+        input: &mut BufReader<R>,
+        line: &mut Vec<u8>,
+        octets: &mut [u8],
+        out: &mut W,
+        number: &mut u64,
+    ) -> Result<(), Fault> {
+        for turn in 1..u64::MAX {
+            *number = turn;
+            flush_before_waiting(input, out)?;
+            if !read_line(input, line)? {
+                break;
+            }
+            self.show_line(turn, line.as_slice(), octets, out)?;
+        }
+        out.flush().map_err(Fault::of_writing)
+    }
+
     /// Shows the datagram of a line, if it has one.
     fn show_line<W: Write>(
         &mut self,

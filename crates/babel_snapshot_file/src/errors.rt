@@ -1,7 +1,9 @@
 //! Why the file of a snapshot can't be read or written.
 
 ghost use Rattle.std.specs.Prelude.{◌≡◌, ◌≢◌};
+ghost use Rattle.std.specs.IoError.{error_kind};
 ghost use Rattle.babel_snapshot_file.specs.Codes.{snapshot_file_code};
+ghost use Rattle.babel_snapshot_file.specs.Faults.{reading_fault, writing_fault};
 ghost use Rattle.babel_snapshot_file.specs.declared.errors.SnapshotFileFault.TheVariants.{Unreadable, Unwritable};
 
 use std::alloc::AllocError;
@@ -36,7 +38,8 @@ impl SnapshotFileFault {
 
     /// The fault of a call that opens or reads the file.
     pub fn of_reading(error: io::Error) -> SnapshotFileFault
-        ensures { result ≢ Unwritable }
+        ensures fault { result ≡ reading_fault (error_kind error) }
+        ensures reads { result ≢ Unwritable }
     {
         match error.kind() {
             io::ErrorKind::OutOfMemory => SnapshotFileFault::Memory,
@@ -46,7 +49,8 @@ impl SnapshotFileFault {
 
     /// The fault of a call that writes the file.
     pub(crate) fn of_writing(error: io::Error) -> SnapshotFileFault
-        ensures { result ≢ Unreadable }
+        ensures fault { result ≡ writing_fault (error_kind error) }
+        ensures writes { result ≢ Unreadable }
     {
         match error.kind() {
             io::ErrorKind::OutOfMemory => SnapshotFileFault::Memory,
@@ -56,6 +60,10 @@ impl SnapshotFileFault {
 }
 
 impl From<AllocError> for SnapshotFileFault {
+    ghost use Rattle.babel_snapshot_file.specs.declared.errors.SnapshotFileFault.TheVariants.{Memory};
+
+    ghost from_gives = { λ _ fault. fault ≡ Memory };
+
     fn from(_error: AllocError) -> SnapshotFileFault {
         SnapshotFileFault::Memory
     }

@@ -1,9 +1,10 @@
-pub mod Costs
-pub mod LinkChanges
-pub mod Limits
-pub mod Making
 pub mod PendingItems
-pub mod Reaching
 pub mod Sending
-pub mod ShortHellos
-pub mod TickItems
+pub use Rattle.babel_core.specs.Making
+pub use Rattle.babel_core.specs.SentMessages
+pub use Rattle.babel_parts.specs.Costs
+pub use Rattle.babel_parts.specs.Limits
+pub use Rattle.babel_parts.specs.LinkChanges
+pub use Rattle.babel_parts.specs.Reaching
+pub use Rattle.babel_parts.specs.ShortHellos
+pub use Rattle.babel_parts.specs.TickItems

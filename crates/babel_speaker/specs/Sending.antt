@@ -1,5 +1,5 @@
 -- The datagrams that a speaker sends (profile).
-use Rattle.std.specs.Prelude.{◌≡◌, ℕ, Bool, true, false, ◌++◌, List, [], ◌∷◌, IsSome, Option, Some, None, drop}
+use Rattle.std.specs.Prelude.{◌≡◌, ℕ, Bool, true, false, ◌++◌, List, [], ◌∷◌, IsSome, Option, Some, None}
 use Rattle.std.specs.List.{list_all}
 use Rattle.babel_value.specs.declared.addresses.Addr.{Addr}
 use Rattle.babel_packet.specs.declared.messages.Message.{Message}
@@ -7,31 +7,15 @@ use Rattle.babel_packet.specs.declared.messages.Message.TheVariants as messages
 use Rattle.babel_packet.specs.Encodable.{is_encodable, IsMessage}
 use Rattle.babel_packet.specs.BodyMeanings.{Means}
 use Rattle.babel_build.specs.Built.{Built, HasEncoded, fits, added}
-use Rattle.babel_route.specs.Distances.{improves_on}
 use Rattle.babel_state.specs.declared.items.Item.{Item}
 use Rattle.babel_state.specs.declared.items.Outgoing.{Outgoing}
 use Rattle.babel_state.specs.declared.items.Outgoing.TheVariants as outgoings
 use Rattle.babel_state.specs.declared.items.Target.{Target}
-use Rattle.babel_state.specs.State.{State, interface_at, pair_at}
+use Rattle.babel_state.specs.State.{State, interface_at}
 use Rattle.babel_state.specs.Addresses.{transport_at}
-use Rattle.babel_state.specs.OutgoingMessages.{outgoing, is_source_too_many}
+use Rattle.babel_state.specs.OutgoingMessages.{outgoing}
 use Rattle.babel_state.specs.NextDatagram.{Fits, Draft, drafted}
-
--- The source table has room for the source that the message names.
-abbrev pub HasRoomFor : State → Message → Type 0
-HasRoomFor s (messages.Update prefix router next_hop seqno metric interval) =
-    is_source_too_many (record { prefix = prefix; router = router }) s.sources ≡ false
-HasRoomFor s message = Unit {0}
-
-abbrev pub HasRoom : State → Outgoing → Type 0
-HasRoom s (outgoings.Message target message) = HasRoomFor s message
-HasRoom s out = Unit {0}
-
--- A message that is sent changes the pair of its source: it's an Update that is better than the pair (RFC 8966, section 3.7.3).
-abbrev pub changes_a_pair : Message → State → Bool
-changes_a_pair (messages.Update prefix router next_hop seqno metric interval) s =
-    improves_on (pair_at prefix router s) (record { seqno = seqno; metric = metric })
-changes_a_pair message s = false
+use Rattle.babel_core.specs.SentMessages.{no_draft}
 
 -- The target and the message of what is sent, if there is one.
 abbrev pub message_of : Outgoing → Option (Target × Message)
@@ -89,10 +73,6 @@ MeansFrom (Some source) octets messages = Means octets source messages
 
 -- ---- drafts
 
--- A draft without target and messages.
-abbrev pub no_draft : State → Draft
-no_draft s = record { state = s; target = None; messages = [] }
-
 -- A draft to the target with these messages.
 abbrev pub draft_to : Target → State → List Message → Draft
 draft_to target s ms = record { state = s; target = Some target; messages = ms }
@@ -115,10 +95,6 @@ pub record IsFilled (b : Built) (given : List Message) (target : Target) (end : 
   pub goes_to : Some target ≡ end.target
   pub has : built ≡ built_of b end.messages
   pub encoded : (are_encodable given ≡ true → HasEncoded first given) → are_encodable end.messages ≡ true → HasEncoded built end.messages
-
--- The state without its oldest item.
-abbrev pub without_front : State → State
-without_front s = record s { pending = record s.pending { items = drop 1 s.pending.items } }
 
 -- The state from which the same datagram follows, whatever the moment and the builder.
 pub record IsSkipped (old new : State) : Type 0 where

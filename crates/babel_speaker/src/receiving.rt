@@ -1,14 +1,17 @@
 //! A datagram, from its octets to the notes of its TLVs.
 
-ghost use Rattle.std.specs.Prelude.{◌≡◌, ◌+◌, ◌≤◌, ◌<◌, ◌++◌, ◌∷◌, [], length, vec_len, vec_capacity, drop, IfOk, IfErr, OnErr, IsTrue};
+ghost use Rattle.std.specs.Prelude.{◌≡◌, ◌+◌, ◌≤◌, ◌<◌, ◌++◌, ◌∷◌, [], length, vec_len, vec_capacity, IfOk, IfErr, OnErr, IsTrue};
 ghost use Rattle.babel_packet.specs.Meaning.{meaning};
 ghost use Rattle.babel_value.specs.declared.keys.Peer.{Peer};
 ghost use Rattle.babel_state.specs.Addresses.{source_fault};
 ghost use Rattle.babel_state.specs.CurrentSelections.{AreCurrent};
 ghost use Rattle.babel_state.specs.Messages.{after_places, notes_of, IsRecvFault, Receives};
 
-use crate::{Core, Scratch};
+use crate::messages::handle_content;
+use babel_core::Core;
 use babel_packet::{Placed, Reason, Refusal, decode};
+use babel_parts::Scratch;
+use babel_route::Cursor;
 use babel_state::{Note, RecvFault, Verdict};
 use babel_value::{Addr, Distance, Peer};
 use std::alloc::Global;
@@ -26,64 +29,79 @@ fn push_note(notes: &mut Vec<Note>, offset: usize, verdict: Verdict)
     notes.push_reserved(Note { offset, verdict });
 }
 
-impl Core {
-    /// Handles the TLVs of a datagram, each wholly before the next, and writes a note for each.
-    fn handle_places(
-        &mut self,
-        now: u64,
-        peer: &Peer,
-        placed: &[Placed],
-        notes: &mut Vec<Note>,
-        settled: &mut bool,
-        scratch: &mut Scratch,
-    )
-        requires settled { IsTrue settled.old → AreCurrent self.old }
-        requires room { vec_len notes.old + length placed.now ≤ vec_capacity notes.old }
-        ensures state { self.new ≡ after_places now peer.now placed.now self.old }
-        ensures notes { notes.new.items ≡ notes.old.items ++ notes_of now peer.now placed.now self.old }
-        ensures current { IsTrue settled.new → AreCurrent self.new }
-    {
-        for place in placed {
-            let verdict = self.handle_content(now, peer, &place.content, settled, scratch);
-            push_note(notes, place.offset, verdict);
-        }
+/// Handles the TLVs of a datagram, each wholly before the next, and writes a note for each.
+fn handle_places(
+    core: &mut Core,
+    now: u64,
+    peer: &Peer,
+    placed: &[Placed],
+    notes: &mut Vec<Note>,
+    settled: &mut bool,
+    scratch: &mut Scratch,
+)
+    requires settled { IsTrue settled.old → AreCurrent core.old }
+    requires room { vec_len notes.old + length placed.now ≤ vec_capacity notes.old }
+    ensures state { core.new ≡ after_places now peer.now placed.now core.old }
+    ensures notes { notes.new.items ≡ notes.old.items ++ notes_of now peer.now placed.now core.old }
+    ensures current { IsTrue settled.new → AreCurrent core.new }
+{
+    let mut cursor = Cursor::new();
+    for place in placed {
+        let verdict = handle_content(
+            core,
+            now,
+            peer,
+            &place.content,
+            settled,
+            scratch,
+            &mut cursor,
+        );
+        push_note(notes, place.offset, verdict);
     }
+}
 
-    /// Takes a datagram that came over an interface from a source address at the moment `now`, in
-    /// centiseconds. There is a note for each TLV. The memory is allocated before anything changes. If the
-    /// speaker is settled, it stays so, and it becomes so by a Hello or an IHU for it.
-    pub(crate) fn receive(
-        &mut self,
-        alloc: Global,
-        now: u64,
-        iface: u8,
-        source: Addr,
-        octets: &[u8],
-        settled: &mut bool,
-        scratch: &mut Scratch,
-    ) -> Result<Vec<Note>, RecvFault>
-        requires settled { IsTrue settled.old → AreCurrent self.old }
-        ensures ok { IfOk result (λ notes. Receives now (record { iface = iface; addr = source }) (source_fault iface source self.old) (meaning octets.now source) self.old self.new notes.items) }
-        ensures refused { IfErr result (λ fault. IsRecvFault (source_fault iface source self.old) (meaning octets.now source) fault) }
-        ensures unchanged { OnErr result (self.new ≡ self.old) }
-        ensures current { IsTrue settled.new → AreCurrent self.new }
-    {
-        if let Some(fault) = self.source_fault(iface, &source) {
-            return Err(fault);
-        }
-        let placed = match decode(alloc, octets, source) {
-            Ok(placed) => placed,
-            Err(refusal) => return Err(RecvFault::Refused(refusal)),
-        };
-        let mut notes = match Vec::with_capacity(alloc, placed.len()) {
-            Ok(notes) => notes,
-            Err(_) => return Err(RecvFault::Refused(Refusal::Memory)),
-        };
-        let peer = Peer {
-            iface,
-            addr: source,
-        };
-        self.handle_places(now, &peer, placed.as_slice(), &mut notes, settled, scratch);
-        Ok(notes)
+/// Takes a datagram that came over an interface from a source address at the moment `now`, in
+/// centiseconds. There is a note for each TLV. The memory is allocated before anything changes. If the
+/// speaker is settled, it stays so, and it becomes so by a Hello or an IHU for it.
+pub(crate) fn receive(
+    core: &mut Core,
+    alloc: Global,
+    now: u64,
+    iface: u8,
+    source: Addr,
+    octets: &[u8],
+    settled: &mut bool,
+    scratch: &mut Scratch,
+) -> Result<Vec<Note>, RecvFault>
+    requires settled { IsTrue settled.old → AreCurrent core.old }
+    ensures ok { IfOk result (λ notes. Receives now (record { iface = iface; addr = source }) (source_fault iface source core.old) (meaning octets.now source) core.old core.new notes.items) }
+    ensures refused { IfErr result (λ fault. IsRecvFault (source_fault iface source core.old) (meaning octets.now source) fault) }
+    ensures unchanged { OnErr result (core.new ≡ core.old) }
+    ensures current { IsTrue settled.new → AreCurrent core.new }
+{
+    if let Some(fault) = core.source_fault(iface, &source) {
+        return Err(fault);
     }
+    let placed = match decode(alloc, octets, source) {
+        Ok(placed) => placed,
+        Err(refusal) => return Err(RecvFault::Refused(refusal)),
+    };
+    let mut notes = match Vec::with_capacity(alloc, placed.len()) {
+        Ok(notes) => notes,
+        Err(_) => return Err(RecvFault::Refused(Refusal::Memory)),
+    };
+    let peer = Peer {
+        iface,
+        addr: source,
+    };
+    handle_places(
+        core,
+        now,
+        &peer,
+        placed.as_slice(),
+        &mut notes,
+        settled,
+        scratch,
+    );
+    Ok(notes)
 }

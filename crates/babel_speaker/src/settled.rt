@@ -13,12 +13,15 @@ ghost use Rattle.babel_state.specs.State.{announces};
 ghost use Rattle.babel_state.specs.Ticks.{ticked};
 ghost use Rattle.babel_state.specs.Restarts.{restored, IsSnapshot};
 ghost use Rattle.babel_snapshot.specs.Reading.{restore_fault, snapshot_in};
-ghost use Rattle.babel_speaker.specs.Making.{IsMakingFault, IsRestoreFault};
+ghost use Rattle.babel_core.specs.Making.{IsMakingFault, IsRestoreFault};
 ghost use Rattle.babel_state.specs.QueueLaws.{is_silent};
 ghost use Rattle.babel_speaker.specs.Sending.{are_encodable, fits_by, HaveTransports, MeansFrom};
 
-use crate::{Core, Scratch};
+use crate::receiving::receive;
+use crate::sending::next_datagram;
 use arrayvec::ArrayVec;
+use babel_core::Core;
+use babel_parts::Scratch;
 use babel_state::{
     Config, ConfigFault, NotAnnounced, Note, RecvFault, RestoreFault, SetCostFault, Target,
     TooManyPrefixes,
@@ -86,7 +89,7 @@ impl SettledCore {
         }
     }
 
-    /// Takes a datagram, as `Core::receive`.
+    /// Takes a datagram, as `receive`.
     pub(crate) fn receive(
         &mut self,
         alloc: Global,
@@ -101,9 +104,16 @@ impl SettledCore {
         ensures unchanged { OnErr result (self.new ≡ self.old) }
     {
         let mut settled = self.is_settled;
-        let notes = self
-            .core
-            .receive(alloc, now, iface, source, octets, &mut settled, scratch);
+        let notes = receive(
+            &mut self.core,
+            alloc,
+            now,
+            iface,
+            source,
+            octets,
+            &mut settled,
+            scratch,
+        );
         self.is_settled = settled;
         notes
     }
@@ -154,10 +164,10 @@ impl SettledCore {
         self.core.withdraw(prefix)
     }
 
-    /// Takes the next datagram from the pending items, as `Core::next_datagram`. If an Update in it changes the
+    /// Takes the next datagram from the pending items, as `next_datagram`. If an Update in it changes the
     /// feasibility distance of its source, the speaker may no longer be settled. If nothing is pending, nothing
     /// changes.
-    #[tactic(auto, using(crate::proofs::QuietTicks::no_datagram, crate::proofs::QuietTicks::silent_if_empty))]
+    #[tactic(auto, using(crate::proofs::NoDatagrams::no_datagram, crate::proofs::NoDatagrams::silent_if_empty))]
     pub(crate) fn next_datagram(
         &mut self,
         now: u64,
@@ -169,12 +179,12 @@ impl SettledCore {
         ensures empty { IsNone result → out.new.items ≡ [] }
         ensures none { HaveTransports self.old → (IsNone result ↔ (is_silent self.old ≡ true)) }
     {
-        if self.core.pending.len() == 0 {
+        if self.core.pending_count() == 0 {
             out.clear();
             return None;
         }
         let mut settled = self.is_settled;
-        let target = self.core.next_datagram(now, out, &mut settled);
+        let target = next_datagram(&mut self.core, now, out, &mut settled);
         self.is_settled = settled;
         target
     }

@@ -21,13 +21,14 @@ ghost use Rattle.babel_state.specs.Restarts.{snapshot_of, restored, IsRestartedF
 ghost use Rattle.babel_snapshot.specs.Octets.{snapshot_octets};
 ghost use Rattle.babel_snapshot.specs.Reading.{restore_fault, snapshot_in};
 ghost use Rattle.babel_snapshot.specs.SnapshotLaws.{IsRead};
-ghost use Rattle.babel_speaker.specs.Making.{IsMakingFault, IsRestoreFault};
+ghost use Rattle.babel_core.specs.Making.{IsMakingFault, IsRestoreFault};
 ghost use Rattle.babel_speaker.specs.Sending.{fits_by, MeansFrom};
 
+use crate::SettledCore;
 use crate::decoded::decoded_are_encodable;
-use crate::{Scratch, SettledCore};
 use arrayvec::ArrayVec;
-use babel_route::{Entry, Memory};
+use babel_parts::Scratch;
+use babel_route::{Entry, Memory, Selection};
 use babel_state::{
     Config, ConfigFault, NotAnnounced, Note, RecvFault, RestoreFault, Selected, SetCostFault,
     Target, TooManyPrefixes, calls_move, datagrams_send, items_mean_messages, restarts_are_seen,
@@ -307,12 +308,19 @@ impl Speaker {
         self.core.core.selected_route(prefix)
     }
 
+    /// The selection whose prefix has exactly `place` lesser ones among the selections' prefixes.
+    pub fn selection_at(&self, place: usize) -> Option<(Prefix, Selection)>
+        ensures { result ≡ slice_get self.now.routes.selections place }
+    {
+        self.core.core.selection_at(place)
+    }
+
     /// The least prefix greater than the one given that has an entry in the route table, or a selected
     /// route. With none given, the least of all.
     pub fn next_prefix(&self, after: Option<&Prefix>) -> Option<Prefix>
         ensures { result ≡ prefix_after (option_map (λ prefix. prefix.now) after.entry) self.now.routes }
     {
-        self.core.core.routes.next_prefix(after)
+        self.core.core.next_prefix(after)
     }
 
     /// The feasibility distance of a source, if it has one (RFC 8966, section 3.2.5).
@@ -348,7 +356,7 @@ impl Speaker {
     pub fn raises(&self) -> u64
         ensures { result ≡ self.now.raises }
     {
-        self.core.core.raises
+        self.core.core.raises()
     }
 
     /// How many items are pending, at most 4,096.
@@ -356,28 +364,28 @@ impl Speaker {
         ensures count { result ≡ length self.now.pending.items }
         ensures few { result ≤ 4096 }
     {
-        self.core.core.pending.len()
+        self.core.core.pending_count()
     }
 
     /// How many entries the route table has.
     pub fn route_count(&self) -> usize
         ensures { result ≡ length self.now.routes.entries }
     {
-        self.core.core.routes.len()
+        self.core.core.route_count()
     }
 
     /// How many pending items were dropped since there was no room.
     pub fn dropped(&self) -> u64
         ensures { result ≡ self.now.pending.dropped }
     {
-        self.core.core.pending.dropped()
+        self.core.core.dropped()
     }
 
     /// How many Updates were left out since the source table had no room.
     pub fn left_out(&self) -> u64
         ensures { result ≡ self.now.left_out }
     {
-        self.core.core.left_out
+        self.core.core.left_out()
     }
 }
 

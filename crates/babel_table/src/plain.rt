@@ -75,9 +75,14 @@ impl<K: Key, V: Copy> Table<K, V> for PlainTable<K, V> {
         }
     }
 
-    fn change<C: Change<V>>(&mut self, key: K, change: &C) -> Result<(), Full> {
+    fn change_near<C: Change<V>>(
+        &mut self,
+        near: usize,
+        key: K,
+        change: &C,
+    ) -> Result<usize, Full> {
         let value = change.changed(value_of(self, &key));
-        self.put(key, value)
+        self.put_near(near, key, value)
     }
 
     fn revise<R: Revision<K, V>>(&mut self, revision: &R) {

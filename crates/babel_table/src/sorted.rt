@@ -12,6 +12,9 @@ use std::cmp::Ordering;
 use std::marker::Brand;
 use std::sync::ledger::{Blank, Ledger};
 
+/// How many entries a walk passes before it gives up and searches.
+const FAR: usize = 8;
+
 /// A table kept in the order of its keys. A look-up is a binary search.
 #[derive(Drop)]
 pub struct SortedTable<K: Key, V: Copy> {
@@ -58,13 +61,15 @@ impl<K: Key, V: Copy> Table<K, V> for SortedTable<K, V> {
         store(self, found, key, value)
     }
 
-    fn change<C: Change<V>>(&mut self, key: K, change: &C) -> Result<(), Full> {
-        let found = place_of(self, &key);
+    fn change_near<C: Change<V>>(
+        &mut self,
+        near: usize,
+        key: K,
+        change: &C,
+    ) -> Result<usize, Full> {
+        let found = place_near(self, near, &key);
         let value = change.changed(value_at(self, &key, found));
-        match store(self, found, key, value) {
-            Ok(_) => Ok(()),
-            Err(full) => Err(full),
-        }
+        store(self, found, key, value)
     }
 
     fn remove(&mut self, key: &K) {
@@ -185,7 +190,7 @@ fn place_on<L: Ledger, K: Key, V: Copy>(
     search(table, key, &mut steps)
 }
 
-/// The same, by a walk from the index `near` on if the key there is lesser.
+/// The same. It walks a few entries on from the index `near` if the key there is lesser, and searches otherwise.
 fn place_near<K: Key, V: Copy>(
     table: &SortedTable<K, V>,
     near: usize,
@@ -234,6 +239,9 @@ fn walk<L: Ledger, K: Key, V: Copy>(
 {
     let len = table.entries.len();
     for index in start..len {
+        if index.wrapping_sub(start) > FAR {
+            return search(table, key, steps);
+        }
         match key.compare(&table.entries[index].0, steps) {
             Ordering::Less => return Err(index),
             Ordering::Equal => return Ok(index),

@@ -47,8 +47,9 @@ pub trait Table<K: Key, V: Copy>: Drop {
         ensures err { OnErr result (entries self.new ≡ entries self.old) }
         ensures room { room self.new ≡ room self.old };
 
-    /// Stores what the change makes of the value at the key, with one look-up. `Full` as of `put`.
-    fn change<C: Change<V>>(&mut self, key: K, change: &C) -> Result<(), Full>
+    /// Stores what the change makes of the value at the key, with one look-up, and returns an index near that of
+    /// the key. The look-up begins at the index `near`, as that of `put_near`. `Full` as of `put`.
+    fn change_near<C: Change<V>>(&mut self, near: usize, key: K, change: &C) -> Result<usize, Full>
         ensures full { IsErr result ↔ (IsNone (find K.order key (entries self.old)) × (length (entries self.old) ≡ room self.old)) }
         ensures ok { OnOk result (entries self.new ≡ put K.order key (C.changed change.now (find K.order key (entries self.old))) (entries self.old)) }
         ensures err { OnErr result (entries self.new ≡ entries self.old) }

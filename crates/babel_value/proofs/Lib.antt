@@ -1,3 +1,4 @@
 pub mod OrderLaws
 pub mod PrefixLaws
 pub mod Numbers
+pub mod Digits

@@ -1,15 +1,17 @@
 //! Addresses and their families (RFC 8966, section 4.1.4).
 
-ghost use Rattle.std.specs.Prelude.{◌≡◌, ◌<◌, ◌+◌, ◌*◌, Some, replicate, slice_index, if◌then◌else◌, refl};
+ghost use Rattle.std.specs.Prelude.{◌≡◌, Some, replicate, refl};
 ghost use Rattle.std.specs.Ordering.{as_partial_cmp};
 ghost use Rattle.babel_value.specs.Addresses.{family_of, width_of};
 ghost use Rattle.babel_value.specs.Orders.{addr_cmp};
-ghost use Rattle.babel_value.specs.Texts.{addr_text, groups_text};
+ghost use Rattle.babel_value.specs.Texts.{addr_text};
 ghost use Rattle.babel_value.specs.OrderLaws.{addr_total, addr_ties, addr_partial_order};
 
+use crate::Line;
 use crate::orders::{compare4, compare16};
 use std::cmp::Ordering;
 use std::fmt;
+use std::fmt::Display;
 
 /// A family of addresses. IPv4 comes before IPv6.
 #[derive(Clone, Copy, Debug, PartialEq, Eq, PartialOrd, Ord, Hash)]
@@ -98,47 +100,8 @@ impl fmt::Display for Addr {
     ghost output = { λ addr. Some (addr_text addr) };
 
     fn fmt<W: fmt::Write>(&self, f: &mut fmt::Formatter<W>) -> fmt::Result {
-        match self {
-            Addr::V4([a, b, c, d]) => write!(f, "{a}.{b}.{c}.{d}"),
-            Addr::V6(octets) => {
-                let first = Groups {
-                    octets,
-                    second_half: false,
-                };
-                let second = Groups {
-                    octets,
-                    second_half: true,
-                };
-                write!(f, "{first}:{second}")
-            }
-        }
+        let mut line = Line::new();
+        line.push_addr(self);
+        line.fmt(f)
     }
-}
-
-/// Four groups of an IPv6 address, from the first or the ninth octet on.
-#[derive(Clone, Copy)]
-struct Groups<'a> {
-    octets: &'a [u8; 16],
-    second_half: bool,
-}
-
-impl fmt::Display for Groups<'_> {
-    ghost output = { λ g. Some (groups_text g.octets.now (if g.second_half then 8 else 0)) };
-
-    fn fmt<W: fmt::Write>(&self, f: &mut fmt::Formatter<W>) -> fmt::Result {
-        let from = if self.second_half { 8 } else { 0 };
-        let a = group(self.octets, from);
-        let b = group(self.octets, from + 2);
-        let c = group(self.octets, from + 4);
-        let d = group(self.octets, from + 6);
-        write!(f, "{a:x}:{b:x}:{c:x}:{d:x}")
-    }
-}
-
-/// The number in the two octets from this index on.
-fn group(octets: &[u8; 16], index: usize) -> u16
-    requires { index < 15 }
-    ensures { result ≡ 256 * slice_index octets.now index + slice_index octets.now (index + 1) }
-{
-    256 * u16::from(octets[index]) + u16::from(octets[index + 1])
 }

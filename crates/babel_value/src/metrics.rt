@@ -5,6 +5,7 @@ ghost use Rattle.std.specs.Fmt.{decimal};
 ghost use Rattle.babel_value.specs.Metrics.{infinity, metric_sum};
 
 use std::fmt;
+use std::fmt::Display;
 use std::marker::Model;
 
 /// A metric, or the cost of a link: 65535 is infinity (RFC 8966, section 3.5.2).
@@ -45,7 +46,6 @@ impl fmt::Display for Metric {
     ghost output = { λ metric. Some (decimal metric) };
 
     fn fmt<W: fmt::Write>(&self, f: &mut fmt::Formatter<W>) -> fmt::Result {
-        let number = self.0;
-        write!(f, "{number}")
+        self.0.fmt(f)
     }
 }

@@ -5,8 +5,9 @@ ghost use Rattle.babel_value.specs.Addresses.{width_of, family_of};
 ghost use Rattle.babel_value.specs.Prefixes.{cleared_addr, cleared, prefix_of};
 ghost use Rattle.babel_value.specs.Texts.{prefix_text};
 
-use crate::{Addr, Family};
+use crate::{Addr, Family, Line};
 use std::fmt;
+use std::fmt::Display;
 use std::marker::Model;
 
 /// A prefix: an address and how many of its first bits count. The bits past the length are zero.
@@ -124,8 +125,8 @@ impl fmt::Display for Prefix {
     ghost output = { λ p. Some (prefix_text p) };
 
     fn fmt<W: fmt::Write>(&self, f: &mut fmt::Formatter<W>) -> fmt::Result {
-        let addr = self.addr;
-        let length = self.length;
-        write!(f, "{addr}/{length}")
+        let mut line = Line::new();
+        line.push_prefix(self);
+        line.fmt(f)
     }
 }

@@ -7,9 +7,11 @@ ghost use Rattle.babel_value.specs.Orders.{octets_cmp};
 ghost use Rattle.babel_value.specs.Texts.{router_text};
 ghost use Rattle.babel_value.specs.OrderLaws.{octets_total, router_ties, router_partial_order};
 
+use crate::Line;
 use crate::orders::compare8;
 use std::cmp::Ordering;
 use std::fmt;
+use std::fmt::Display;
 use std::marker::Model;
 
 /// A router-id: 8 octets that name a router in the whole network. All zeros and all ones are
@@ -83,13 +85,8 @@ impl fmt::Display for RouterId {
     ghost output = { λ router. Some (router_text router) };
 
     fn fmt<W: fmt::Write>(&self, f: &mut fmt::Formatter<W>) -> fmt::Result {
-        let mut digits = [0; 16];
-        if hex::encode_to_slice(self.octets.as_slice(), &mut digits).is_err() {
-            return Err(fmt::Error);
-        }
-        match str::from_utf8(&digits) {
-            Ok(text) => f.write_str(text),
-            Err(_) => Err(fmt::Error),
-        }
+        let mut line = Line::new();
+        line.push_router_id(*self);
+        line.fmt(f)
     }
 }

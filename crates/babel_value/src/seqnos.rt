@@ -5,6 +5,7 @@ ghost use Rattle.std.specs.Fmt.{decimal};
 ghost use Rattle.babel_value.specs.Seqnos.{is_before, next_seqno};
 
 use std::fmt;
+use std::fmt::Display;
 use std::marker::Model;
 
 /// A sequence number: 16 bits around a circle (RFC 8966, section 3.2.1).
@@ -49,7 +50,6 @@ impl fmt::Display for Seqno {
     ghost output = { λ seqno. Some (decimal seqno) };
 
     fn fmt<W: fmt::Write>(&self, f: &mut fmt::Formatter<W>) -> fmt::Result {
-        let number = self.0;
-        write!(f, "{number}")
+        self.0.fmt(f)
     }
 }

@@ -1,13 +1,14 @@
 //! A speaker over a wire, turn after turn.
 
 ghost use Rattle.std.specs.Prelude.{◌≡◌, ◌+◌, ◌*◌, ◌≤◌, ◌<◌, ◌^◌};
-ghost use Rattle.babel_wire.specs.Calls.{receipt_of, IsWithin};
-ghost use Rattle.babel_wire.specs.Turns.{max_sends, IsRun, IsOneTurn, IsReceived, IsSent};
+ghost use Rattle.babel_wire.specs.Calls.{receipt_of, Datagram, IsWithin};
+ghost use Rattle.babel_wire.specs.Turns.{max_sends, Receives, IsRun, IsOneTurn, IsReceived, IsSent};
 
 use crate::{Arrival, Report, Wire, WireFault};
 use arrayvec::ArrayVec;
 use babel_speaker::Speaker;
 use babel_tlv::DATAGRAM_LEN;
+use babel_value::Addr;
 
 /// How many datagrams are sent in a turn at most.
 const MAX_SENDS: usize = 64;
@@ -85,14 +86,21 @@ fn receive(
         Ok(None) => Report::default(),
         Ok(Some(arrival)) => {
             let octets = &buf[..arrival.len];
-            let taken = speaker.receive(now, arrival.iface, arrival.source, octets);
+            let is_refused = receive_datagram(speaker, now, arrival.iface, arrival.source, octets);
             Report {
                 received: 1,
-                refused: u64::from(taken.is_err()),
+                refused: u64::from(is_refused),
                 ..Report::default()
             }
         }
     }
+}
+
+/// Passes a datagram to the speaker, and returns whether it was refused.
+fn receive_datagram(speaker: &mut Speaker, now: u64, iface: u8, source: Addr, octets: &[u8]) -> bool
+    ensures { Receives now (Datagram iface source octets.now) result speaker.old speaker.new }
+{
+    speaker.receive(now, iface, source, octets).is_err()
 }
 
 /// Sends pending datagrams, at most 64.

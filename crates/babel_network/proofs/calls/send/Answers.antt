@@ -1,6 +1,7 @@
-use Rattle.std.proofs.Common.{◌≡◌, Some, None, sym, ap, ◌∙◌, subst}
+use Rattle.std.proofs.Common.{◌≡◌, Some, None, refl, sym, ap, ◌∙◌, subst}
 use Rattle.babel_state.specs.Addresses.{transport_at}
 use Rattle.babel_speaker.specs.Sending.{MeansFrom}
+use Rattle.babel_network.specs.Networks.{SentOctets}
 use Rattle.babel_network.specs.Steps.{next_of, IsSent}
 use Rattle.babel_network.proofs.SentOctetsLaws.{transport_kept, sent_by}
 use Rattle.babel_network.proofs.calls.send.Goals as goal
@@ -25,5 +26,6 @@ returns-clause-sent c =
     sym (transport_kept c.datagrams_send.ensures.sent c.args.now s target target.iface c.requires goes)
     ∙ ap (transport_at target.iface) (sym c.next_datagram.ensures.state) ∙ sym c.transport.ensures ∙ c.in-Some.is in
     let means = c.in_ok-target.ensures.octets in
-    subst (λ t. IsSent c.args.node s (next_of c.args.now s) t (Some c.new.result)) (sym goes)
-    (sent_by c.args.node s (next_of c.args.now s) target c.in-Some.source c.next_datagram.new.out.items c.new.result own means c.new.ensures)
+    let d : SentOctets = record { node = c.args.node; source = c.in-Some.source; octets = c.next_datagram.new.out.items } in
+    subst (λ t. IsSent c.args.node s (next_of c.args.now s) t (Some d)) (sym goes)
+    (sent_by c.args.node s (next_of c.args.now s) target c.in-Some.source c.next_datagram.new.out.items d own means refl)

@@ -1,4 +1,4 @@
-use Rattle.std.proofs.Common.{rules, arith}
+use Rattle.std.proofs.Common.{arith}
 use Rattle.babel_snapshot_file.proofs.Fronts.{whole_file}
 use Rattle.babel_snapshot_file.proofs.reading.read_snapshot.Goals as goal
 

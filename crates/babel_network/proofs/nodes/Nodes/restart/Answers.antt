@@ -19,7 +19,7 @@ returns-clause-ok c =
     let s = c.index.result.now in
     let config = c.index-2.result.now in
     let t = c.in_ok-speaker.speaker in
-    let after : NetworkState = record { configs = c.self.inside.configs.items; speakers = slice_set c.self.inside.speakers.items c.args.node t; sent = c.self.inside.sent.items } in
+    let after : NetworkState = record { configs = c.self.inside.configs.items; speakers = slice_set c.self.inside.speakers.items c.args.node t; sent = c.self.inside.sent } in
     let written : after ≡ with_speaker_state n c.args.node t = subst (λ (m : NetworkState). after ≡ with_speaker_state m c.args.node t) c.self.view_is refl in
     record {
       speaker = s;

@@ -47,7 +47,7 @@ returns-in_default c =
     let s = c.index_mut.result.now in
     let t = c.call.new.speaker in
     let config = c.index.result.now in
-    let after : NetworkState = record { configs = c.self.inside.configs.items; speakers = slice_set c.self.inside.speakers.items c.node_of-node.result t; sent = c.self.inside.sent.items } in
+    let after : NetworkState = record { configs = c.self.inside.configs.items; speakers = slice_set c.self.inside.speakers.items c.node_of-node.result t; sent = c.self.inside.sent } in
     let here : node_of c.args.event.now < length c.self.inside.speakers.items = omega (arith, c.self.inside.speakers.ok.0) in
     let inside : node_of c.args.event.now < length n.speakers = subst (λ (m : NetworkState). node_of c.args.event.now < length m.speakers) c.self.view_is here in
     let s_read : s ≡ get_or c.self.inside.speakers.items (node_of c.args.event.now) s = c.index_mut.ensures.value ∙ ap (λ (k : ℕ). get_or c.self.inside.speakers.items k s) c.node_of-node.ensures in
@@ -59,7 +59,7 @@ returns-in_default c =
     } in
     let next : after ≡ with_speaker_state n (node_of event) t =
     subst (λ (m : NetworkState). after ≡ with_speaker_state m (node_of event) t) c.self.view_is
-    (ap (λ (k : ℕ). let m : NetworkState = record { configs = c.self.inside.configs.items; speakers = slice_set c.self.inside.speakers.items k t; sent = c.self.inside.sent.items } in m) c.node_of-node.ensures) in
+    (ap (λ (k : ℕ). let m : NetworkState = record { configs = c.self.inside.configs.items; speakers = slice_set c.self.inside.speakers.items k t; sent = c.self.inside.sent } in m) c.node_of-node.ensures) in
     record {
       ok = called_ok c.call.result event n after s t config at next c.call.ensures.ok;
       accepted = called_accepted c.call.result event n s config at c.call.ensures.accepted;

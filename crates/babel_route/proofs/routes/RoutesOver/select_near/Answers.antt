@@ -8,17 +8,17 @@ use Rattle.babel_route.proofs.CurrentLemmas.{selects_first, selected_here}
 use Rattle.babel_route.proofs.RoomLemmas.{selection_fits_new, selected_within}
 use Rattle.babel_route.proofs.routes.RoutesOver.select_near.Goals as goal
 
-pub set_near-requires : goal.set_near-requires
-set_near-requires g c =
+pub replace_near-requires : goal.replace_near-requires
+replace_near-requires g c =
     let old = c.self.inside in
     let kept = c.self.invariant in
-    record { room = λ some none. subst (λ room. length (g.S.Table.entries old.selections) < room) (sym kept.1) (selection_fits_new c.args.prefix.now (g.E.Table.entries old.entries) (g.S.Table.entries old.selections) (g.met.S.Table.ordered old.selections) (c.choose-after.ensures.known some) none kept.2) }
+    record { before = c.find_near-before.ensures; room = λ some none. subst (λ room. length (g.S.Table.entries old.selections) < room) (sym kept.1) (selection_fits_new c.args.prefix.now (g.E.Table.entries old.entries) (g.S.Table.entries old.selections) (g.met.S.Table.ordered old.selections) (c.choose-after.ensures.known some) none kept.2) }
 
 pub invariant_of-self : goal.invariant_of-self
 invariant_of-self g c =
     let old = c.self.inside in
     let kept = c.self.invariant in
-    (kept.0, c.set_near.ensures.room ∙ kept.1, selected_within c.args.prefix.now c.choose-after.result (g.E.Table.entries old.entries) (g.S.Table.entries old.selections) (g.S.Table.entries c.set_near.new.table) c.choose-after.ensures.known c.set_near.ensures.entries kept.2, kept.3)
+    (kept.0, c.replace_near.ensures.room ∙ kept.1, selected_within c.args.prefix.now c.choose-after.result (g.E.Table.entries old.entries) (g.S.Table.entries old.selections) (g.S.Table.entries c.replace_near.new.selections) c.choose-after.ensures.known c.replace_near.ensures.entries kept.2, kept.3)
 
 pub returns-clause-first : goal.returns-clause-first
 returns-clause-first g c =
@@ -28,9 +28,9 @@ returns-clause-first g c =
     let local = c.args.local in
     let es = g.E.Table.entries c.self.inside.entries in
     let ss = g.S.Table.entries c.self.inside.selections in
-    let new : RoutesValue = record { entries = es; selections = g.S.Table.entries c.set_near.new.table } in
+    let new : RoutesValue = record { entries = es; selections = g.S.Table.entries c.replace_near.new.selections } in
     let chosen = c.choose-after.ensures.choice ∙ ap (λ before. choice sources cost prefix local before es) c.find_near-before.ensures in
-    let selections = c.set_near.ensures.entries ∙ ap (λ value. with_value prefix_cmp prefix value ss) chosen in
+    let selections = c.replace_near.ensures.entries ∙ ap (λ value. with_value prefix_cmp prefix value ss) chosen in
     selects_first sources cost prefix local c.args.self.now new
     (ap (λ (xs : Selections). record { entries = es; selections = xs }) selections ∙ ap (reselected sources cost prefix local) c.self.view_is)
 
@@ -38,4 +38,4 @@ pub returns-clause-selected : goal.returns-clause-selected
 returns-clause-selected g c =
     let prefix = c.args.prefix.now in
     c.copy_of-2.ensures
-    ∙ sym (ap (find prefix_cmp prefix) c.set_near.ensures.entries ∙ selected_here prefix c.choose-after.result (g.S.Table.entries c.self.inside.selections))
+    ∙ sym (ap (find prefix_cmp prefix) c.replace_near.ensures.entries ∙ selected_here prefix c.choose-after.result (g.S.Table.entries c.self.inside.selections))

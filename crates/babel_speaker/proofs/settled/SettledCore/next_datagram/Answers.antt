@@ -1,5 +1,5 @@
 -- What is seen of the settled core is its core.
-use Rattle.babel_speaker.proofs.QuietTicks.{none_carried}
+use Rattle.babel_speaker.proofs.NoDatagrams.{none_carried}
 use Rattle.babel_speaker.proofs.settled.SettledCore.next_datagram.Goals as goal
 
 pub returns-clause-none : goal.returns-clause-none

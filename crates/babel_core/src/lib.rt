@@ -1,0 +1,22 @@
+//! The state of a speaker of the Babel routing protocol (RFC 8966), and its steps. The definitions of the
+//! state and the steps are those of `babel_state`.
+//!
+//! Each module adds methods to `Core`: `hellos`, `updates` and `seqno_requests` handle messages, and `ticks` what time
+//! brings. `reselection` has what follows from each of them. `outgoing` and `sending` are for the messages that are sent.
+#![tactic(auto)]
+
+mod calls;
+mod causes;
+mod hellos;
+mod making;
+mod outgoing;
+mod reselection;
+mod restarts;
+mod sending;
+mod seqno_requests;
+mod sources;
+mod speaker_core;
+mod ticks;
+mod updates;
+
+pub use speaker_core::Core;

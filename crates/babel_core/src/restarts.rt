@@ -1,0 +1,64 @@
+//! What a speaker keeps over a restart: its own seqno, how often that grew, and its source table.
+
+ghost use Rattle.std.specs.Prelude.{◌≡◌, IsOk, IsNone, IfOk, IfErr};
+ghost use Rattle.babel_state.specs.Configs.{config_fault};
+ghost use Rattle.babel_state.specs.Invariants.{IsWellFormed};
+ghost use Rattle.babel_state.specs.Restarts.{snapshot_of, restored, IsSnapshot};
+ghost use Rattle.babel_snapshot.specs.Octets.{snapshot_octets};
+ghost use Rattle.babel_snapshot.specs.Reading.{restore_fault, snapshot_in};
+ghost use Rattle.babel_snapshot.specs.SnapshotLaws.{IsRead};
+ghost use Rattle.babel_core.specs.Making.{IsRestoreFault};
+
+use crate::Core;
+use babel_parts::restarts::restore_sources;
+use babel_route::Memory;
+use babel_snapshot::{SavedState, save, written_is_read};
+use babel_state::{Config, RestoreFault, restarts_are_seen};
+use std::alloc::Global;
+
+impl Core {
+    /// The octets of what is kept over a restart.
+    #[tactic(auto, unfolding(babel_state::specs::Restarts::snapshot_of))]
+    pub fn save(&self, alloc: Global) -> Result<Vec<u8>, Memory>
+        ensures ok { IfOk result (λ octets. octets.items ≡ snapshot_octets (snapshot_of self.now)) }
+        ensures restorable { IfOk result (λ octets. IsWellFormed self.now → IsRead self.now.router octets.items (snapshot_of self.now)) }
+    {
+        restarts_are_seen();
+        written_is_read();
+        let octets = save(alloc, self.router, self.seqno, self.raises, &self.sources)?;
+        Ok(octets)
+    }
+
+    /// The state after a restart: the first one, with the seqno, the count of raises and the sources that
+    /// were saved.
+    #[tactic(auto, unfolding(babel_state::specs::Restarts::restored, babel_state::specs::Calls::first_state))]
+    pub fn restore(
+        alloc: Global,
+        config: &Config,
+        now: u64,
+        octets: &[u8],
+    ) -> Result<Core, RestoreFault>
+        ensures ok { IfOk result (λ core. core ≡ restored now config.now (snapshot_in octets.now)) }
+        ensures valid { IsOk result → IsNone (config_fault config.now) }
+        ensures whole { IsOk result → IsNone (restore_fault config.now.router_id octets.now) }
+        ensures refused { IfErr result (λ fault. IsRestoreFault (config_fault config.now) (restore_fault config.now.router_id octets.now) fault) }
+        ensures snapshot { IfOk result (λ core. IsSnapshot (snapshot_in octets.now)) }
+    {
+        if let Err(fault) = config.check() {
+            return Err(RestoreFault::Config(fault));
+        }
+        let saved = match SavedState::read(&config.router_id, octets) {
+            Ok(saved) => saved,
+            Err(fault) => return Err(fault),
+        };
+        let mut core = match Core::new(alloc, config) {
+            Ok(core) => core,
+            Err(fault) => return Err(RestoreFault::Config(fault)),
+        };
+        let _count = saved.len();
+        core.seqno = saved.seqno();
+        core.raises = saved.raises();
+        restore_sources(&mut core.sources, now, &saved);
+        Ok(core)
+    }
+}

@@ -1,0 +1,150 @@
+//! What time brings (RFC 8966, sections 3.4, 3.5.4, 3.7.1 and 3.8.2.1): the deadlines of each table.
+
+ghost use Rattle.std.specs.Prelude.{◌≡◌, IsTrue, IsFalse};
+ghost use Rattle.babel_state.specs.Hellos.{forget_neighbour};
+ghost use Rattle.babel_state.specs.CurrentSelections.{AreCurrent};
+ghost use Rattle.babel_state.specs.Ticks.{routes_selected, forget_each, links_ticked, routes_ticked, requests_ticked, interfaces_ticked, sources_ticked, ticked};
+
+use crate::Core;
+use arrayvec::ArrayVec;
+use babel_parts::Scratch;
+use babel_parts::ticks::{queue_all_timers, queue_repeats};
+use babel_value::Peer;
+
+impl Core {
+    /// Removes the routes of a neighbour.
+    fn forget_neighbour(&mut self, peer: &Peer)
+        ensures { self.new ≡ forget_neighbour peer.now self.old }
+    {
+        self.routes.forget(peer);
+    }
+
+    /// Removes the routes of each of the neighbours.
+    fn forget_each(&mut self, peers: &[Peer])
+        ensures { self.new ≡ forget_each peers.now self.old }
+    {
+        let mut left = peers;
+        while let Some((peer, rest)) = left.split_first() {
+            self.forget_neighbour(peer);
+            left = rest;
+        }
+    }
+
+    /// Takes the deadlines of Hellos and IHUs (RFC 8966, sections 3.4.1 and 3.4.2). Routes of flushed
+    /// neighbours are removed. Returns `false` if none is due.
+    #[tactic(auto, unfolding(babel_state::specs::Ticks::links_ticked))]
+    pub(crate) fn tick_links(&mut self, now: u64) -> bool
+        ensures state { self.new ≡ links_ticked now self.old }
+        ensures quiet { IsFalse result → self.new ≡ self.old }
+    {
+        let mut gone = ArrayVec::new();
+        let due = self.neighbours.tick(now, &mut gone);
+        self.forget_each(gone.as_slice());
+        due
+    }
+
+    /// Takes the deadlines of routes (RFC 8966, section 3.5.4). Returns `false` if none is due.
+    #[tactic(auto, unfolding(babel_state::specs::Ticks::routes_ticked))]
+    pub(crate) fn tick_routes(&mut self, now: u64) -> bool
+        ensures state { self.new ≡ routes_ticked now self.old }
+        ensures quiet { IsFalse result → self.new ≡ self.old }
+    {
+        self.routes.expire(now)
+    }
+
+    /// Collects the entries of the source table whose time has come, if the speaker does so (RFC 8966,
+    /// section 3.2.5). Returns `false` if none is due.
+    #[tactic(auto, unfolding(babel_state::specs::Ticks::sources_ticked))]
+    pub(crate) fn tick_sources(&mut self, now: u64) -> bool
+        ensures state { self.new ≡ sources_ticked now self.old }
+        ensures quiet { IsFalse result → self.new ≡ self.old }
+    {
+        if self.collects {
+            self.sources.collect(now)
+        } else {
+            false
+        }
+    }
+
+    /// Repeats the requests whose wait is over (RFC 8966, section 3.8.2.1). As long as none can be, it looks
+    /// at no request.
+    pub(crate) fn tick_requests(&mut self, now: u64)
+        ensures { self.new ≡ requests_ticked now self.old }
+    {
+        let due = self.requests.may_be_due(now);
+        if due {
+            self.repeat_requests(now);
+        }
+    }
+
+    /// Queues the requests again whose wait is over, and ends the waits.
+    #[tactic(auto, unfolding(babel_state::specs::Ticks::requests_ticked), using(crate::proofs::TickLists::same_repeats))]
+    fn repeat_requests(&mut self, now: u64)
+        ensures { self.new ≡ requests_ticked now self.old }
+    {
+        queue_repeats(
+            &mut self.pending,
+            &self.requests,
+            &self.routes,
+            &self.sources,
+            now,
+        );
+        self.requests.end_waits(now);
+    }
+
+    /// Queues what the timers of the interfaces ask for (RFC 8966, sections 3.4.1, 3.4.2 and 3.7.1).
+    #[tactic(auto, using(crate::proofs::QuietTicks::nothing_due))]
+    pub(crate) fn tick_interfaces(&mut self, now: u64, scratch: &mut Scratch)
+        ensures { self.new ≡ interfaces_ticked now self.old }
+    {
+        let due = self.interfaces.have_due_timer(now);
+        if due {
+            self.fire_timers(now, scratch);
+        }
+    }
+
+    /// Queues what the timers that are due ask for, and sets their next moments.
+    #[tactic(auto, unfolding(babel_state::specs::Ticks::interfaces_ticked, babel_state::specs::State::reachable_prefixes), using(crate::proofs::TickLists::same_timers))]
+    fn fire_timers(&mut self, now: u64, scratch: &mut Scratch)
+        ensures { self.new ≡ interfaces_ticked now self.old }
+    {
+        scratch.gather_reachable(&self.announced, &self.routes);
+        queue_all_timers(
+            &mut self.pending,
+            &self.interfaces,
+            &self.neighbours,
+            scratch,
+            now,
+        );
+        self.interfaces.fire_all(now);
+    }
+
+    /// Takes the deadlines of Hellos, IHUs and routes, each followed by a reselection of all. If the speaker is
+    /// settled and none is due, it selects no route again.
+    #[tactic(auto, using(crate::proofs::Settling::still_current))]
+    fn tick_selections(&mut self, now: u64, settled: bool, scratch: &mut Scratch)
+        requires settled { IsTrue settled → AreCurrent self.old }
+        ensures state { self.new ≡ routes_selected now self.old }
+        ensures current { AreCurrent self.new }
+    {
+        let due = self.tick_links(now);
+        self.reselect_after(due, settled, now, scratch);
+        let due = self.tick_routes(now);
+        self.reselect_after(due, true, now, scratch);
+    }
+
+    /// Takes all that is due (RFC 8966, sections 3.2.5, 3.4, 3.5.4, 3.7.1 and 3.8.2.1). Returns whether the
+    /// speaker is settled then: all its selections are current.
+    #[tactic(auto, unfolding(babel_state::specs::Ticks::ticked), using(crate::proofs::Settling::timed_current))]
+    pub fn tick(&mut self, now: u64, settled: bool, scratch: &mut Scratch) -> bool
+        requires settled { IsTrue settled → AreCurrent self.old }
+        ensures state { self.new ≡ ticked now self.old }
+        ensures current { IsTrue result → AreCurrent self.new }
+    {
+        self.tick_selections(now, settled, scratch);
+        self.tick_requests(now);
+        self.tick_interfaces(now, scratch);
+        let collected = self.tick_sources(now);
+        !collected
+    }
+}

@@ -1,0 +1,9 @@
+pub mod Networks
+pub mod Walking
+pub mod Gathering
+pub mod Reaching
+pub mod ShortHellos
+pub mod TickLists
+pub mod FirstStates
+pub mod RequestDues
+pub mod Restoring

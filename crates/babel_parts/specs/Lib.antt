@@ -1,0 +1,6 @@
+pub mod Costs
+pub mod Limits
+pub mod LinkChanges
+pub mod Reaching
+pub mod ShortHellos
+pub mod TickItems

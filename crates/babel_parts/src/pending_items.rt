@@ -1,0 +1,77 @@
+//! The items that wait to be sent, the oldest first.
+
+ghost use Rattle.std.specs.Prelude.{◌≡◌, ◌≤◌, [], ◌∷◌, drop, length, slice_get, IfOk};
+ghost use Rattle.babel_state.specs.Queueing.{queued};
+
+use babel_state::{Item, MAX_PENDING};
+use circular_buffer::HeapCircularBuffer;
+use std::alloc::{AllocError, Global};
+use std::marker::Model;
+
+/// The pending items, at most 4,096, and how many were dropped since there was no room.
+#[derive(Drop)]
+pub struct PendingItems {
+    items: HeapCircularBuffer<Item>,
+    dropped: u64,
+}
+
+impl Model for PendingItems {
+    ghost use Rattle.std.specs.Prelude.{◌≡◌};
+    ghost use Rattle.babel_state.specs.Queueing.{Pending};
+    ghost use Rattle.babel_parts.specs.Limits.{most_pending};
+
+    ghost Value = { Pending };
+
+    ghost view = { λ p. record { items = p.items.items; dropped = p.dropped } };
+
+    ghost invariant = { λ p. p.items.capacity ≡ most_pending };
+}
+
+impl PendingItems {
+    /// No items, with the room for all that there may be.
+    pub fn new(alloc: Global) -> Result<PendingItems, AllocError>
+        ensures { IfOk result (λ pending. pending ≡ record { items = []; dropped = 0 }) }
+    {
+        let items = HeapCircularBuffer::with_capacity(alloc, MAX_PENDING)?;
+        Ok(PendingItems { items, dropped: 0 })
+    }
+
+    /// Queues an item. If 4,096 are pending, the oldest one is dropped and counted.
+    #[tactic(auto, unfolding(babel_state::specs::Queueing::queued))]
+    pub fn push(&mut self, item: Item)
+        ensures { self.new ≡ queued (item ∷ []) self.old }
+    {
+        let cut = u64::from(self.items.len() == MAX_PENDING);
+        self.items.push_back(item);
+        self.dropped = self.dropped.saturating_add(cut);
+    }
+
+    /// The oldest item.
+    pub fn front(&self) -> Option<Item>
+        ensures { result ≡ slice_get self.now.items 0 }
+    {
+        self.items.front().copied()
+    }
+
+    /// Removes the oldest item, if there is one.
+    pub fn pop(&mut self)
+        ensures { self.new ≡ record self.old { items = drop 1 self.old.items } }
+    {
+        self.items.pop_front();
+    }
+
+    /// How many items are pending.
+    pub fn len(&self) -> usize
+        ensures len { result ≡ length self.now.items }
+        ensures within { result ≤ MAX_PENDING }
+    {
+        self.items.len()
+    }
+
+    /// How many items were dropped since there was no room.
+    pub fn dropped(&self) -> u64
+        ensures { result ≡ self.now.dropped }
+    {
+        self.dropped
+    }
+}

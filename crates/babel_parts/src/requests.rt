@@ -1,0 +1,112 @@
+//! The table of pending requests for a seqno (RFC 8966, section 3.2.7).
+
+ghost use Rattle.std.specs.Prelude.{◌≡◌, ◌≤◌, [], false, length, option_map, slice_get, IfOk, IsFalse};
+ghost use Rattle.std.specs.List.{list_any};
+ghost use Rattle.std.specs.FinMap.{find};
+ghost use Rattle.babel_value.specs.Orders.{source_cmp};
+ghost use Rattle.babel_table.specs.Entries.{without, revised_entries};
+ghost use Rattle.babel_state.specs.PendingRequests.{is_redundant, recorded};
+ghost use Rattle.babel_state.specs.Ticks.{is_due_request};
+
+use babel_route::{Memory, SortedTable, Table, find_in};
+use babel_state::{MAX_REQUESTS, PendingRequest, REQUEST_WAIT, Resend};
+use babel_value::{Seqno, Source};
+use std::alloc::Global;
+use std::marker::Model;
+
+/// The pending requests, at most 64, at most one for each source.
+#[derive(Drop)]
+pub struct RequestTable {
+    pub(crate) table: SortedTable<Source, PendingRequest>,
+    /// Before this moment no wait is over.
+    pub(crate) due: u64,
+}
+
+impl Model for RequestTable {
+    ghost use Rattle.std.specs.Prelude.{◌≡◌};
+    ghost use Rattle.babel_table.specs.Dues.{AreDueFrom};
+    ghost use Rattle.babel_state.specs.PendingRequests.{PendingRequests};
+    ghost use Rattle.babel_parts.specs.Limits.{most_requests};
+
+    ghost Value = { PendingRequests };
+
+    ghost view = { λ r. r.table.entries.items };
+
+    ghost invariant = { λ r. (r.table.places ≡ most_requests) × AreDueFrom (λ request. request.due) r.due r.table.entries.items };
+}
+
+impl RequestTable {
+    /// No requests, with the room for all that there may be.
+    pub fn new(alloc: Global) -> Result<RequestTable, Memory>
+        ensures { IfOk result (λ requests. requests ≡ []) }
+    {
+        let table = SortedTable::with_room(alloc, MAX_REQUESTS)?;
+        Ok(RequestTable {
+            table,
+            due: u64::MAX,
+        })
+    }
+
+    /// The pending request for the source.
+    pub fn get(&self, source: &Source) -> Option<PendingRequest>
+        ensures { result ≡ find source_cmp source.now self.now }
+    {
+        find_in(&self.table, source)
+    }
+
+    /// Whether a request for the source is pending whose seqno isn't smaller (RFC 8966, section
+    /// 3.8.1.2).
+    pub fn is_redundant(&self, source: &Source, seqno: Seqno) -> bool
+        ensures { result ≡ is_redundant source.now seqno self.now }
+    {
+        match self.get(source) {
+            Some(request) => !request.seqno.less(seqno),
+            None => false,
+        }
+    }
+
+    /// Records a new request in place of the pending one for its source. A request for a new source
+    /// isn't recorded if 64 others are pending.
+    pub fn record(&mut self, now: u64, source: Source, seqno: Seqno, resend: Resend)
+        ensures { self.new ≡ recorded now source seqno resend self.old }
+    {
+        let due = now.saturating_add(u64::from(REQUEST_WAIT));
+        let request = PendingRequest {
+            seqno,
+            resend,
+            wait: REQUEST_WAIT,
+            due,
+        };
+        self.due = self.due.min(due);
+        let _ = self.table.put(source, request);
+    }
+
+    /// Removes the request for the source, if there is one.
+    pub fn remove(&mut self, source: &Source)
+        ensures { self.new ≡ without source_cmp source.now self.old }
+    {
+        self.table.remove(source);
+    }
+
+    /// Whether a wait may be over. If it returns `false`, none is. It looks at no request.
+    pub fn may_be_due(&self, now: u64) -> bool
+        ensures { IsFalse result → list_any (λ e. is_due_request now e.1) self.now ≡ false }
+    {
+        self.due <= now
+    }
+
+    /// How many requests are pending.
+    pub fn len(&self) -> usize
+        ensures len { result ≡ length self.now }
+        ensures within { result ≤ MAX_REQUESTS }
+    {
+        self.table.len()
+    }
+
+    /// The request whose source has exactly `index` lesser ones.
+    pub fn at(&self, index: usize) -> Option<(Source, PendingRequest)>
+        ensures { result ≡ slice_get self.now index }
+    {
+        self.table.at(index)
+    }
+}

@@ -1,0 +1,157 @@
+//! Room for a list of prefixes in ascending order, which some calls need while they run.
+
+ghost use Rattle.std.specs.Prelude.{◌≡◌, ◌≤◌, ◌<◌, ◌+◌, ◌++◌, [], length, map, IfOk};
+ghost use Rattle.std.specs.FinMap.{put};
+ghost use Rattle.babel_value.specs.Orders.{prefix_cmp};
+ghost use Rattle.babel_route.specs.Selections.{prefixes_of};
+ghost use Rattle.babel_state.specs.State.{gathered, prefixes_in};
+ghost use Rattle.babel_parts.specs.LinkChanges.{prefixes_from};
+
+use crate::{Announced, Prefixes};
+use babel_route::{Memory, Routes, SortedTable, Table};
+use babel_value::{Peer, Prefix};
+use std::alloc::Global;
+use std::marker::Model;
+
+/// How many prefixes there is room for: one for each of 256 routes and 256 selections.
+const PREFIX_PLACES: usize = 512;
+
+/// Room for a set of at most 512 prefixes.
+#[derive(Drop)]
+pub struct Scratch {
+    table: SortedTable<Prefix, ()>,
+    // An index near that of the prefix that was added last; it only matters for speed.
+    near: usize,
+}
+
+impl Model for Scratch {
+    ghost use Rattle.std.specs.Prelude.{◌≡◌};
+    ghost use Rattle.babel_state.specs.State.{PrefixSet};
+
+    ghost Value = { PrefixSet };
+
+    ghost view = { λ a. a.table.entries.items };
+
+    ghost invariant = { λ a. a.table.places ≡ 512 };
+}
+
+impl Scratch {
+    /// An empty set, with its whole room.
+    pub fn new(alloc: Global) -> Result<Scratch, Memory>
+        ensures { IfOk result (λ scratch. scratch ≡ []) }
+    {
+        let table = SortedTable::with_room(alloc, PREFIX_PLACES)?;
+        Ok(Scratch { table, near: 0 })
+    }
+
+    /// The prefixes of the set.
+    pub fn prefixes(&self) -> Prefixes<'_>
+        ensures { result ≡ prefixes_in self.now }
+    {
+        Prefixes::new(&self.table)
+    }
+
+    /// Empties the set.
+    fn clear(&mut self)
+        ensures { self.new ≡ [] }
+    {
+        self.table.clear();
+        self.near = 0;
+    }
+
+    /// Adds a prefix. Prefixes that come in ascending order are added in one pass.
+    fn put(&mut self, prefix: Prefix)
+        requires room { length self.old < 512 }
+        ensures { self.new ≡ put prefix_cmp prefix tt self.old }
+    {
+        if let Ok(near) = self.table.put_near(self.near, prefix, ()) {
+            self.near = near;
+        }
+    }
+
+    /// The same. There is at most one prefix more.
+    fn insert(&mut self, prefix: Prefix)
+        requires room { length self.old < 512 }
+        ensures prefixes { self.new ≡ put prefix_cmp prefix tt self.old }
+        ensures few { length self.new ≤ length self.old + 1 }
+    {
+        self.put(prefix);
+    }
+
+    /// Adds the prefix of each route.
+    fn insert_routes(&mut self, routes: &Routes)
+        requires room { length self.old + length routes.now.entries ≤ 512 }
+        ensures prefixes { self.new ≡ gathered (map (λ e. e.0.prefix) routes.now.entries) self.old }
+        ensures few { length self.new ≤ length self.old + length routes.now.entries }
+    {
+        for route in routes.routes() {
+            self.insert(route.0.prefix);
+        }
+    }
+
+    /// Adds the prefix of each selection.
+    fn insert_selections(&mut self, routes: &Routes)
+        requires room { length self.old + length routes.now.selections ≤ 512 }
+        ensures prefixes { self.new ≡ gathered (map (λ e. e.0) routes.now.selections) self.old }
+    {
+        for selection in routes.selections() {
+            self.insert(selection.0);
+        }
+    }
+
+    /// Adds the prefix of each route of the neighbour.
+    fn insert_from(&mut self, routes: &Routes, peer: &Peer)
+        requires room { length self.old + length routes.now.entries ≤ 512 }
+        ensures { self.new ≡ gathered (prefixes_from peer.now routes.now.entries) self.old }
+    {
+        for route in routes.routes() {
+            if route.0.peer.cmp(peer).is_eq() {
+                self.insert(route.0.prefix);
+            }
+        }
+    }
+
+    /// Adds the announced prefixes.
+    fn insert_announced(&mut self, announced: &Announced)
+        requires room { length self.old + length announced.now ≤ 512 }
+        ensures prefixes { self.new ≡ gathered (prefixes_in announced.now) self.old }
+        ensures few { length self.new ≤ length self.old + length announced.now }
+    {
+        for prefix in announced.prefixes() {
+            self.insert(prefix);
+        }
+    }
+
+    /// Makes the set that of the prefixes with a route or a selection.
+    #[tactic(auto, using(crate::proofs::Gathering::gathered_both))]
+    pub fn gather_routed(&mut self, routes: &Routes)
+        ensures { self.new ≡ gathered (prefixes_of routes.now) [] }
+    {
+        let _routes = routes.len();
+        let _selections = routes.selections();
+        self.clear();
+        self.insert_routes(routes);
+        self.insert_selections(routes);
+    }
+
+    /// Makes the set that of the prefixes to which the neighbour has a route.
+    pub fn gather_from(&mut self, routes: &Routes, peer: &Peer)
+        ensures { self.new ≡ gathered (prefixes_from peer.now routes.now.entries) [] }
+    {
+        let _routes = routes.len();
+        self.clear();
+        self.insert_from(routes, peer);
+    }
+
+    /// Makes the set that of the prefixes that are announced or selected.
+    #[tactic(auto, using(crate::proofs::Gathering::gathered_both))]
+    pub fn gather_reachable(&mut self, announced: &Announced, routes: &Routes)
+        ensures { self.new ≡ gathered (prefixes_in announced.now ++ map (λ e. e.0) routes.now.selections) [] }
+    {
+        let _announced = announced.len();
+        let _selections = routes.selections();
+        self.clear();
+        self.insert_announced(announced);
+        self.insert_selections(routes);
+    }
+}

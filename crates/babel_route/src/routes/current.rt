@@ -1,0 +1,101 @@
+//! Whether the selection of a prefix is current (RFC 8966, section 3.6).
+
+ghost use Rattle.std.specs.Prelude.{◌≡◌, ◌<◌, length, IsSome, IsNone};
+ghost use Rattle.std.specs.FinMap.{find};
+ghost use Rattle.babel_value.specs.Orders.{prefix_cmp};
+ghost use Rattle.babel_table.specs.Entries.{with_value};
+ghost use Rattle.babel_route.specs.Selections.{has_entry};
+ghost use Rattle.babel_route.specs.Currency.{is_same_distance, is_same_entry, is_same_selection, is_current};
+
+use super::RoutesOver;
+use super::choices::{Costs, choose};
+use super::room::has_entry;
+use crate::near::{find_near, set_near};
+use crate::{Cursor, Entry, RouteKey, Selection, SourceEntry, SourcesOver};
+use babel_table::Table;
+use babel_value::{Distance, Prefix, Source};
+
+impl<E: Table<RouteKey, Entry>, S: Table<Prefix, Selection>> RoutesOver<E, S> {
+    /// Whether the selection of the prefix is the one that a reselection would leave. The searches begin at the
+    /// cursor, which goes to the prefix.
+    pub fn is_current_near<T: Table<Source, SourceEntry>, C: Costs>(
+        &self,
+        prefix: &Prefix,
+        local: bool,
+        sources: &SourcesOver<T>,
+        costs: &C,
+        cursor: &mut Cursor,
+    ) -> bool
+        ensures { result ≡ is_current sources.now (C.cost_of costs.now) prefix.now local self.now }
+    {
+        let mut place = cursor.selection;
+        let before = find_near(&self.selections, &mut place, prefix);
+        cursor.selection = place;
+        let after = choose(
+            &self.entries,
+            prefix,
+            local,
+            &before,
+            sources,
+            costs,
+            cursor,
+        );
+        is_same_selection(&before, &after)
+    }
+
+    /// Whether the prefix has an entry. The search begins at the cursor, which goes to the prefix.
+    pub fn has_entry_near(&self, prefix: &Prefix, cursor: &mut Cursor) -> bool
+        ensures { result ≡ has_entry self.now.entries prefix.now }
+    {
+        has_entry(&self.entries, *prefix, &mut cursor.entry)
+    }
+}
+
+/// Stores the new selection of the prefix, unless it is the old one.
+pub(crate) fn replace_near<S: Table<Prefix, Selection>>(
+    selections: &mut S,
+    place: usize,
+    prefix: Prefix,
+    before: &Option<Selection>,
+    after: Option<Selection>,
+)
+    requires before { before.now ≡ find prefix_cmp prefix (S.entries selections.old) }
+    requires room { IsSome after → IsNone (find prefix_cmp prefix (S.entries selections.old)) → length (S.entries selections.old) < S.room selections.old }
+    ensures entries { S.entries selections.new ≡ with_value prefix_cmp prefix after (S.entries selections.old) }
+    ensures room { S.room selections.new ≡ S.room selections.old }
+{
+    if is_same_selection(before, &after) {
+        return;
+    }
+    set_near(selections, place, prefix, after);
+}
+
+/// Whether the selections are the same, or both are none.
+#[tactic(auto, unfolding(crate::specs::Currency::is_same_selection))]
+fn is_same_selection(old: &Option<Selection>, new: &Option<Selection>) -> bool
+    ensures { result ≡ is_same_selection old.now new.now }
+{
+    match (old, new) {
+        (None, None) => true,
+        (Some(old), Some(new)) => {
+            old.peer.cmp(&new.peer).is_eq() && is_same_entry(&old.entry, &new.entry)
+        }
+        _ => false,
+    }
+}
+
+fn is_same_entry(one: &Entry, other: &Entry) -> bool
+    ensures { result ≡ is_same_entry one.now other.now }
+{
+    one.router.cmp(&other.router).is_eq()
+        && is_same_distance(one.distance, other.distance)
+        && one.next_hop.cmp(&other.next_hop).is_eq()
+        && one.interval == other.interval
+        && one.deadline == other.deadline
+}
+
+fn is_same_distance(one: Distance, other: Distance) -> bool
+    ensures { result ≡ is_same_distance one other }
+{
+    one.seqno == other.seqno && one.metric == other.metric
+}

@@ -1,0 +1,243 @@
+//! Lines of text, put together before they are written at once.
+
+ghost use Rattle.std.specs.Prelude.{◌≡◌, ◌+◌, ◌*◌, ◌/◌, ◌%◌, ◌<◌, ◌≤◌, [], ◌∷◌, ◌++◌, false, Some, codes, length, slice_index};
+ghost use Rattle.std.specs.Fmt.{decimal, digits, digit_glyph};
+ghost use Rattle.babel_value.specs.Texts.{addr_text, ipv4_text, groups_text, group_text, prefix_text, router_text};
+
+use crate::{Addr, Prefix, RouterId};
+use arrayvec::ArrayVec;
+use itoa::Buffer;
+use std::fmt;
+use std::marker::Model;
+
+/// A line of text of at most 256 octets. What is printed often is put together here and written by
+/// one call.
+#[derive(Drop)]
+pub struct Line {
+    octets: ArrayVec<u8, 256>,
+}
+
+impl Model for Line {
+    ghost use Rattle.std.specs.Prelude.{List, ℕ};
+
+    ghost Value = { List ℕ };
+
+    ghost view = { λ l. l.octets.items };
+
+    ghost inverse = { λ octets. record { octets = record { items = octets } } };
+}
+
+impl Line {
+    /// An empty line.
+    #[inline]
+    pub fn new() -> Line
+        ensures { result ≡ [] }
+    {
+        Line {
+            octets: ArrayVec::new(),
+        }
+    }
+
+    /// Appends a text, for which there must be room.
+    #[inline(always)]
+    pub fn push_str(&mut self, text: &str)
+        requires room { length self.old + length text.now ≤ 256 }
+        ensures text { self.new ≡ self.old ++ text.now }
+    {
+        self.push_octets(text.as_bytes());
+    }
+
+    #[inline(always)]
+    fn push_octets(&mut self, octets: &[u8])
+        requires room { length self.old + length octets.now ≤ 256 }
+        ensures text { self.new ≡ self.old ++ octets.now }
+    {
+        // It is pushed, since there is room.
+        let _ = self.octets.try_extend_from_slice(octets);
+    }
+
+    /// Appends a number in decimal.
+    pub fn push_usize(&mut self, number: usize)
+        requires room { length self.old + 20 ≤ 256 }
+        ensures text { self.new ≡ self.old ++ decimal number }
+        ensures short { length self.new ≤ length self.old + 20 }
+    {
+        match u16::try_from(number) {
+            Ok(number) => self.push_u16(number),
+            Err(_) => self.push_str(Buffer::new().format(number)),
+        }
+    }
+
+    /// Appends a number in decimal.
+    pub fn push_u16(&mut self, number: u16)
+        requires room { length self.old + 5 ≤ 256 }
+        ensures text { self.new ≡ self.old ++ decimal number }
+        ensures short { length self.new ≤ length self.old + 5 }
+    {
+        if number < 100 {
+            self.push_first(number);
+        } else if number < 10_000 {
+            self.push_first(number / 100);
+            self.push_pair(number % 100);
+        } else {
+            self.push_octets(&[b'0' + (number / 10_000) as u8]);
+            self.push_pair(number / 100 % 100);
+            self.push_pair(number % 100);
+        }
+    }
+
+    /// Appends a number of one or two digits.
+    #[inline(always)]
+    fn push_first(&mut self, number: u16)
+        requires small { number < 100 }
+        requires room { length self.old + 2 ≤ 256 }
+        ensures text { self.new ≡ self.old ++ decimal number }
+        ensures short { length self.new ≤ length self.old + 2 }
+    {
+        if number < 10 {
+            self.push_octets(&[b'0' + number as u8]);
+        } else {
+            self.push_pair(number);
+        }
+    }
+
+    /// Appends two decimal digits.
+    #[inline(always)]
+    fn push_pair(&mut self, number: u16)
+        requires small { number < 100 }
+        requires room { length self.old + 2 ≤ 256 }
+        ensures text { self.new ≡ self.old ++ (48 + number / 10) ∷ (48 + number % 10) ∷ [] }
+    {
+        let tens = b'0' + (number / 10) as u8;
+        let ones = b'0' + (number % 10) as u8;
+        self.push_octets(&[tens, ones]);
+    }
+
+    /// Appends a number in hexadecimal, in lower case.
+    fn push_hex(&mut self, number: u16)
+        requires room { length self.old + 4 ≤ 256 }
+        ensures text { self.new ≡ self.old ++ digits 16 false number }
+        ensures short { length self.new ≤ length self.old + 4 }
+    {
+        let ones = hex_digit(number % 16);
+        if number < 0x10 {
+            return self.push_octets(&[ones]);
+        }
+        let sixteens = hex_digit(number / 0x10 % 16);
+        if number < 0x100 {
+            return self.push_octets(&[sixteens, ones]);
+        }
+        let third = hex_digit(number / 0x100 % 16);
+        if number < 0x1000 {
+            return self.push_octets(&[third, sixteens, ones]);
+        }
+        self.push_octets(&[hex_digit(number / 0x1000), third, sixteens, ones]);
+    }
+
+    /// Appends four groups of an IPv6 address, from this octet on.
+    fn push_groups(&mut self, octets: &[u8; 16], from: usize)
+        requires index { from ≤ 8 }
+        requires room { length self.old + 19 ≤ 256 }
+        ensures text { self.new ≡ self.old ++ groups_text octets.now from }
+        ensures short { length self.new ≤ length self.old + 19 }
+    {
+        self.push_hex(group(octets, from));
+        self.push_str(":");
+        self.push_hex(group(octets, from + 2));
+        self.push_str(":");
+        self.push_hex(group(octets, from + 4));
+        self.push_str(":");
+        self.push_hex(group(octets, from + 6));
+    }
+
+    /// Appends four decimal numbers with points.
+    fn push_ipv4(&mut self, octets: [u8; 4])
+        requires room { length self.old + 23 ≤ 256 }
+        ensures text { self.new ≡ self.old ++ ipv4_text octets }
+        ensures short { length self.new ≤ length self.old + 23 }
+    {
+        let [a, b, c, d] = octets;
+        self.push_u16(u16::from(a));
+        self.push_str(".");
+        self.push_u16(u16::from(b));
+        self.push_str(".");
+        self.push_u16(u16::from(c));
+        self.push_str(".");
+        self.push_u16(u16::from(d));
+    }
+
+    /// Appends an address.
+    pub fn push_addr(&mut self, addr: &Addr)
+        requires room { length self.old + 39 ≤ 256 }
+        ensures text { self.new ≡ self.old ++ addr_text addr.now }
+        ensures short { length self.new ≤ length self.old + 39 }
+    {
+        match addr {
+            Addr::V4(octets) => self.push_ipv4(*octets),
+            Addr::V6(octets) => {
+                self.push_groups(octets, 0);
+                self.push_str(":");
+                self.push_groups(octets, 8);
+            }
+        }
+    }
+
+    /// Appends a prefix.
+    pub fn push_prefix(&mut self, prefix: &Prefix)
+        requires room { length self.old + 45 ≤ 256 }
+        ensures text { self.new ≡ self.old ++ prefix_text prefix.now }
+        ensures short { length self.new ≤ length self.old + 45 }
+    {
+        self.push_addr(&prefix.addr());
+        self.push_str("/");
+        self.push_u16(u16::from(prefix.length()));
+    }
+
+    /// Appends a router-id.
+    pub fn push_router_id(&mut self, router: RouterId)
+        requires room { length self.old + 16 ≤ 256 }
+        ensures text { self.new ≡ self.old ++ router_text router }
+        ensures short { length self.new ≤ length self.old + 16 }
+    {
+        let mut digits = [0; 16];
+        // It succeeds, since there are twice as many digits as octets.
+        let _ = hex::encode_to_slice(router.octets().as_slice(), &mut digits);
+        self.push_octets(&digits);
+    }
+}
+
+/// The octets of the line, as text.
+impl fmt::Display for Line {
+    ghost output = { λ line. Some line };
+
+    #[inline]
+    fn fmt<W: fmt::Write>(&self, f: &mut fmt::Formatter<W>) -> fmt::Result {
+        match str::from_utf8(self.octets.as_slice()) {
+            Ok(text) => f.write_str(text),
+            Err(_) => Err(fmt::Error),
+        }
+    }
+}
+
+/// The hexadecimal digit, in lower case.
+#[inline(always)]
+fn hex_digit(digit: u16) -> u8
+    requires { digit < 16 }
+    ensures { result ≡ digit_glyph false digit }
+{
+    let digit = digit as u8;
+    if digit < 10 {
+        b'0' + digit
+    } else {
+        b'a' - 10 + digit
+    }
+}
+
+/// The number in the two octets from this index on.
+#[inline(always)]
+fn group(octets: &[u8; 16], index: usize) -> u16
+    requires { index < 15 }
+    ensures { result ≡ 256 * slice_index octets.now index + slice_index octets.now (index + 1) }
+{
+    256 * u16::from(octets[index]) + u16::from(octets[index + 1])
+}
