@@ -1,8 +1,11 @@
 //! Why a whole datagram is refused.
 
-ghost use Rattle.std.specs.Prelude.{◌≡◌};
+ghost use Rattle.std.specs.Prelude.{◌≡◌, ◌+◌, ◌≤◌, ◌++◌, Some, length};
+ghost use Rattle.babel_packet.specs.Texts.{refusal_code};
 
+use babel_value::Line;
 use std::fmt;
+use std::fmt::Display;
 use thiserror::Error;
 
 /// Why a datagram is refused, in the order in which the causes are tested. The text is a phrase;
@@ -46,21 +49,34 @@ pub struct RefusalCode {
     pub refusal: Refusal,
 }
 
+impl RefusalCode {
+    /// Appends the code, which is at most 23 octets.
+    pub fn push_to(&self, line: &mut Line)
+        requires room { length line.old + 23 ≤ 256 }
+        ensures text { line.new ≡ line.old ++ refusal_code self.now.refusal }
+        ensures short { length line.new ≤ length line.old + 23 }
+    {
+        match self.refusal {
+            Refusal::Short => line.push_str("P1"),
+            Refusal::Magic => line.push_str("P2"),
+            Refusal::Version => line.push_str("P3"),
+            Refusal::BodyLength => line.push_str("P4"),
+            Refusal::Tlv(offset) => {
+                line.push_str("P5 ");
+                line.push_usize(offset);
+            }
+            Refusal::Memory => line.push_str("P6"),
+        }
+    }
+}
+
 /// The code, with the offset after `P5`.
 impl fmt::Display for RefusalCode {
-    ghost use Rattle.std.specs.Prelude.{Some};
-    ghost use Rattle.babel_packet.specs.Texts.{refusal_code};
-
     ghost output = { λ code. Some (refusal_code code.refusal) };
 
     fn fmt<W: fmt::Write>(&self, f: &mut fmt::Formatter<W>) -> fmt::Result {
-        match self.refusal {
-            Refusal::Short => f.write_str("P1"),
-            Refusal::Magic => f.write_str("P2"),
-            Refusal::Version => f.write_str("P3"),
-            Refusal::BodyLength => f.write_str("P4"),
-            Refusal::Tlv(offset) => write!(f, "P5 {offset}"),
-            Refusal::Memory => f.write_str("P6"),
-        }
+        let mut line = Line::new();
+        self.push_to(&mut line);
+        line.fmt(f)
     }
 }

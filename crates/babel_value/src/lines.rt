@@ -56,8 +56,26 @@ impl Line {
         let _ = self.octets.try_extend_from_slice(octets);
     }
 
+    /// The octets of the line.
+    #[inline]
+    pub fn octets(&self) -> &[u8]
+        ensures { result.now ≡ self.now }
+    {
+        self.octets.as_slice()
+    }
+
     /// Appends a number in decimal.
+    #[inline]
     pub fn push_usize(&mut self, number: usize)
+        requires room { length self.old + 20 ≤ 256 }
+        ensures text { self.new ≡ self.old ++ decimal number }
+        ensures short { length self.new ≤ length self.old + 20 }
+    {
+        self.push_u64(number as u64);
+    }
+
+    /// Appends a number in decimal.
+    pub fn push_u64(&mut self, number: u64)
         requires room { length self.old + 20 ≤ 256 }
         ensures text { self.new ≡ self.old ++ decimal number }
         ensures short { length self.new ≤ length self.old + 20 }
@@ -84,6 +102,17 @@ impl Line {
             self.push_pair(number / 100 % 100);
             self.push_pair(number % 100);
         }
+    }
+
+    /// Appends a text, such as the name of a field, and a number in decimal.
+    #[inline(always)]
+    pub fn push_field(&mut self, name: &str, number: u16)
+        requires room { length self.old + length name.now + 5 ≤ 256 }
+        ensures text { self.new ≡ self.old ++ name.now ++ decimal number }
+        ensures short { length self.new ≤ length self.old + length name.now + 5 }
+    {
+        self.push_str(name);
+        self.push_u16(number);
     }
 
     /// Appends a number of one or two digits.
