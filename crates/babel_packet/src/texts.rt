@@ -120,31 +120,19 @@ impl Message {
     {
         match *self {
             Message::AckRequest { opaque, interval } => {
-                push_fields(line, "ack-request opaque ", opaque, " interval ", interval);
+                line.push_fields("ack-request opaque ", opaque, " interval ", interval);
             }
             Message::Ack { opaque } => line.push_field("ack opaque ", opaque),
             Message::Hello {
                 unicast: true,
                 seqno,
                 interval,
-            } => push_fields(
-                line,
-                "hello unicast seqno ",
-                seqno.0,
-                " interval ",
-                interval,
-            ),
+            } => line.push_fields("hello unicast seqno ", seqno.0, " interval ", interval),
             Message::Hello {
                 unicast: false,
                 seqno,
                 interval,
-            } => push_fields(
-                line,
-                "hello multicast seqno ",
-                seqno.0,
-                " interval ",
-                interval,
-            ),
+            } => line.push_fields("hello multicast seqno ", seqno.0, " interval ", interval),
             Message::Ihu {
                 to,
                 rxcost,
@@ -182,17 +170,6 @@ impl Message {
     }
 }
 
-/// Appends two fields.
-#[inline]
-fn push_fields(line: &mut Line, first: &str, one: u16, second: &str, other: u16)
-    requires room { length line.old + length first.now + length second.now + 10 ≤ 256 }
-    ensures text { line.new ≡ line.old ++ (first.now ++ decimal one ++ second.now ++ decimal other) }
-    ensures short { length line.new ≤ length line.old + length first.now + length second.now + 10 }
-{
-    line.push_field(first, one);
-    line.push_field(second, other);
-}
-
 fn push_ihu(line: &mut Line, to: &Option<Addr>, rxcost: Metric, interval: u16)
     requires room { length line.old + 74 ≤ 256 }
     ensures text { line.new ≡ line.old ++ message_text (Message.Ihu to.now rxcost interval) }
@@ -200,7 +177,7 @@ fn push_ihu(line: &mut Line, to: &Option<Addr>, rxcost: Metric, interval: u16)
 {
     line.push_str("ihu to ");
     push_receiver(line, to);
-    push_fields(line, " rxcost ", rxcost.0, " interval ", interval);
+    line.push_fields(" rxcost ", rxcost.0, " interval ", interval);
 }
 
 /// Appends the receiver of an IHU.
@@ -256,5 +233,5 @@ fn push_seqno_request(line: &mut Line, prefix: &Prefix, router: RouterId, seqno:
     ensures short { length line.new ≤ length line.old + 106 }
 {
     push_source(line, "seqno-request ", prefix, router);
-    push_fields(line, " seqno ", seqno, " hops ", hops);
+    line.push_fields(" seqno ", seqno, " hops ", hops);
 }

@@ -115,6 +115,17 @@ impl Line {
         self.push_u16(number);
     }
 
+    /// Appends two texts, such as the names of fields, each with a number in decimal.
+    #[inline]
+    pub fn push_fields(&mut self, first: &str, one: u16, second: &str, other: u16)
+        requires room { length self.old + length first.now + length second.now + 10 ≤ 256 }
+        ensures text { self.new ≡ self.old ++ (first.now ++ decimal one ++ second.now ++ decimal other) }
+        ensures short { length self.new ≤ length self.old + length first.now + length second.now + 10 }
+    {
+        self.push_field(first, one);
+        self.push_field(second, other);
+    }
+
     /// Appends a number of one or two digits.
     #[inline(always)]
     fn push_first(&mut self, number: u16)

@@ -11,4 +11,4 @@ pub returns-clause-text : goal.returns-clause-text
 returns-clause-text c =
     appended c.args.line.now (codes "seqno-request " ++ prefix_text c.args.prefix.now ++ codes " router " ++ router_text c.args.router)
     (codes " seqno ") (decimal c.args.seqno) (codes " hops ") (decimal c.args.hops)
-    c.push_source.new.line c.push_fields.new.line c.push_source.ensures.text c.push_fields.ensures.text
+    c.push_source.new.line c.push_fields.new.self c.push_source.ensures.text c.push_fields.ensures.text
