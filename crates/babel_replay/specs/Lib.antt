@@ -1,5 +1,4 @@
 pub mod Codes
-pub mod Texts
 pub mod Stepping
 pub mod LogLines
 pub mod Seen

@@ -15,11 +15,7 @@ use Rattle.babel_replay.specs.declared.stepping.Outcome.{Outcome}
 use Rattle.babel_replay.specs.declared.stepping.Outcome.TheVariants as outcomes
 use Rattle.babel_replay.specs.Stepping.{Steps}
 use Rattle.babel_replay.specs.Seen.{SeenPrefix, choice_at, is_same_choice, seen_after, printed_all}
-use Rattle.babel_replay.specs.Texts.{note_text, refused_text, cost_refused_text, select_text, table_text, out_text}
-
--- A text with its line feed.
-abbrev pub line : List ℕ → List ℕ
-line text = text ++ 10 ∷ []
+use Rattle.babel_lines.specs.Texts.{line, note_text, refused_text, cost_refused_text, select_text, table_text, out_text}
 
 -- ---- what became of the line itself
 

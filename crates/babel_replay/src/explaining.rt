@@ -17,9 +17,9 @@ use crate::log_lines::is_skipped;
 use crate::reading::read_line;
 use crate::replaying::{Buffers, write_line};
 use crate::stepping::step;
-use crate::texts::{RouteLine, RouteStatus};
 use crate::{Event, LineFault, ReplayFault, parse_line};
 use arrayvec::ArrayVec;
+use babel_lines::{RouteLine, RouteStatus, route_line};
 use babel_route::Entry;
 use babel_speaker::{Speaker, datagrams_take_items};
 use babel_state::Config;
@@ -213,11 +213,14 @@ fn write_route<W: Write>(
     let Some((peer, entry, cost)) = speaker.entry(prefix, index) else {
         return Ok(());
     };
-    write_line(out, route_line(speaker, prefix, peer, entry, cost))
+    write_line(
+        out,
+        &route_line(&route_fields(speaker, prefix, peer, entry, cost)),
+    )
 }
 
-/// The line of a route.
-fn route_line(
+/// What is printed of a route.
+fn route_fields(
     speaker: &Speaker,
     prefix: &Prefix,
     peer: Peer,

@@ -3,8 +3,7 @@
 //! - [`replay`] writes what the speaker makes of each line, and the routes that it selects.
 //! - [`explain`] writes the routes of one prefix after the log, and why each is used or not.
 //!
-//! `log_lines` reads the lines, `replaying` and `explaining` are the two calls, and `texts` has the lines
-//! that they write.
+//! `log_lines` reads the lines, and `replaying` and `explaining` are the two calls.
 #![tactic(auto)]
 
 mod counting;
@@ -15,7 +14,6 @@ mod reading;
 mod replaying;
 mod seen;
 mod stepping;
-mod texts;
 
 pub use errors::{LineFault, ReplayFault};
 pub use explaining::explain;

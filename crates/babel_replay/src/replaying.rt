@@ -1,7 +1,6 @@
 //! A log replayed: what the speaker makes of each line.
 
-ghost use Rattle.std.specs.Prelude.{◌≡◌, ◌≢◌, ◌≤◌, ◌⊎◌, [], length, slice_get, Err, IsOk, IsNone, OnOk, IfOk, IfErr, IfSome};
-ghost use Rattle.std.specs.Fmt.{with_newline};
+ghost use Rattle.std.specs.Prelude.{◌≡◌, ◌≢◌, ◌≤◌, ◌⊎◌, [], length, slice_get, Err, IsOk, IsNone, OnOk, IfOk, IfErr};
 ghost use Rattle.std.specs.Io.KnownBytes.{Appends};
 ghost use Rattle.std.specs.Option.{option_map_or};
 ghost use Rattle.indexmap.specs.IndexMap.{spare, set_value_at};
@@ -17,17 +16,18 @@ ghost use Rattle.babel_replay.specs.Taking.{IsReported, IsReportedLine, TakesLin
 use crate::counting::count_messages;
 use crate::log_lines::is_skipped;
 use crate::reading::read_line;
-use crate::seen::{Choice, SeenPrefixes, is_same};
+use crate::seen::{SeenPrefixes, choice_of, is_same};
 use crate::stepping::{Outcome, step};
-use crate::texts::{CostRefusedLine, NoteLine, OutLine, RefusedLine, SelectLine, TableLine};
 use crate::{Action, Event, LineFault, MAX_LINE_LEN, ReplayFault, parse_line};
 use arrayvec::ArrayVec;
+use babel_lines::{
+    Choice, cost_refused_line, note_line, out_line, refused_line, select_line, table_line,
+};
 use babel_packet::{Placed, Refusal, decode};
 use babel_speaker::{Speaker, datagrams_take_items};
 use babel_state::{Config, ConfigFault, Note};
-use babel_value::Prefix;
+use babel_value::{Line, Prefix};
 use std::alloc::{AllocError, Global};
-use std::fmt::Display;
 use std::io::{BufRead, Write};
 
 /// Writes what a speaker of this configuration makes of a log. Each line's report follows the line
@@ -73,12 +73,12 @@ impl Buffers {
     }
 }
 
-/// Writes a line and its line feed.
-pub(crate) fn write_line<W: Write, D: Display + Drop>(out: &mut W, line: D) -> Result<(), LineFault>
-    ensures written { OnOk result (IfSome (with_newline (D.output line)) (Appends (W.contents out.old) (W.contents out.new))) }
+/// Writes a line by one call.
+pub(crate) fn write_line<W: Write>(out: &mut W, line: &Line) -> Result<(), LineFault>
+    ensures written { OnOk result (Appends (W.contents out.old) (W.contents out.new) line.now) }
     ensures failed { IfErr result (λ fault. fault ≡ LineFault.Write) }
 {
-    match write!(out, "{line}\n") {
+    match out.write_all(line.octets()) {
         Ok(()) => Ok(()),
         Err(_) => Err(LineFault::Write),
     }
@@ -272,20 +272,8 @@ impl Replayer {
                 self.seen.add_stored(placed, notes);
                 Ok(())
             }
-            Outcome::Refused(fault) => write_line(
-                out,
-                RefusedLine {
-                    time,
-                    fault: *fault,
-                },
-            ),
-            Outcome::CostRefused(fault) => write_line(
-                out,
-                CostRefusedLine {
-                    time,
-                    fault: *fault,
-                },
-            ),
+            Outcome::Refused(fault) => write_line(out, &refused_line(time, *fault)),
+            Outcome::CostRefused(fault) => write_line(out, &cost_refused_line(time, *fault)),
         }
     }
 
@@ -356,21 +344,14 @@ impl Replayer {
             return Ok(());
         }
         self.seen.set(index, choice);
-        write_line(
-            out,
-            SelectLine {
-                time,
-                prefix,
-                choice,
-            },
-        )
+        write_line(out, &select_line(time, &prefix, &choice))
     }
 
     /// What is printed of the prefix's selected route.
     fn choice(&self, prefix: &Prefix) -> Option<Choice>
         ensures { result ≡ choice_at self.now.speaker prefix.now }
     {
-        self.speaker.selected(prefix).map(Choice::of)
+        self.speaker.selected(prefix).map(choice_of)
     }
 
     /// Writes a `table` line for each seen prefix, and flushes.
@@ -396,7 +377,7 @@ impl Replayer {
             return Ok(());
         };
         let choice = self.choice(&prefix);
-        write_line(out, TableLine { prefix, choice })
+        write_line(out, &table_line(&prefix, &choice))
     }
 }
 
@@ -411,14 +392,7 @@ fn write_notes<W: Write>(
     ensures failed { IfErr result (λ fault. fault ≡ LineFault.Write) }
 {
     for (place, note) in placed.iter().zip(notes) {
-        write_line(
-            out,
-            NoteLine {
-                time,
-                placed: *place,
-                verdict: note.verdict,
-            },
-        )?;
+        write_line(out, &note_line(time, place, &note.verdict))?;
     }
     Ok(())
 }
@@ -435,14 +409,7 @@ fn send_datagrams<W: Write>(speaker: &mut Speaker, time: u64, out: &mut W) -> Re
             return Ok(());
         };
         let messages = count_messages(&datagram);
-        write_line(
-            out,
-            OutLine {
-                time,
-                target,
-                messages,
-            },
-        )?;
+        write_line(out, &out_line(time, &target, messages))?;
     }
     Ok(())
 }

@@ -5,36 +5,22 @@ ghost use Rattle.std.specs.Prelude.{◌≡◌, ◌+◌, ◌≤◌, ◌<◌, [], 
 ghost use Rattle.indexmap.specs.IndexMap.{spare, set_value_at};
 ghost use Rattle.babel_replay.specs.Seen.{choice_of, is_same_choice, updated, updates_in, stored, with_seen, seen_after};
 
+use babel_lines::Choice;
 use babel_packet::{Content, Message, Placed};
 use babel_state::{Note, Selected, Verdict};
-use babel_value::{Metric, Peer, Prefix, RouterId, Seqno};
+use babel_value::Prefix;
 use indexmap::IndexMap;
 use std::alloc::{AllocError, Global};
 
 /// What is printed of a selected route.
-#[derive(Clone, Copy, Debug, PartialEq, Eq)]
-pub(crate) struct Choice {
-    /// The neighbour that it leads over.
-    pub(crate) peer: Peer,
-    /// The metric over the link to the neighbour.
-    pub(crate) metric: Metric,
-    /// The router that announces the prefix.
-    pub(crate) router: RouterId,
-    /// The seqno of the route.
-    pub(crate) seqno: Seqno,
-}
-
-impl Choice {
-    /// What is printed of this route.
-    pub(crate) fn of(selected: Selected) -> Choice
-        ensures { result ≡ choice_of selected }
-    {
-        Choice {
-            peer: selected.peer,
-            metric: selected.metric,
-            router: selected.router,
-            seqno: selected.distance.seqno,
-        }
+pub(crate) fn choice_of(selected: Selected) -> Choice
+    ensures { result ≡ choice_of selected }
+{
+    Choice {
+        peer: selected.peer,
+        metric: selected.metric,
+        router: selected.router,
+        seqno: selected.distance.seqno,
     }
 }
 

@@ -1,4 +1,5 @@
-use Rattle.std.proofs.Common.{length, arith}
+use Rattle.std.proofs.Common.{length, arith, subst}
+use Rattle.std.specs.Io.KnownBytes.{Appends}
 use Rattle.babel_state.specs.Addresses.{transport_at}
 use Rattle.babel_replay.specs.Report.{draft_at}
 use Rattle.babel_replay.proofs.MessageCounts.{counted_of}
@@ -15,7 +16,8 @@ loop-preserved g c = (
       c.loop.invariant.0 c.in-Some.ensures.target
       (counted_of (transport_at c.in-Some.target.iface c.loop.speaker) c.next_datagram.new.out.items c.deref.result.now
       (draft_at c.args.time c.loop.speaker).messages c.count_messages-messages.result c.in-Some.ensures.octets c.deref.ensures.0 c.count_messages-messages.ensures)
-      c.next_datagram.ensures.state c.in_ok-write_line.ensures.written,
+      c.next_datagram.ensures.state
+      (subst (Appends (g.W.Write.contents c.loop.out) (g.W.Write.contents c.write_line.new.out)) c.out_line.ensures c.in_ok-write_line.ensures.written),
   fewer_left c.datagrams_take_items.ensures c.loop.counter (length c.args.speaker.now.pending.items) c.args.time c.loop.speaker c.in-Some.target
       c.next_datagram.new.self c.loop.invariant.1 c.in-Some.ensures.target c.next_datagram.ensures.state,
 )

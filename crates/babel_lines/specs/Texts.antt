@@ -1,5 +1,5 @@
 -- The lines of the reports, without their line feed (profile). Numbers are decimal, and one blank separates two fields.
-use Rattle.std.specs.Prelude.{ℕ, List, ◌++◌, Option, Some, None, codes}
+use Rattle.std.specs.Prelude.{ℕ, List, [], ◌∷◌, ◌++◌, Option, Some, None, codes}
 use Rattle.std.specs.Option.{option_map_or}
 use Rattle.std.specs.Fmt.{decimal}
 use Rattle.babel_value.specs.declared.distances.Distance.{Distance}
@@ -17,10 +17,14 @@ use Rattle.babel_state.specs.declared.items.Target.{Target}
 use Rattle.babel_state.specs.declared.notes.Verdict.{Verdict}
 use Rattle.babel_state.specs.declared.notes.Verdict.TheVariants as verdicts
 use Rattle.babel_state.specs.Codes.{recv_code, set_cost_code}
-use Rattle.babel_replay.specs.declared.seen.Choice.{Choice}
-use Rattle.babel_replay.specs.declared.texts.RouteLine.{RouteLine}
-use Rattle.babel_replay.specs.declared.texts.RouteStatus.{RouteStatus}
-use Rattle.babel_replay.specs.declared.texts.RouteStatus.TheVariants as statuses
+use Rattle.babel_lines.specs.declared.choices.Choice.{Choice}
+use Rattle.babel_lines.specs.declared.routes.RouteLine.{RouteLine}
+use Rattle.babel_lines.specs.declared.routes.RouteStatus.{RouteStatus}
+use Rattle.babel_lines.specs.declared.routes.RouteStatus.TheVariants as statuses
+
+-- A text with its line feed.
+abbrev pub line : List ℕ → List ℕ
+line text = text ++ 10 ∷ []
 
 -- a seqno and a metric
 abbrev pub distance_text : Distance → List ℕ

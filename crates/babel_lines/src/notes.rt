@@ -1,0 +1,140 @@
+//! What became of a datagram or a cost, and the datagrams that are sent.
+
+ghost use Rattle.std.specs.Prelude.{◌≡◌, ◌+◌, ◌≤◌, ◌++◌, length};
+ghost use Rattle.babel_state.specs.Codes.{set_cost_code};
+ghost use Rattle.babel_lines.specs.Texts.{cost_refused_text, line, note_text, out_text, refusal_text, refused_text, target_text, verdict_after, verdict_text};
+
+use crate::parts::push_distance;
+use babel_packet::{Content, Placed};
+use babel_state::{RecvFault, SetCostFault, Target, Verdict};
+use babel_value::Line;
+
+/// What became of a TLV: a message with its verdict, `state`, or `ignored` and the reason.
+pub fn note_line(time: u64, placed: &Placed, verdict: &Verdict) -> Line
+    ensures { result ≡ line (note_text time placed.now verdict.now) }
+{
+    let mut line = Line::new();
+    line.push_u64(time);
+    line.push_str(" ");
+    placed.push_to(&mut line);
+    push_verdict_after(&mut line, &placed.content, verdict);
+    line.push_str("\n");
+    line
+}
+
+/// Appends the verdict after a message.
+fn push_verdict_after(line: &mut Line, content: &Content, verdict: &Verdict)
+    requires room { length line.old + 17 ≤ 256 }
+    ensures text { line.new ≡ line.old ++ verdict_after content.now verdict.now }
+    ensures short { length line.new ≤ length line.old + 17 }
+{
+    if let Content::Message(_) = content {
+        line.push_str(" ");
+        push_verdict(line, verdict);
+    }
+}
+
+/// Appends `V1` to `V9`, with the distance after `V2`.
+fn push_verdict(line: &mut Line, verdict: &Verdict)
+    requires room { length line.old + 16 ≤ 256 }
+    ensures text { line.new ≡ line.old ++ verdict_text verdict.now }
+    ensures short { length line.new ≤ length line.old + 16 }
+{
+    match verdict {
+        Verdict::State => line.push_str("state"),
+        Verdict::Ignored(reason) => {
+            line.push_str("ignored ");
+            reason.push_to(line);
+        }
+        Verdict::Taken => line.push_str("V1"),
+        Verdict::Unfeasible(distance) => {
+            line.push_str("V2 ");
+            push_distance(line, distance);
+        }
+        Verdict::OwnRouterId => line.push_str("V3"),
+        Verdict::UnknownNeighbour => line.push_str("V4"),
+        Verdict::TableFull => line.push_str("V5"),
+        Verdict::OtherAddress => line.push_str("V6"),
+        Verdict::NoEntry => line.push_str("V7"),
+        Verdict::Redundant => line.push_str("V8"),
+        Verdict::NotForwarded => line.push_str("V9"),
+    }
+}
+
+/// A datagram that was refused.
+pub fn refused_line(time: u64, fault: RecvFault) -> Line
+    ensures { result ≡ line (refused_text time fault) }
+{
+    let mut line = Line::new();
+    line.push_u64(time);
+    line.push_str(" refused ");
+    push_refusal(&mut line, fault);
+    line.push_str("\n");
+    line
+}
+
+/// Appends the code of the fault, with the offset after `P5`.
+fn push_refusal(line: &mut Line, fault: RecvFault)
+    requires room { length line.old + 23 ≤ 256 }
+    ensures text { line.new ≡ line.old ++ refusal_text fault }
+    ensures short { length line.new ≤ length line.old + 23 }
+{
+    match fault {
+        RecvFault::NoInterface => line.push_str("S1"),
+        RecvFault::ForeignSource => line.push_str("S2"),
+        RecvFault::OwnSource => line.push_str("S3"),
+        RecvFault::Refused(refusal) => refusal.code().push_to(line),
+    }
+}
+
+/// A cost that was refused.
+pub fn cost_refused_line(time: u64, fault: SetCostFault) -> Line
+    ensures { result ≡ line (cost_refused_text time fault) }
+{
+    let mut line = Line::new();
+    line.push_u64(time);
+    line.push_str(" refused ");
+    push_cost_refusal(&mut line, fault);
+    line.push_str("\n");
+    line
+}
+
+/// Appends the code of the fault.
+fn push_cost_refusal(line: &mut Line, fault: SetCostFault)
+    requires room { length line.old + 2 ≤ 256 }
+    ensures text { line.new ≡ line.old ++ set_cost_code fault }
+    ensures short { length line.new ≤ length line.old + 2 }
+{
+    match fault {
+        SetCostFault::NoInterface => line.push_str("E1"),
+        SetCostFault::CostOutOfRange => line.push_str("E2"),
+    }
+}
+
+/// A datagram that the speaker sends.
+pub fn out_line(time: u64, target: &Target, messages: usize) -> Line
+    ensures { result ≡ line (out_text time target.now messages) }
+{
+    let mut line = Line::new();
+    line.push_u64(time);
+    line.push_str(" out ");
+    push_target(&mut line, target);
+    line.push_str(" ");
+    line.push_usize(messages);
+    line.push_str("\n");
+    line
+}
+
+/// Appends an interface, and the address or `all`.
+fn push_target(line: &mut Line, target: &Target)
+    requires room { length line.old + 45 ≤ 256 }
+    ensures text { line.new ≡ line.old ++ target_text target.now }
+    ensures short { length line.new ≤ length line.old + 45 }
+{
+    line.push_u16(u16::from(target.iface));
+    line.push_str(" ");
+    match &target.to {
+        Some(addr) => line.push_addr(addr),
+        None => line.push_str("all"),
+    }
+}
