@@ -1,10 +1,9 @@
 -- The least prefix beyond a bound is that of the first entry beyond it, since the prefixes rise.
-use Rattle.std.proofs.Common.{◌≡◌, ℕ, zero, suc, ◌+◌, Bool, true, false, not, List, [], ◌∷◌, ◌++◌, map, filter, take, drop, slice_get, Option, Some, None, refl, sym, ap, subst, ◌∙◌}
+use Rattle.std.proofs.Common.{◌≡◌, ℕ, ◌+◌, Bool, true, false, not, List, [], ◌∷◌, ◌++◌, map, filter, take, drop, slice_get, Option, Some, None, refl, sym, ap, subst, ◌∙◌}
 use Rattle.std.specs.List.{list_all}
 use Rattle.std.proofs.lemmas.Bool.{and_parts, and_from}
 use Rattle.std.proofs.lemmas.List.{take-append-drop, map-append}
 use Rattle.std.proofs.lemmas.List.Elements.{filter-append}
-use Rattle.std.proofs.lemmas.Option.{none-some}
 use Rattle.std.specs.declared.cmp.Ordering.{Ordering}
 use Rattle.std.specs.declared.cmp.Ordering.TheVariants.{Less, Equal, Greater}
 use Rattle.std.specs.Ordering.{is_lt, is_gt, ordering_reverse}
@@ -19,8 +18,8 @@ use Rattle.babel_route.specs.Selections.{is_beyond, prefix_after, Selections}
 use Rattle.babel_route.specs.Routes.{RouteEntries}
 use Rattle.babel_route.specs.PrefixBounds.{is_through, route_not_after}
 use Rattle.babel_table.specs.Places.{are_greater}
-use Rattle.babel_table.proofs.PlaceLemmas.{others_greater, tail_sorted, head_greater, tail_greater}
-use Rattle.babel_route.proofs.RunLemmas.{drop_at}
+use Rattle.babel_table.proofs.PlaceLemmas.{others_greater, head_greater, tail_greater}
+use Rattle.babel_route.proofs.RunLemmas.{drop_at, drop_past, sorted_drop}
 use Rattle.babel_table.proofs.FirstLemmas.{head_is_first, first_of_row}
 
 module _ {K V : Type 0} (R : K → K → Ordering) (prefix : K → PrefixValue) (rises : (x y : K) → R x y ≡ Less → is_lt (prefix_cmp (prefix y) (prefix x)) ≡ false) (after : Option PrefixValue) where
@@ -50,18 +49,6 @@ module _ {K V : Type 0} (R : K → K → Ordering) (prefix : K → PrefixValue) 
       and_from (not (is_lt (prefix_cmp (prefix e.0) (prefix k)))) (list_all (λ p. not (is_lt (prefix_cmp p (prefix k)))) (map (λ e. prefix e.0) es))
       (ap not (rises k e.0 (head_greater R k e es all))) (none_lesser k es (tail_greater R k e es all))
 
-  sorted_from : (es : List (K × V)) (i : ℕ) → is_sorted R es ≡ true → is_sorted R (drop i es) ≡ true
-  sorted_from [] zero sorted = sorted
-  sorted_from [] (suc i) sorted = sorted
-  sorted_from (e ∷ es) zero sorted = sorted
-  sorted_from (e ∷ es) (suc i) sorted = sorted_from es i (tail_sorted R e es sorted)
-
-  nothing_left : (es : List (K × V)) (i : ℕ) → slice_get es i ≡ None → drop i es ≡ []
-  nothing_left [] zero at = refl
-  nothing_left [] (suc i) at = refl
-  nothing_left (e ∷ es) zero at = absurd (none-some e (sym at))
-  nothing_left (e ∷ es) (suc i) at = nothing_left es i at
-
   from_place : (es : List (K × V)) (i : ℕ) → list_all (λ e. is_through after (prefix e.0)) (take i es) ≡ true → list_all (λ e. not (is_through after (prefix e.0))) (drop i es) ≡ true → filter (is_beyond after) (map (λ e. prefix e.0) es) ≡ map (λ e. prefix e.0) (drop i es)
   from_place es i below above =
       ap (λ fs. filter (is_beyond after) (map (λ e. prefix e.0) fs)) (sym (take-append-drop i es))
@@ -73,13 +60,13 @@ module _ {K V : Type 0} (R : K → K → Ordering) (prefix : K → PrefixValue) 
   pub least_beyond : (es : List (K × V)) (i : ℕ) (e : K × V) → is_sorted R es ≡ true → list_all (λ e. is_through after (prefix e.0)) (take i es) ≡ true → list_all (λ e. not (is_through after (prefix e.0))) (drop i es) ≡ true → slice_get es i ≡ Some e → first_of prefix_cmp (filter (is_beyond after) (map (λ e. prefix e.0) es)) ≡ Some (prefix e.0)
   least_beyond es i e sorted below above at =
       let here = drop_at es i e at in
-      let rest = subst (λ fs. is_sorted R fs ≡ true) here (sorted_from es i sorted) in
+      let rest = subst (λ fs. is_sorted R fs ≡ true) here (sorted_drop R es i sorted) in
       ap (first_of prefix_cmp) (from_place es i below above ∙ ap (map (λ e. prefix e.0)) here)
       ∙ head_is_first prefix_cmp prefix_total (prefix e.0) (map (λ e. prefix e.0) (drop (i + 1) es)) (none_lesser e.0 (drop (i + 1) es) (others_greater R e (drop (i + 1) es) rest))
 
   pub none_beyond : (es : List (K × V)) (i : ℕ) → list_all (λ e. is_through after (prefix e.0)) (take i es) ≡ true → list_all (λ e. not (is_through after (prefix e.0))) (drop i es) ≡ true → slice_get es i ≡ None → first_of prefix_cmp (filter (is_beyond after) (map (λ e. prefix e.0) es)) ≡ None
   none_beyond es i below above at =
-      ap (first_of prefix_cmp) (from_place es i below above ∙ ap (map (λ e. prefix e.0)) (nothing_left es i at))
+      ap (first_of prefix_cmp) (from_place es i below above ∙ ap (map (λ e. prefix e.0)) (drop_past es i at))
 
 -- ---- the prefixes of selections and of routes rise
 reversed : (r : Ordering) → is_lt (ordering_reverse r) ≡ is_gt r

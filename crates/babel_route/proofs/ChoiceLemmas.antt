@@ -19,6 +19,14 @@ pub ranked_candidate : (passes : Bool) (rank found : Rank) → cond passes (Some
 ranked_candidate true rank found is = (refl, sym (same_Some rank found is))
 ranked_candidate false rank found is = absurd (none-some found is)
 
+pub unranked : (passes : Bool) (rank : Rank) → cond passes (Some rank) None ≡ None → passes ≡ false
+unranked true rank is = cc
+unranked false rank is = refl
+
+-- any other route is left out
+pub left_out : (passes : Route → Bool) (route : Route) (rest : RouteEntries) → passes route ≡ false → filter passes (route ∷ rest) ≡ filter passes rest
+left_out passes route rest other = rw other refl
+
 module _ (cost : Peer → ℕ) (before : Option Peer) (passes : Route → Bool) where
   -- one candidate more
   pub found_more : (found : Option Candidate) (new result : Candidate) (rest : RouteEntries) → IfSome found (λ c. c.rank ≡ rank_of cost before c.route) → new.rank ≡ rank_of cost before new.route → passes new.route ≡ true → result ≡ option_map_or (λ old. if is_lt (rank_cmp new.rank old.rank) then new else old) found new → (first_from (preference cost before) (Some result.route) (filter passes rest) ≡ first_from (preference cost before) (option_map (λ c. c.route) found) (filter passes (new.route ∷ rest))) × (result.rank ≡ rank_of cost before result.route)

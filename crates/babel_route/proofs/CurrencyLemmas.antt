@@ -1,9 +1,8 @@
 -- Selections that pass the test are the same.
-use Rattle.std.proofs.Common.{◌≡◌, true, false, ◌&&◌, Option, Some, None, refl, ap}
+use Rattle.std.proofs.Common.{◌≡◌, true, Option, Some, None, refl}
 use Rattle.std.proofs.lemmas.Bool.{and_parts, eqb-true}
-use Rattle.babel_value.specs.declared.addresses.Addr.{Addr}
 use Rattle.babel_value.specs.declared.distances.Distance.{Distance}
-use Rattle.std.specs.Prelude.{List, ℕ, nat_eq}
+use Rattle.std.specs.Prelude.{nat_eq}
 use Rattle.std.specs.Ordering.{eq_by_cmp}
 use Rattle.babel_value.specs.Orders.{octets_cmp, addr_cmp, peer_cmp}
 use Rattle.babel_value.proofs.OrderLaws.{octets_exact, addr_exact, peer_exact}

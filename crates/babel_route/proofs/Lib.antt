@@ -8,3 +8,4 @@ pub mod ListLemmas
 pub mod NearLemmas
 pub mod DueLemmas
 pub mod CurrencyLemmas
+pub mod PrefixWalkLemmas

@@ -1,5 +1,5 @@
 -- In the route table the routes of a prefix are next to each other, before those of greater prefixes.
-use Rattle.std.proofs.Common.{◌≡◌, ℕ, zero, suc, ◌+◌, true, false, cond, not, List, [], ◌∷◌, ◌++◌, take, drop, slice_get, Some, refl, sym, ap, ◌∙◌, add-one}
+use Rattle.std.proofs.Common.{◌≡◌, ℕ, zero, suc, ◌+◌, Bool, true, false, cond, not, List, [], ◌∷◌, ◌++◌, take, drop, slice_get, Some, None, refl, sym, ap, subst, ◌∙◌, add-one}
 use Rattle.std.specs.List.{list_all, take_while}
 use Rattle.std.proofs.lemmas.Bool.{and_parts}
 use Rattle.std.proofs.lemmas.List.{take-append-drop}
@@ -17,6 +17,7 @@ use Rattle.babel_route.specs.RouteKeys.{route_cmp}
 use Rattle.babel_route.specs.Routes.{Route, RouteEntries}
 use Rattle.babel_route.specs.Selections.{is_of, routes_of}
 use Rattle.babel_route.specs.PrefixBounds.{is_before, route_not_after}
+use Rattle.babel_route.specs.PrefixWalks.{others_of}
 use Rattle.babel_table.specs.Places.{are_greater}
 use Rattle.babel_table.proofs.PlaceLemmas.{turned, turned_back, head_greater, tail_greater, others_greater, tail_sorted}
 
@@ -75,15 +76,71 @@ walk_end p es i e at other =
     ap (take_while (is_of p)) (drop_at es i e at) ∙ take_while-cons (is_of p) e (drop (i + 1) es) ∙ rw other refl
 
 -- from the first place of the prefix on it meets all of them
-sorted_drop : (es : RouteEntries) (i : ℕ) → is_sorted route_cmp es ≡ true → is_sorted route_cmp (drop i es) ≡ true
-sorted_drop [] zero sorted = sorted
-sorted_drop [] (suc i) sorted = sorted
-sorted_drop (e ∷ es) zero sorted = sorted
-sorted_drop (e ∷ es) (suc i) sorted = sorted_drop es i (tail_sorted route_cmp e es sorted)
+pub sorted_drop : {K V : Type 0} (R : K → K → Ordering) (es : List (K × V)) (i : ℕ) → is_sorted R es ≡ true → is_sorted R (drop i es) ≡ true
+sorted_drop R [] zero sorted = sorted
+sorted_drop R [] (suc i) sorted = sorted
+sorted_drop R (e ∷ es) zero sorted = sorted
+sorted_drop R (e ∷ es) (suc i) sorted = sorted_drop R es i (tail_sorted R e es sorted)
+
+pub drop_past : {A : Type 0} (xs : List A) (i : ℕ) → slice_get xs i ≡ None → drop i xs ≡ []
+drop_past [] zero at = refl
+drop_past [] (suc i) at = refl
+drop_past (x ∷ xs) zero at = absurd (none-some x (sym at))
+drop_past (x ∷ xs) (suc i) at = drop_past xs i at
+
+pub all_routes_from : (p : PrefixValue) (es : RouteEntries) (i : ℕ) → list_all (λ e. is_before p e.0.prefix) (take i es) ≡ true → routes_of p (drop i es) ≡ routes_of p es
+all_routes_from p es i before =
+    ap (λ fs. fs ++ routes_of p (drop i es)) (sym (none_before p (take i es) before))
+    ∙ sym (filter-append (is_of p) (take i es) (drop i es))
+    ∙ ap (routes_of p) (take-append-drop i es)
 
 pub walk_from_first : (p : PrefixValue) (es : RouteEntries) (i : ℕ) → is_sorted route_cmp es ≡ true → list_all (λ e. is_before p e.0.prefix) (take i es) ≡ true → list_all (λ e. not (is_before p e.0.prefix)) (drop i es) ≡ true → take_while (is_of p) (drop i es) ≡ routes_of p es
 walk_from_first p es i sorted before following =
-    run_of p (drop i es) (sorted_drop es i sorted) following
-    ∙ ap (λ fs. fs ++ routes_of p (drop i es)) (sym (none_before p (take i es) before))
-    ∙ sym (filter-append (is_of p) (take i es) (drop i es))
-    ∙ ap (routes_of p) (take-append-drop i es)
+    run_of p (drop i es) (sorted_drop route_cmp es i sorted) following ∙ all_routes_from p es i before
+
+-- ---- a walk over the run of a prefix, from an index on where all before are passed
+abbrev pub are_not_before : PrefixValue → RouteEntries → Bool
+are_not_before p = list_all (λ e. not (is_before p e.0.prefix))
+
+pub record IsRunStep (p : PrefixValue) (es : RouteEntries) (i : ℕ) (e : Route) : Type 0 where
+  pub from : are_not_before p (drop (i + 1) es) ≡ true
+  pub routes : routes_of p (drop i es) ≡ e ∷ routes_of p (drop (i + 1) es)
+  pub others : others_of p (drop i es) ≡ others_of p (drop (i + 1) es)
+
+pub run_step : (p : PrefixValue) (es : RouteEntries) (i : ℕ) (e : Route) → slice_get es i ≡ Some e → is_of p e ≡ true → are_not_before p (drop i es) ≡ true → IsRunStep p es i e
+run_step p es i e at here from =
+    let next = drop_at es i e at in
+    record {
+      from = (and_parts (not (is_before p e.0.prefix)) (are_not_before p (drop (i + 1) es)) (subst (λ fs. are_not_before p fs ≡ true) next from)).1;
+      routes = ap (routes_of p) next ∙ rw here refl;
+      others = ap (others_of p) next ∙ rw here refl;
+    }
+
+none_other : (p : PrefixValue) (es : RouteEntries) → routes_of p es ≡ [] → others_of p es ≡ es
+none_other p [] none = refl
+none_other p (e ∷ es) none = by (is_of p e) none (none_other p es)
+  where
+    by : (b : Bool) → cond b (e ∷ routes_of p es) (routes_of p es) ≡ [] → (routes_of p es ≡ [] → others_of p es ≡ es) → cond (not b) (e ∷ others_of p es) (others_of p es) ≡ e ∷ es
+    by true none rest = cc
+    by false none rest = ap (λ fs. e ∷ fs) (rest none)
+
+pub record IsRunEnd (p : PrefixValue) (es : RouteEntries) (i : ℕ) : Type 0 where
+  pub routes : routes_of p (drop i es) ≡ []
+  pub others : others_of p (drop i es) ≡ drop i es
+
+pub run_end : (p : PrefixValue) (es : RouteEntries) (i : ℕ) (e : Route) → is_sorted route_cmp es ≡ true → slice_get es i ≡ Some e → is_of p e ≡ false → are_not_before p (drop i es) ≡ true → IsRunEnd p es i
+run_end p es i e sorted at other from =
+    let next = drop_at es i e at in
+    let parts = and_parts (not (is_before p e.0.prefix)) (are_not_before p (drop (i + 1) es)) (subst (λ fs. are_not_before p fs ≡ true) next from) in
+    let rest = subst (λ fs. is_sorted route_cmp fs ≡ true) next (sorted_drop route_cmp es i sorted) in
+    let none : routes_of p (drop i es) ≡ [] =
+    ap (routes_of p) next ∙ rw other (none_after p e (drop (i + 1) es) (beyond (prefix_cmp e.0.prefix p) parts.0 other) (others_greater route_cmp e (drop (i + 1) es) rest)) in
+    record { routes = none; others = none_other p (drop i es) none }
+  where
+    beyond : (r : Ordering) → not (is_lt r) ≡ true → is_eq r ≡ false → r ≡ Greater
+    beyond Less h e = cc
+    beyond Equal h e = cc
+    beyond Greater h e = refl
+
+pub run_past : (p : PrefixValue) (es : RouteEntries) (i : ℕ) → drop i es ≡ [] → IsRunEnd p es i
+run_past p es i past = record { routes = ap (routes_of p) past; others = ap (others_of p) past ∙ sym past }

@@ -8,3 +8,4 @@ pub mod Currency
 pub mod PrefixBounds
 pub mod RouteLaws
 pub mod PrefixLists
+pub mod PrefixWalks

@@ -21,7 +21,7 @@ pub use babel_table::{
 pub use near::Cursor;
 pub use routes::{
     AllRoutes, AllSelections, Costs, Entry, PREFIX_PLACES, PrefixList, PrefixListOver,
-    PrefixRoutes, ROUTE_PLACES, RouteKey, RouteTable, Routes, RoutesOver, Selection,
+    PrefixRoutes, PrefixWalk, ROUTE_PLACES, RouteKey, RouteTable, Routes, RoutesOver, Selection,
     SelectionTable,
 };
 pub use sources::{COLLECTION_TIME, SOURCE_PLACES, SourceEntry, SourceTable, Sources, SourcesOver};

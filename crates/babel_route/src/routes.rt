@@ -14,6 +14,7 @@ mod bounds;
 mod choices;
 mod current;
 mod entries;
+mod prefix_walk;
 mod prefixes;
 mod revisions;
 mod room;
@@ -28,6 +29,7 @@ pub use choices::Costs;
 use choices::choose;
 use current::replace_near;
 pub use entries::{Entry, RouteKey, Selection};
+pub use prefix_walk::PrefixWalk;
 use prefixes::{add_routes, add_selections};
 pub use prefixes::{PREFIX_PLACES, PrefixList, PrefixListOver};
 use revisions::{Expiry, Flush, Retraction};
@@ -267,6 +269,13 @@ impl<E: Table<RouteKey, Entry>, S: Table<Prefix, Selection>> RoutesOver<E, S> {
         list.clear();
         add_routes(list, &self.entries);
         add_selections(list, &self.selections);
+    }
+
+    /// A walk over the prefixes that have an entry or a selection, in ascending order.
+    pub fn prefixes(&self) -> PrefixWalk<'_, E, S>
+        ensures { result ≡ self.now }
+    {
+        PrefixWalk::new(&self.entries, &self.selections)
     }
 
     /// The routes of the prefix, in the order of the neighbours.

@@ -1,14 +1,18 @@
 //! The choice among the candidates of a prefix (RFC 8966, section 3.6).
 
-ghost use Rattle.std.specs.Prelude.{◌≡◌, ℕ, true, Option, IsSome, Some, None, option_map, if◌then◌else◌};
-ghost use Rattle.std.specs.List.{filter};
+ghost use Rattle.std.specs.Prelude.{◌≡◌, ℕ, true, not, drop, Option, IsSome, Some, None, option_map, if◌then◌else◌};
+ghost use Rattle.std.specs.List.{filter, list_all};
 ghost use Rattle.std.specs.Option.{option_map_or};
 ghost use Rattle.std.specs.Ordering.{is_lt};
 ghost use Rattle.babel_value.specs.declared.keys.Peer.{Peer};
 ghost use Rattle.babel_table.specs.Firsts.{first_of};
+ghost use Rattle.babel_route.specs.PrefixBounds.{is_before};
+ghost use Rattle.babel_route.specs.PrefixWalks.{others_of};
 ghost use Rattle.babel_route.specs.Selections.{routes_of, has_entry, choice, peer_before, is_candidate, is_change, is_feasible_route, route_metric, rank_of, rank_cmp, preference, selection_of};
 
-use super::walks::PrefixRoutes;
+use super::bounds::Before;
+use super::walks::is_of;
+use crate::near::places_below_near;
 use crate::{Cursor, Entry, RouteKey, Selection, SourceEntry, SourcesOver};
 use babel_table::Table;
 use babel_value::{Metric, Peer, Prefix, Source};
@@ -57,11 +61,22 @@ pub(crate) fn choose<E: Table<RouteKey, Entry>, T: Table<Source, SourceEntry>, C
     if local {
         return None;
     }
-    let peer = peer_of(before);
-    first_candidate(entries, prefix, peer, sources, costs, cursor)
+    let place = places_below_near(entries, cursor.entry, &Before { prefix: *prefix });
+    let near = &mut cursor.source;
+    let (first, end) = first_from(
+        entries,
+        place,
+        prefix,
+        peer_of(before),
+        sources,
+        costs,
+        near,
+    );
+    cursor.entry = end.wrapping_sub(1);
+    first
 }
 
-fn peer_of(selection: &Option<Selection>) -> Option<Peer>
+pub(crate) fn peer_of(selection: &Option<Selection>) -> Option<Peer>
     ensures { result ≡ peer_before selection.now }
 {
     match selection {
@@ -70,24 +85,40 @@ fn peer_of(selection: &Option<Selection>) -> Option<Peer>
     }
 }
 
-/// The candidate of the prefix that no other comes before, if this neighbour was selected before.
-fn first_candidate<E: Table<RouteKey, Entry>, T: Table<Source, SourceEntry>, C: Costs>(
+/// The candidate of the prefix that no other comes before, if this neighbour was selected before, and the index
+/// after the routes of the prefix. The first one is at the index `start`, or would be.
+pub(crate) fn first_from<E: Table<RouteKey, Entry>, T: Table<Source, SourceEntry>, C: Costs>(
     entries: &E,
+    start: usize,
     prefix: &Prefix,
     before: Option<Peer>,
     sources: &SourcesOver<T>,
     costs: &C,
-    cursor: &mut Cursor,
-) -> Option<Selection>
-    ensures { result ≡ option_map selection_of (first_of (preference (C.cost_of costs.now) before) (filter (is_candidate sources.now (C.cost_of costs.now)) (routes_of prefix.now (E.entries entries.now)))) }
+    near: &mut usize,
+) -> (Option<Selection>, usize)
+    requires { list_all (λ e. not (is_before prefix.now e.0.prefix)) (drop start (E.entries entries.now)) ≡ true }
+    ensures first { result.0 ≡ option_map selection_of (first_of (preference (C.cost_of costs.now) before) (filter (is_candidate sources.now (C.cost_of costs.now)) (routes_of prefix.now (drop start (E.entries entries.now))))) }
+    ensures rest { drop result.1 (E.entries entries.now) ≡ others_of prefix.now (drop start (E.entries entries.now)) }
 {
+    let len = entries.len();
     let mut first: Option<Candidate> = None;
-    for route in PrefixRoutes::near(entries, *prefix, &mut cursor.entry) {
-        cursor.entry = cursor.entry.wrapping_add(1);
-        if let Some(rank) = candidate_rank(&route, before, sources, costs, &mut cursor.source) {
+    for place in start..len {
+        let Some(route) = entries.at(place) else {
+            return (selection_of(&first), place);
+        };
+        if !is_of(&route, prefix) {
+            return (selection_of(&first), place);
+        }
+        if let Some(rank) = candidate_rank(&route, before, sources, costs, near) {
             first = Some(first_of_two(first, Candidate { rank, route }));
         }
     }
+    (selection_of(&first), len)
+}
+
+fn selection_of(first: &Option<Candidate>) -> Option<Selection>
+    ensures { result ≡ option_map selection_of (option_map (λ c. c.route) first.now) }
+{
     match first {
         Some(first) => Some(Selection {
             peer: first.route.0.peer,

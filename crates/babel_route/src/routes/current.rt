@@ -4,12 +4,10 @@ ghost use Rattle.std.specs.Prelude.{◌≡◌, ◌<◌, length, IsSome, IsNone};
 ghost use Rattle.std.specs.FinMap.{find};
 ghost use Rattle.babel_value.specs.Orders.{prefix_cmp};
 ghost use Rattle.babel_table.specs.Entries.{with_value};
-ghost use Rattle.babel_route.specs.Selections.{has_entry};
 ghost use Rattle.babel_route.specs.Currency.{is_same_distance, is_same_entry, is_same_selection, is_current};
 
 use super::RoutesOver;
 use super::choices::{Costs, choose};
-use super::room::has_entry;
 use crate::near::{find_near, set_near};
 use crate::{Cursor, Entry, RouteKey, Selection, SourceEntry, SourcesOver};
 use babel_table::Table;
@@ -42,13 +40,6 @@ impl<E: Table<RouteKey, Entry>, S: Table<Prefix, Selection>> RoutesOver<E, S> {
         );
         is_same_selection(&before, &after)
     }
-
-    /// Whether the prefix has an entry. The search begins at the cursor, which goes to the prefix.
-    pub fn has_entry_near(&self, prefix: &Prefix, cursor: &mut Cursor) -> bool
-        ensures { result ≡ has_entry self.now.entries prefix.now }
-    {
-        has_entry(&self.entries, *prefix, &mut cursor.entry)
-    }
 }
 
 /// Stores the new selection of the prefix, unless it is the old one.
@@ -72,7 +63,7 @@ pub(crate) fn replace_near<S: Table<Prefix, Selection>>(
 
 /// Whether the selections are the same, or both are none.
 #[tactic(auto, unfolding(crate::specs::Currency::is_same_selection))]
-fn is_same_selection(old: &Option<Selection>, new: &Option<Selection>) -> bool
+pub(crate) fn is_same_selection(old: &Option<Selection>, new: &Option<Selection>) -> bool
     ensures { result ≡ is_same_selection old.now new.now }
 {
     match (old, new) {

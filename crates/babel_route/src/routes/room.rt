@@ -53,24 +53,16 @@ fn is_orphan<E: Table<RouteKey, Entry>, S: Table<Prefix, Selection>>(
     ensures { result ≡ option_map_or (λ s. not (has_entry (E.entries entries.now) s.0)) (slice_get (S.entries selections.now) place) false }
 {
     match selections.at(place) {
-        Some(selection) => {
-            let mut near = usize::MAX;
-            !has_entry(entries, selection.0, &mut near)
-        }
+        Some(selection) => !has_entry(entries, selection.0),
         None => false,
     }
 }
 
-/// Whether the prefix has an entry. The search begins near an index, which becomes the one in front of the first
-/// route of the prefix.
-pub(crate) fn has_entry<E: Table<RouteKey, Entry>>(
-    entries: &E,
-    prefix: Prefix,
-    near: &mut usize,
-) -> bool
+/// Whether the prefix has an entry.
+fn has_entry<E: Table<RouteKey, Entry>>(entries: &E, prefix: Prefix) -> bool
     ensures { result ≡ has_entry (E.entries entries.now) prefix }
 {
-    match PrefixRoutes::near(entries, prefix, near).next() {
+    match PrefixRoutes::new(entries, prefix).next() {
         Some(_) => true,
         None => false,
     }

@@ -5,9 +5,8 @@ ghost use Rattle.std.specs.List.{take_while};
 ghost use Rattle.babel_route.specs.Selections.{is_of, routes_of};
 
 use super::bounds::Before;
-use crate::near::places_below_near;
 use crate::{Entry, RouteKey, Selection};
-use babel_table::Table;
+use babel_table::{Table, places_below};
 use babel_value::Prefix;
 use std::marker::Model;
 
@@ -125,16 +124,7 @@ impl<'a, T: Table<RouteKey, Entry>> PrefixRoutes<'a, T> {
     pub(crate) fn new(table: &'a T, prefix: Prefix) -> PrefixRoutes<'a, T>
         ensures { result ≡ routes_of prefix (T.entries table.now) }
     {
-        let mut near = usize::MAX;
-        PrefixRoutes::near(table, prefix, &mut near)
-    }
-
-    /// The same. The search begins near an index, which becomes the one in front of the first route of the prefix.
-    pub(crate) fn near(table: &'a T, prefix: Prefix, near: &mut usize) -> PrefixRoutes<'a, T>
-        ensures { result ≡ routes_of prefix (T.entries table.now) }
-    {
-        let place = places_below_near(table, *near, &Before { prefix });
-        *near = place.wrapping_sub(1);
+        let place = places_below(table, &Before { prefix });
         PrefixRoutes {
             table,
             prefix,
@@ -166,7 +156,7 @@ impl<'a, T: Table<RouteKey, Entry>> Iterator for PrefixRoutes<'a, T> {
 }
 
 /// Whether the route is of the prefix.
-fn is_of(route: &(RouteKey, Entry), prefix: &Prefix) -> bool
+pub(crate) fn is_of(route: &(RouteKey, Entry), prefix: &Prefix) -> bool
     ensures { result ≡ is_of prefix.now route.now }
 {
     route.0.prefix.cmp(prefix).is_eq()

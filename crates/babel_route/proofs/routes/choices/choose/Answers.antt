@@ -1,11 +1,21 @@
--- What is chosen is an entry of the prefix.
-use Rattle.std.proofs.Common.{subst, refl, IsSome}
-use Rattle.babel_route.specs.Selections.{is_candidate, preference, routes_of}
+-- All routes of the prefix come from the index on, and what is chosen is one of them.
+use Rattle.std.proofs.Common.{◌≡◌, ◌∙◌, sym, ap, subst, refl, IsSome, filter, option_map}
+use Rattle.babel_table.specs.Firsts.{first_of}
+use Rattle.babel_route.specs.Selections.{choice, is_candidate, preference, routes_of, selection_of}
 use Rattle.babel_route.proofs.ChoiceLemmas.{chosen_is_known}
+use Rattle.babel_route.proofs.RunLemmas.{all_routes_from}
 use Rattle.babel_route.proofs.routes.choices.choose.Goals as goal
 
-pub returns-clause-known : goal.returns-clause-known
-returns-clause-known g c =
+pub returns : goal.returns
+returns g c =
     let cost = g.C.Costs.cost_of c.args.costs.now in
     let es = g.E.Table.entries c.args.entries.now in
-    λ some. chosen_is_known (preference cost c.peer_of-peer.result) (is_candidate c.args.sources.now cost) c.args.prefix.now es (routes_of c.args.prefix.now es) refl (subst IsSome c.first_candidate.ensures some)
+    let p = c.args.prefix.now in
+    let passes = is_candidate c.args.sources.now cost in
+    let order = preference cost c.peer_of.result in
+    let chosen : c.first_from-first.result.0 ≡ option_map selection_of (first_of order (filter passes (routes_of p es))) =
+    c.first_from-first.ensures.first ∙ ap (λ routes. option_map selection_of (first_of order (filter passes routes))) (all_routes_from p es c.places_below_near-place.result c.places_below_near-place.ensures.below) in
+    record {
+      choice = chosen ∙ ap (λ before. option_map selection_of (first_of (preference cost before) (filter passes (routes_of p es)))) c.peer_of.ensures ∙ ap (λ local. choice c.args.sources.now cost p local c.args.before.now es) (sym c.if-local.false);
+      known = λ some. chosen_is_known order passes p es (routes_of p es) refl (subst IsSome chosen some);
+    }

@@ -1,0 +1,19 @@
+-- The first of what was seen and what is to come is that of all, and it has its rank.
+use Rattle.std.proofs.Common.{◌≡◌, true, filter, IfSome, option_map, drop}
+use Rattle.babel_table.specs.Firsts.{first_from, first_of}
+use Rattle.babel_route.specs.PrefixWalks.{others_of}
+use Rattle.babel_route.specs.Selections.{routes_of, is_candidate, rank_of, preference}
+use Rattle.babel_route.proofs.RunLemmas.{are_not_before}
+use Rattle.babel_route.proofs.routes.choices.first_from.Given as goal
+
+abbrev pub invariant-loop-place : goal.invariant-loop-place
+invariant-loop-place g l =
+    let cost = g.C.Costs.cost_of l.costs in
+    let passes = is_candidate l.sources cost in
+    let es = g.E.Table.entries l.entries in
+    record {
+      from : are_not_before l.prefix (drop l.place es) ≡ true;
+      first : first_from (preference cost l.before) (option_map (λ found. found.route) l.first) (filter passes (routes_of l.prefix (drop l.place es))) ≡ first_of (preference cost l.before) (filter passes (routes_of l.prefix (drop l.start es)));
+      ranked : IfSome l.first (λ found. found.rank ≡ rank_of cost l.before found.route);
+      rest : others_of l.prefix (drop l.place es) ≡ others_of l.prefix (drop l.start es);
+    }
