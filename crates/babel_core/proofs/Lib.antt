@@ -4,5 +4,6 @@ pub mod FirstStates
 pub mod QuietTicks
 pub mod Settling
 pub mod LinkChanges
+pub mod StaleReselections
 pub mod SettledSends
 pub mod Restoring

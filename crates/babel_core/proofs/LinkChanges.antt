@@ -1,40 +1,32 @@
 -- If the cost of one link changed, reselecting the prefixes to which its neighbour has a route is reselecting all.
-use Rattle.std.specs.Prelude.{◌≡◌, ℕ, Bool, true, false, cond, ◌&&◌, ◌||◌, List, [], ◌∷◌, ◌++◌, map, filter, IfSome, T, ⊤, nat_eq, nat_lt, Option, Some, None, if◌then◌else◌}
+use Rattle.std.specs.Prelude.{◌≡◌, ℕ, Bool, true, false, cond, ◌&&◌, [], ◌∷◌, map, filter, IfSome, ⊤, nat_eq, nat_lt, Option, Some, None, if◌then◌else◌}
 use Rattle.std.specs.Option.{option_map, option_map_or}
 use Rattle.std.specs.Ordering.{eq_by_cmp, is_lt}
-use Rattle.std.specs.FinMap.{find, put, is_sorted}
-use Rattle.std.specs.FinMap.Entries.{find-put, find-where_key, is_sorted-put, is_sorted-where_key, same_entries}
+use Rattle.std.specs.FinMap.{find, put}
 use Rattle.std.proofs.Common.{refl, sym, ◌∙◌, ap, subst}
 use Rattle.std.proofs.lemmas.Bool.{or_parts, false≢true, eqb-true}
 use Rattle.babel_value.specs.declared.keys.Peer.{Peer}
 use Rattle.babel_value.specs.Metrics.{metric_sum}
 use Rattle.babel_value.specs.Orders.{prefix_cmp, peer_cmp}
 use Rattle.babel_value.specs.Prefixes.{PrefixValue}
-use Rattle.babel_value.proofs.OrderLaws.{prefix_total, prefix_exact}
+use Rattle.babel_value.proofs.OrderLaws.{prefix_total}
 use Rattle.babel_link.specs.declared.links.Link.{Link}
 use Rattle.babel_link.specs.declared.marks.Heard.{Heard}
 use Rattle.babel_link.specs.declared.marks.Heard.TheVariants.{Kept, Flush}
 use Rattle.babel_link.specs.Links.{hello_link, ihu_link}
 use Rattle.babel_link.specs.Neighbours.{Links, link_of, hello_of, hello_verdict, ihu_of}
-use Rattle.babel_table.specs.Entries.{with_value}
 use Rattle.babel_table.specs.Firsts.{first_from, first_of}
 use Rattle.babel_table.proofs.LookupLemmas.{eq_turned}
-use Rattle.babel_table.proofs.PlaceLemmas.{sorted_put, sorted_without}
 use Rattle.babel_route.specs.declared.routes.entries.Selection.{Selection}
-use Rattle.babel_route.specs.RouteKeys.{route_cmp}
 use Rattle.babel_route.specs.Routes.{Route, RouteEntries, is_from}
 use Rattle.babel_route.specs.Sources.{Sources}
-use Rattle.babel_route.specs.Selections.{RoutesValue, Selections, IsCurrent, is_of, routes_of, is_candidate, is_feasible_route, preference, rank_cmp, is_change, selection_of, peer_before, choice, choice_at, prefixes_of}
-use Rattle.babel_route.proofs.CurrentLemmas.{settled, still_current}
+use Rattle.babel_route.specs.Selections.{is_of, routes_of, is_candidate, is_feasible_route, preference, rank_cmp, is_change, selection_of, peer_before, choice}
 use Rattle.babel_state.specs.Sameness.{has_prefix}
-use Rattle.babel_state.specs.State.{State, PrefixSet, announces, cost_at, nominal_cost, selected_at, gathered, ascending, prefixes_in, routed_prefixes}
+use Rattle.babel_state.specs.State.{State, announces, cost_at, nominal_cost, selected_at}
 use Rattle.babel_state.specs.Hellos.{hears, forgets_flushed}
-use Rattle.babel_state.specs.Reselection.{select, follow_up, reselect, reselect_each, reselect_all}
-use Rattle.babel_state.specs.StepLaws.{kept_of}
-use Rattle.babel_state.specs.CurrentSelections.{IsCurrentAt, AreCurrent, AreRoutesInOrder}
-use Rattle.babel_state.specs.SettledLaws.{AreSelectionsInOrder, with_ihu}
-use Rattle.babel_state.proofs.Reselecting.{reselects_kept}
-use Rattle.babel_state.proofs.SettledLemmas.{nothing_follows, other_cost}
+use Rattle.babel_state.specs.CurrentSelections.{AreCurrent}
+use Rattle.babel_state.specs.SettledLaws.{with_ihu}
+use Rattle.babel_state.proofs.SettledLemmas.{other_cost}
 use Rattle.babel_parts.specs.declared.link_costs.LinkChange.{LinkChange}
 use Rattle.babel_parts.specs.declared.link_costs.LinkChange.TheVariants.{Nothing, Cost}
 use Rattle.babel_parts.specs.LinkChanges.{prefixes_from, AreOthersCurrent}
@@ -143,104 +135,3 @@ ihu_others now peer rxcost interval s t is current = subst (AreOthersCurrent pee
     by : (o : Option Link) → AreOthersCurrent peer (with_links (option_map_or (λ link. put peer_cmp peer (ihu_link now rxcost interval link) s.neighbours) o s.neighbours) s)
     by None = unchanged_others peer s current
     by (Some link) = put_others peer (ihu_link now rxcost interval link) s current
-
--- ---- a prefix whose selection is current may be left out
-
-reselect_current : (now : ℕ) (p : PrefixValue) (s : State) → AreSelectionsInOrder s → IsCurrentAt p s → reselect now None p s ≡ s
-unfolding reselect
-reselect_current now p s sorted current =
-    let same : select p s ≡ s = ap (λ (r : RoutesValue). record s { routes = r }) (settled s.sources (cost_at s) (λ q. announces q s) p s.routes sorted current) in
-    ap (λ t. follow_up now None p (selected_at p s) (selected_at p t) t) same ∙ nothing_follows now p s (selected_at p s)
-
-keeps_current : (now : ℕ) (p q : PrefixValue) (s : State) → AreRoutesInOrder s → IsCurrentAt p s → IsCurrentAt p (reselect now None q s)
-unfolding kept_of
-keeps_current now p q s sorted current =
-    subst (λ (k : State). IsCurrent k.sources (cost_at k) p (announces p k) k.routes) (sym (reselects_kept now None q s))
-    (still_current s.sources (cost_at s) (λ x. announces x s) p q s.routes sorted current)
-
-keeps_routes : (now : ℕ) (q : PrefixValue) (s : State) → AreRoutesInOrder s → AreRoutesInOrder (reselect now None q s)
-unfolding kept_of
-keeps_routes now q s sorted = subst (λ (k : State). AreRoutesInOrder k) (sym (reselects_kept now None q s)) sorted
-
-sorted_with : (q : PrefixValue) (value : Option Selection) (ss : Selections) → is_sorted prefix_cmp ss ≡ true → is_sorted prefix_cmp (with_value prefix_cmp q value ss) ≡ true
-sorted_with q None ss sorted = sorted_without prefix_cmp q ss sorted
-sorted_with q (Some v) ss sorted = sorted_put prefix_cmp prefix_total q v ss sorted
-
-keeps_selections : (now : ℕ) (q : PrefixValue) (s : State) → AreSelectionsInOrder s → AreSelectionsInOrder (reselect now None q s)
-unfolding kept_of
-keeps_selections now q s sorted =
-    subst (λ (k : State). AreSelectionsInOrder k) (sym (reselects_kept now None q s))
-    (sorted_with q (choice_at s.sources (cost_at s) q (announces q s) s.routes) s.routes.selections sorted)
-
-left_out : (now : ℕ) (kept : PrefixValue → Bool) (ps : List PrefixValue) (s : State) → AreRoutesInOrder s → AreSelectionsInOrder s → ((p : PrefixValue) → kept p ≡ false → IsCurrentAt p s) → reselect_each now (filter kept ps) s ≡ reselect_each now ps s
-left_out now kept [] s routes selections others = refl
-left_out now kept (p ∷ ps) s routes selections others =
-    by (kept p) refl
-    (left_out now kept ps (reselect now None p s) (keeps_routes now p s routes) (keeps_selections now p s selections) (λ q other. keeps_current now q p s routes (others q other)))
-    (left_out now kept ps s routes selections others)
-  where
-    by : (b : Bool) → kept p ≡ b → reselect_each now (filter kept ps) (reselect now None p s) ≡ reselect_each now ps (reselect now None p s) → reselect_each now (filter kept ps) s ≡ reselect_each now ps s → reselect_each now (cond b (p ∷ filter kept ps) (filter kept ps)) s ≡ reselect_each now ps (reselect now None p s)
-    by true is selected rest = selected
-    by false is selected rest = rest ∙ ap (reselect_each now ps) (sym (reselect_current now p s selections (others p is)))
-
--- ---- the prefixes of the neighbour among all
-
-sorted_gathered : (ps : List PrefixValue) (es : PrefixSet) → T (is_sorted prefix_cmp es) → T (is_sorted prefix_cmp (gathered ps es))
-sorted_gathered [] es sorted = sorted
-sorted_gathered (p ∷ ps) es sorted = sorted_gathered ps (put prefix_cmp p tt es) (is_sorted-put prefix_cmp prefix_total p tt es sorted)
-
-find_gathered : (q : PrefixValue) (ps : List PrefixValue) (es : PrefixSet) → find prefix_cmp q (gathered ps es) ≡ cond (has_prefix q ps) (Some tt) (find prefix_cmp q es)
-find_gathered q [] es = refl
-find_gathered q (p ∷ ps) es =
-    find_gathered q ps (put prefix_cmp p tt es)
-    ∙ ap (λ o. cond (has_prefix q ps) (Some tt) o) (find-put prefix_cmp prefix_total q p tt es)
-    ∙ by (eq_by_cmp prefix_cmp q p) (has_prefix q ps)
-  where
-    by : (here later : Bool) → cond later (Some tt) (cond here (Some tt) (find prefix_cmp q es)) ≡ cond (here || later) (Some tt) (find prefix_cmp q es)
-    by true true = refl
-    by true false = refl
-    by false true = refl
-    by false false = refl
-
-among_all : (q : PrefixValue) (peer : Peer) (es : RouteEntries) (ps : List PrefixValue) → has_prefix q (prefixes_from peer es) ≡ true → has_prefix q (map (λ e. e.0.prefix) es ++ ps) ≡ true
-among_all q peer [] ps has = absurd (false≢true has)
-among_all q peer (e ∷ es) ps has = by (is_from peer e.0) (eq_by_cmp prefix_cmp q e.0.prefix) refl has (among_all q peer es ps)
-  where
-    rest : RouteEntries
-    rest = filter (λ f. is_from peer f.0) es
-
-    by : (from here : Bool) → eq_by_cmp prefix_cmp q e.0.prefix ≡ here → has_prefix q (map (λ f. f.0.prefix) (cond from (e ∷ rest) rest)) ≡ true → (has_prefix q (prefixes_from peer es) ≡ true → has_prefix q (map (λ f. f.0.prefix) es ++ ps) ≡ true) → (here || has_prefix q (map (λ f. f.0.prefix) es ++ ps)) ≡ true
-    by from true is has later = refl
-    by false false is has later = later has
-    by true false is has later = later (sym (ap (λ b. b || has_prefix q (prefixes_from peer es)) is) ∙ has)
-
-keys_filtered : (kept : PrefixValue → Bool) (es : PrefixSet) → filter kept (prefixes_in es) ≡ prefixes_in (filter (λ e. kept e.0) es)
-keys_filtered kept [] = refl
-keys_filtered kept (e ∷ es) = by (kept e.0) (keys_filtered kept es)
-  where
-    by : (b : Bool) → filter kept (prefixes_in es) ≡ prefixes_in (filter (λ e. kept e.0) es) → cond b (e.0 ∷ filter kept (prefixes_in es)) (filter kept (prefixes_in es)) ≡ prefixes_in (cond b (e ∷ filter (λ e. kept e.0) es) (filter (λ e. kept e.0) es))
-    by true rest = ap (λ ps. e.0 ∷ ps) rest
-    by false rest = rest
-
--- the prefixes of a list that are among others, in order, are those others
-gathered_among : (ps qs : List PrefixValue) → ((q : PrefixValue) → has_prefix q qs ≡ true → has_prefix q ps ≡ true) → filter (λ e. has_prefix e.0 qs) (gathered ps []) ≡ gathered qs []
-gathered_among ps qs within =
-    same_entries prefix_cmp prefix_total prefix_exact (filter (λ e. has_prefix e.0 qs) (gathered ps [])) (gathered qs [])
-    (is_sorted-where_key prefix_cmp (λ p. has_prefix p qs) (gathered ps []) (sorted_gathered ps [] tt)) (sorted_gathered qs [] tt)
-    (λ q. find-where_key prefix_cmp (λ p. has_prefix p qs) q (λ x e. ap (λ p. has_prefix p qs) (sym (prefix_exact q x e))) (gathered ps [])
-    ∙ by q (has_prefix q qs) refl ∙ sym (find_gathered q qs []))
-  where
-    by : (q : PrefixValue) (b : Bool) → has_prefix q qs ≡ b → cond b (find prefix_cmp q (gathered ps [])) None ≡ cond b (Some tt) None
-    by q true is = find_gathered q ps [] ∙ ap (λ b. cond b (Some tt) None) (within q is)
-    by q false is = refl
-
-pub link_reselected : (now : ℕ) (peer : Peer) (s t : State) → is_sorted route_cmp s.routes.entries ≡ true → is_sorted prefix_cmp s.routes.selections ≡ true → AreOthersCurrent peer s → t ≡ reselect_each now (prefixes_in (gathered (prefixes_from peer s.routes.entries) [])) s → t ≡ reselect_all now s
-unfolding reselect_all routed_prefixes
-link_reselected now peer s t routes selections others is =
-    let from = prefixes_from peer s.routes.entries in
-    let all = prefixes_of s.routes in
-    let kept : PrefixValue → Bool = λ p. has_prefix p from in
-    is
-    ∙ ap (λ ps. reselect_each now ps s)
-    (sym (keys_filtered kept (gathered all []) ∙ ap prefixes_in (gathered_among all from (λ q has. among_all q peer s.routes.entries (map (λ e. e.0) s.routes.selections) has))))
-    ∙ left_out now kept (ascending all) s routes selections others

@@ -241,12 +241,15 @@ impl Core {
         }
     }
 
-    /// Selects the route of each prefix again that has a route or a selection.
-    #[tactic(auto, unfolding(babel_state::specs::Reselection::reselect_all, babel_state::specs::State::routed_prefixes))]
+    /// Selects the route of each prefix again that has a route or a selection. One walk over the tables finds those
+    /// whose selection isn't current, since a reselection changes nothing of the others.
     pub(crate) fn reselect_all(&mut self, now: u64, scratch: &mut Scratch)
         ensures { self.new ≡ reselect_all now self.old }
     {
-        scratch.gather_routed(&self.routes);
+        // The tables are in order.
+        let _count = self.routes.len();
+        let links = LinkCosts::new(&self.interfaces, &self.neighbours);
+        scratch.gather_stale(&self.routes, &self.announced, &self.sources, &links);
         self.reselect_each(now, scratch);
     }
 
@@ -283,8 +286,9 @@ impl Core {
             self.reselect_unless(settled, now, scratch);
         }
     }
-    /// Selects the route of each prefix again to which the neighbour has a route. If all other selections are
-    /// current, that leaves what a reselection of all leaves.
+
+    /// Selects the route of each prefix again to which the neighbour has a route and whose selection isn't current. If
+    /// all other selections are current, that leaves what a reselection of all leaves.
     fn reselect_from(&mut self, now: u64, peer: &Peer, scratch: &mut Scratch)
         requires others { AreOthersCurrent peer.now self.old }
         ensures state { self.new ≡ reselect_all now self.old }
@@ -292,7 +296,8 @@ impl Core {
     {
         // The tables are in order.
         let _count = self.routes.len();
-        scratch.gather_from(&self.routes, peer);
+        let links = LinkCosts::new(&self.interfaces, &self.neighbours);
+        scratch.gather_stale_from(&self.routes, peer, &self.announced, &self.sources, &links);
         self.reselect_each(now, scratch);
     }
 

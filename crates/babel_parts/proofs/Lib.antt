@@ -7,3 +7,4 @@ pub mod TickLists
 pub mod FirstStates
 pub mod RequestDues
 pub mod Restoring
+pub mod Staleness

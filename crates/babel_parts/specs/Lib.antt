@@ -3,4 +3,5 @@ pub mod Limits
 pub mod LinkChanges
 pub mod Reaching
 pub mod ShortHellos
+pub mod StalePrefixes
 pub mod TickItems

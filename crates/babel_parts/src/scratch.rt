@@ -1,14 +1,17 @@
 //! Room for a list of prefixes in ascending order, which some calls need while they run.
 
-ghost use Rattle.std.specs.Prelude.{◌≡◌, ◌≤◌, ◌<◌, ◌+◌, ◌++◌, [], length, map, IfOk};
-ghost use Rattle.std.specs.FinMap.{put};
+ghost use Rattle.std.specs.Prelude.{◌≡◌, ◌&&◌, ◌≤◌, ◌<◌, ◌+◌, ◌++◌, [], length, filter, map, IfOk, IsTrue};
+ghost use Rattle.std.specs.FinMap.{put, is_sorted};
 ghost use Rattle.babel_value.specs.Orders.{prefix_cmp};
-ghost use Rattle.babel_route.specs.Selections.{prefixes_of};
+ghost use Rattle.babel_value.specs.Prefixes.{PrefixValue};
+ghost use Rattle.babel_route.specs.Routes.{is_from};
+ghost use Rattle.babel_state.specs.Sameness.{has_prefix};
 ghost use Rattle.babel_state.specs.State.{gathered, prefixes_in};
 ghost use Rattle.babel_parts.specs.LinkChanges.{prefixes_from};
+ghost use Rattle.babel_parts.specs.StalePrefixes.{is_stale};
 
 use crate::{Announced, Prefixes};
-use babel_route::{Memory, Routes, SortedTable, Table};
+use babel_route::{Costs, Cursor, Memory, RouteKey, Routes, SortedTable, Sources, Table};
 use babel_value::{Peer, Prefix};
 use std::alloc::Global;
 use std::marker::Model;
@@ -78,17 +81,6 @@ impl Scratch {
         self.put(prefix);
     }
 
-    /// Adds the prefix of each route.
-    fn insert_routes(&mut self, routes: &Routes)
-        requires room { length self.old + length routes.now.entries ≤ 512 }
-        ensures prefixes { self.new ≡ gathered (map (λ e. e.0.prefix) routes.now.entries) self.old }
-        ensures few { length self.new ≤ length self.old + length routes.now.entries }
-    {
-        for route in routes.routes() {
-            self.insert(route.0.prefix);
-        }
-    }
-
     /// Adds the prefix of each selection.
     fn insert_selections(&mut self, routes: &Routes)
         requires room { length self.old + length routes.now.selections ≤ 512 }
@@ -99,13 +91,29 @@ impl Scratch {
         }
     }
 
-    /// Adds the prefix of each route of the neighbour.
-    fn insert_from(&mut self, routes: &Routes, peer: &Peer)
+    /// Adds the prefix of each route of the neighbour, unless its selection is current.
+    fn insert_stale_from<C: Costs>(
+        &mut self,
+        routes: &Routes,
+        peer: &Peer,
+        announced: &Announced,
+        sources: &Sources,
+        costs: &C,
+    )
         requires room { length self.old + length routes.now.entries ≤ 512 }
-        ensures { self.new ≡ gathered (prefixes_from peer.now routes.now.entries) self.old }
+        ensures { self.new ≡ gathered (filter (is_stale sources.now (C.cost_of costs.now) announced.now routes.now) (prefixes_from peer.now routes.now.entries)) self.old }
     {
+        let mut cursor = Cursor::new();
         for route in routes.routes() {
-            if route.0.peer.cmp(peer).is_eq() {
+            if is_stale_from(
+                &route.0,
+                peer,
+                routes,
+                announced,
+                sources,
+                costs,
+                &mut cursor,
+            ) {
                 self.insert(route.0.prefix);
             }
         }
@@ -122,25 +130,61 @@ impl Scratch {
         }
     }
 
-    /// Makes the set that of the prefixes with a route or a selection.
-    #[tactic(auto, using(crate::proofs::Gathering::gathered_both))]
-    pub fn gather_routed(&mut self, routes: &Routes)
-        ensures { self.new ≡ gathered (prefixes_of routes.now) [] }
+    /// Adds the prefixes whose selection isn't current.
+    fn insert_stale<C: Costs>(
+        &mut self,
+        routes: &Routes,
+        announced: &Announced,
+        sources: &Sources,
+        costs: &C,
+    )
+        requires empty { self.old ≡ [] }
+        requires room { length routes.now.entries + length routes.now.selections ≤ 512 }
+        ensures { (prefix : PrefixValue) → has_prefix prefix (prefixes_in self.new) ≡ is_stale sources.now (C.cost_of costs.now) announced.now routes.now prefix }
+    {
+        let mut walk = routes.prefixes();
+        while let Some(prefix) = walk.prefix() {
+            let local = announced.contains(&prefix);
+            if !walk.pass(&prefix, local, sources, costs) {
+                self.insert(prefix);
+            }
+        }
+    }
+
+    /// Makes the set that of the prefixes whose selection isn't current. It is one merge of the entries and the
+    /// selections.
+    pub fn gather_stale<C: Costs>(
+        &mut self,
+        routes: &Routes,
+        announced: &Announced,
+        sources: &Sources,
+        costs: &C,
+    )
+        ensures in_order { IsTrue (is_sorted prefix_cmp self.new) }
+        ensures stale { (prefix : PrefixValue) → has_prefix prefix (prefixes_in self.new) ≡ is_stale sources.now (C.cost_of costs.now) announced.now routes.now prefix }
     {
         let _routes = routes.len();
         let _selections = routes.selections();
         self.clear();
-        self.insert_routes(routes);
-        self.insert_selections(routes);
+        self.insert_stale(routes, announced, sources, costs);
+        // The table is in order.
+        let _count = self.table.len();
     }
 
-    /// Makes the set that of the prefixes to which the neighbour has a route.
-    pub fn gather_from(&mut self, routes: &Routes, peer: &Peer)
-        ensures { self.new ≡ gathered (prefixes_from peer.now routes.now.entries) [] }
+    /// Makes the set that of the prefixes to which the neighbour has a route and whose selection isn't current.
+    pub fn gather_stale_from<C: Costs>(
+        &mut self,
+        routes: &Routes,
+        peer: &Peer,
+        announced: &Announced,
+        sources: &Sources,
+        costs: &C,
+    )
+        ensures { self.new ≡ gathered (filter (is_stale sources.now (C.cost_of costs.now) announced.now routes.now) (prefixes_from peer.now routes.now.entries)) [] }
     {
         let _routes = routes.len();
         self.clear();
-        self.insert_from(routes, peer);
+        self.insert_stale_from(routes, peer, announced, sources, costs);
     }
 
     /// Makes the set that of the prefixes that are announced or selected.
@@ -154,4 +198,24 @@ impl Scratch {
         self.insert_announced(announced);
         self.insert_selections(routes);
     }
+}
+
+/// Whether the route is of the neighbour and the selection of its prefix isn't current. The searches begin at the
+/// cursor, which goes to the prefix.
+fn is_stale_from<C: Costs>(
+    route: &RouteKey,
+    peer: &Peer,
+    routes: &Routes,
+    announced: &Announced,
+    sources: &Sources,
+    costs: &C,
+    cursor: &mut Cursor,
+) -> bool
+    ensures { result ≡ (is_from peer.now route.now && is_stale sources.now (C.cost_of costs.now) announced.now routes.now route.now.prefix) }
+{
+    if !route.peer.cmp(peer).is_eq() {
+        return false;
+    }
+    let local = announced.contains(&route.prefix);
+    !routes.is_current_near(&route.prefix, local, sources, costs, cursor)
 }

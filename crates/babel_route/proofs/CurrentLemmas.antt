@@ -195,7 +195,7 @@ module _ (sources : Sources) (cost : Peer → ℕ) (is_local : PrefixValue → B
       by true none rest = absurd (false≢true (sym none))
       by false none rest = rest none
 
-  idle_current : (p : PrefixValue) (routes : RoutesValue) → is_among p (prefixes_of routes) ≡ false → IsCurrent sources cost p (is_local p) routes
+  pub idle_current : (p : PrefixValue) (routes : RoutesValue) → is_among p (prefixes_of routes) ≡ false → IsCurrent sources cost p (is_local p) routes
   idle_current p routes none =
       let parts = neither p (map (λ e. e.0.prefix) routes.entries) (map (λ s. s.0) routes.selections) none in
       let unselected = nothing_selected p routes.selections parts.1 in

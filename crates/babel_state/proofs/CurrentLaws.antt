@@ -34,7 +34,7 @@ use Rattle.babel_state.proofs.Keeping.{collects_before_sources, sources_ticked_i
 
 -- ---- the prefixes of a list, in order, are its prefixes
 
-has_put : (p q : PrefixValue) (es : PrefixSet) →
+pub has_put : (p q : PrefixValue) (es : PrefixSet) →
     has_prefix p (map (λ e. e.0) (put prefix_cmp q tt es)) ≡ (eq_by_cmp prefix_cmp p q || has_prefix p (map (λ e. e.0) es))
 has_put p q es =
     sym (is_some-find prefix_cmp p (put prefix_cmp q tt es))

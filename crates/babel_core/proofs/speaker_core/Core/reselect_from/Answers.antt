@@ -1,23 +1,28 @@
--- The selections of all other prefixes are current, so those of the neighbour are all that there is to select.
-use Rattle.std.proofs.Common.{[], ap, subst, ◌∙◌}
-use Rattle.babel_state.specs.Reselection.{reselect_each}
-use Rattle.babel_state.specs.State.{State, gathered, prefixes_in}
+-- The selections of all other prefixes are current, so there is none to select but those of the neighbour that aren't.
+use Rattle.std.proofs.Common.{[], ap, subst, filter, ◌∙◌}
+use Rattle.babel_parts.specs.Costs.{link_cost}
+use Rattle.babel_parts.specs.LinkChanges.{prefixes_from}
+use Rattle.babel_parts.specs.StalePrefixes.{is_stale}
+use Rattle.babel_state.specs.State.{State, cost_at, gathered}
 use Rattle.babel_state.specs.CurrentSelections.{AreRoutesInOrder}
 use Rattle.babel_state.specs.SettledLaws.{AreSelectionsInOrder}
-use Rattle.babel_parts.specs.LinkChanges.{prefixes_from}
-use Rattle.babel_core.proofs.LinkChanges.{link_reselected}
+use Rattle.babel_core.proofs.StaleReselections.{stale_from_reselected}
 use Rattle.babel_core.proofs.Settling.{current_all}
 use Rattle.babel_core.proofs.speaker_core.Core.reselect_from.Goals as goal
 
 pub returns-clause-state : goal.returns-clause-state
 returns-clause-state c =
-    let old = c.args.self.now in
-    link_reselected c.args.now c.args.peer.now old c.reselect_each.new.self
+    let inside = c.self.inside in
+    let links = c.new-links.ensures in
+    let peer = c.args.peer.now in
+    stale_from_reselected c.args.now peer c.args.self.now c.reselect_each.new.self c.gather_stale_from.new.self
     (subst (λ (s : State). AreRoutesInOrder s) c.self.view_is c.len-count.ensures.in_order)
     (subst (λ (s : State). AreSelectionsInOrder s) c.self.view_is c.len-count.ensures.selections_in_order)
     c.requires.others
-    (c.reselect_each.ensures
-    ∙ ap (λ set. reselect_each c.args.now (prefixes_in set) old) (c.gather_from.ensures ∙ ap (λ (s : State). gathered (prefixes_from c.args.peer.now s.routes.entries) []) c.self.view_is))
+    (c.gather_stale_from.ensures
+    ∙ (λ i. gathered (filter (is_stale inside.sources (link_cost (links.interfaces i) (links.neighbours i)) inside.announced inside.routes) (prefixes_from peer inside.routes.entries)) [])
+    ∙ ap (λ (s : State). gathered (filter (is_stale s.sources (cost_at s) s.announced s.routes) (prefixes_from peer s.routes.entries)) []) c.self.view_is)
+    c.reselect_each.ensures
 
 pub returns-clause-current : goal.returns-clause-current
 returns-clause-current c =
