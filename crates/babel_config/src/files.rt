@@ -5,7 +5,7 @@ ghost use Rattle.toml.specs.View.{view};
 ghost use Rattle.babel_config.specs.Configs.{IsConfig, HasConfigFault};
 ghost use Rattle.babel_config.specs.Scenarios.{IsScenario, HasScenarioFault};
 ghost use Rattle.babel_config.specs.Faults.{IsCaused};
-ghost use Rattle.babel_config.specs.Files.{IsFileOf, HasNoTable, HasFileFault};
+ghost use Rattle.babel_config.specs.Files.{max_file_len, IsFileOf, HasNoTable, HasFileFault};
 
 use crate::FileFault;
 use crate::scenarios::{Scenario, scenario_from_toml};
@@ -23,7 +23,7 @@ pub fn read_config(alloc: Global, octets: &[u8]) -> Result<Config, FileFault>
     ensures ok { IfOk result (λ config. IsFileOf (λ d. IsConfig d config) octets.now) }
     ensures refused { IfErr result (IsCaused (HasFileFault HasConfigFault octets.now)) }
     ensures only { IfErr result (IsCaused (λ _. (config : Config) → ¬ (IsFileOf (λ d. IsConfig d config) octets.now))) }
-    ensures too_long { 1048576 < length octets.now → result ≡ Err FileFault.Unreadable }
+    ensures too_long { max_file_len < length octets.now → result ≡ Err FileFault.Unreadable }
 {
     let file = read_toml(alloc, octets)?;
     Config::from_toml(alloc, &file)
@@ -34,7 +34,7 @@ pub fn read_scenario(alloc: Global, octets: &[u8]) -> Result<Scenario, FileFault
     ensures ok { IfOk result (λ scenario. IsFileOf (λ d. IsScenario d scenario) octets.now) }
     ensures refused { IfErr result (IsCaused (HasFileFault HasScenarioFault octets.now)) }
     ensures only { IfErr result (IsCaused (λ _. (scenario : Scenario) → ¬ (IsFileOf (λ d. IsScenario d scenario) octets.now))) }
-    ensures too_long { 1048576 < length octets.now → result ≡ Err FileFault.Unreadable }
+    ensures too_long { max_file_len < length octets.now → result ≡ Err FileFault.Unreadable }
 {
     let file = read_toml(alloc, octets)?;
     scenario_from_toml(alloc, &file)
@@ -44,7 +44,7 @@ pub fn read_scenario(alloc: Global, octets: &[u8]) -> Result<Scenario, FileFault
 fn read_toml(alloc: Global, octets: &[u8]) -> Result<Value, FileFault>
     ensures ok { IfOk result (λ file. IsFileOf (λ d. d ≡ view file) octets.now) }
     ensures refused { IfErr result (IsCaused (HasNoTable octets.now)) }
-    ensures too_long { 1048576 < length octets.now → result ≡ Err FileFault.Unreadable }
+    ensures too_long { max_file_len < length octets.now → result ≡ Err FileFault.Unreadable }
 {
     if octets.len() > MAX_FILE_LEN {
         return Err(FileFault::Unreadable);
@@ -63,8 +63,8 @@ fn read_toml(alloc: Global, octets: &[u8]) -> Result<Value, FileFault>
 /// F5 if reading fails or the file has more octets, F4 if an allocation fails.
 pub fn read_file<R: Read + Drop>(alloc: Global, input: R) -> Result<Vec<u8>, FileFault>
     ensures whole { IfSome (R.remaining input) (λ file. IfOk result (λ octets. octets.items ≡ file)) }
-    ensures bounded { IfOk result (λ octets. length octets.items ≤ 1048576) }
-    ensures too_long { IfSome (R.remaining input) (λ file. 1048576 < length file → IsErr result) }
+    ensures bounded { IfOk result (λ octets. length octets.items ≤ max_file_len) }
+    ensures too_long { IfSome (R.remaining input) (λ file. max_file_len < length file → IsErr result) }
     ensures fault { IfErr result (λ fault. (fault ≡ FileFault.Unreadable) ⊎ (fault ≡ FileFault.Memory)) }
 {
     let mut octets = Vec::new(alloc);
