@@ -339,12 +339,24 @@ impl Replayer {
             return Ok(());
         };
         let (prefix, last) = seen;
-        let choice = self.choice(&prefix);
+        let choice = self.choice_near(&prefix, index);
         if is_same(&choice, &last) {
             return Ok(());
         }
         self.seen.set(index, choice);
         write_line(out, &select_line(time, &prefix, &choice))
+    }
+
+    /// What is printed of the selected route of the prefix, which is the seen one at the index.
+    fn choice_near(&mut self, prefix: &Prefix, index: usize) -> Option<Choice>
+        ensures choice { result ≡ choice_at self.old.speaker prefix.now }
+        ensures speaker { self.new.speaker ≡ self.old.speaker }
+        ensures seen { self.new.seen.choices.entries ≡ self.old.seen.choices.entries }
+    {
+        match self.seen.cursor(index) {
+            Some(cursor) => self.speaker.selected_near(prefix, cursor).map(Choice::of),
+            None => self.choice(prefix),
+        }
     }
 
     /// What is printed of the prefix's selected route.

@@ -7,6 +7,7 @@ ghost use Rattle.babel_replay.specs.Seen.{choice_of, is_same_choice, updated, up
 
 use babel_lines::Choice;
 use babel_packet::{Content, Message, Placed};
+use babel_route::Cursor;
 use babel_state::{Note, Selected, Verdict};
 use babel_value::Prefix;
 use indexmap::IndexMap;
@@ -44,6 +45,8 @@ pub(crate) fn is_same(a: &Option<Choice>, b: &Option<Choice>) -> bool
 #[derive(Drop)]
 pub(crate) struct SeenPrefixes {
     choices: IndexMap<Prefix, Option<Choice>>,
+    /// Where the selection of each was last found. They only matter for speed.
+    cursors: Vec<Cursor>,
 }
 
 impl SeenPrefixes {
@@ -53,6 +56,7 @@ impl SeenPrefixes {
     {
         SeenPrefixes {
             choices: IndexMap::new(alloc),
+            cursors: Vec::new(alloc),
         }
     }
 
@@ -61,7 +65,9 @@ impl SeenPrefixes {
         ensures unchanged { self.new.choices.entries ≡ self.old.choices.entries }
         ensures room { OnOk result (updates_in placed.now ≤ spare self.new.choices) }
     {
-        self.choices.reserve(count_updates(placed))
+        let more = count_updates(placed);
+        self.cursors.reserve(more)?;
+        self.choices.reserve(more)
     }
 
     /// Adds the prefixes of the Updates that were stored.
@@ -84,6 +90,8 @@ impl SeenPrefixes {
     {
         if !self.choices.contains_key(&prefix) {
             let _ = self.choices.insert(prefix, None);
+            // There is room for it too.
+            let _ = self.cursors.push(Cursor::new());
         }
     }
 
@@ -100,6 +108,13 @@ impl SeenPrefixes {
     {
         let (prefix, choice) = self.choices.get_index(index)?;
         Some((*prefix, *choice))
+    }
+
+    /// Where the selection of the prefix at the index was last found.
+    pub(crate) fn cursor(&mut self, index: usize) -> Option<&mut Cursor>
+        ensures { self.new.choices.entries ≡ self.old.choices.entries }
+    {
+        self.cursors.get_mut(index)
     }
 
     /// Notes what is printed of the prefix at the index.

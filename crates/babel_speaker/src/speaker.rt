@@ -28,7 +28,7 @@ use crate::SettledCore;
 use crate::decoded::decoded_are_encodable;
 use arrayvec::ArrayVec;
 use babel_parts::Scratch;
-use babel_route::{Entry, Memory, Selection};
+use babel_route::{Cursor, Entry, Memory, Selection};
 use babel_state::{
     Config, ConfigFault, NotAnnounced, Note, RecvFault, RestoreFault, Selected, SetCostFault,
     Target, TooManyPrefixes, calls_move, datagrams_send, items_mean_messages, restarts_are_seen,
@@ -306,6 +306,14 @@ impl Speaker {
         ensures { result ≡ selected_route prefix.now self.now }
     {
         self.core.core.selected_route(prefix)
+    }
+
+    /// The same. The search begins at the cursor, which goes to the prefix: it is quick if the selection is where the
+    /// last search with this cursor found one.
+    pub fn selected_near(&self, prefix: &Prefix, cursor: &mut Cursor) -> Option<Selected>
+        ensures { result ≡ selected_route prefix.now self.now }
+    {
+        self.core.core.selected_route_near(prefix, cursor)
     }
 
     /// The selection whose prefix has exactly `place` lesser ones among the selections' prefixes.
