@@ -31,7 +31,7 @@ impl Core {
     }
 
     /// Takes the deadlines of Hellos and IHUs (RFC 8966, sections 3.4.1 and 3.4.2). Routes of flushed
-    /// neighbours are removed. Returns `false` if none is due.
+    /// neighbours are removed. If it returns `false`, none is due, and nothing changed.
     #[tactic(auto, unfolding(babel_state::specs::Ticks::links_ticked))]
     pub(crate) fn tick_links(&mut self, now: u64) -> bool
         ensures state { self.new ≡ links_ticked now self.old }
@@ -43,7 +43,8 @@ impl Core {
         due
     }
 
-    /// Takes the deadlines of routes (RFC 8966, section 3.5.4). Returns `false` if none is due.
+    /// Takes the deadlines of routes (RFC 8966, section 3.5.4). If it returns `false`, none is due, and
+    /// nothing changed.
     #[tactic(auto, unfolding(babel_state::specs::Ticks::routes_ticked))]
     pub(crate) fn tick_routes(&mut self, now: u64) -> bool
         ensures state { self.new ≡ routes_ticked now self.old }
@@ -53,7 +54,7 @@ impl Core {
     }
 
     /// Collects the entries of the source table whose time has come, if the speaker does so (RFC 8966,
-    /// section 3.2.5). Returns `false` if none is due.
+    /// section 3.2.5). If it returns `false`, none is due, and nothing changed.
     #[tactic(auto, unfolding(babel_state::specs::Ticks::sources_ticked))]
     pub(crate) fn tick_sources(&mut self, now: u64) -> bool
         ensures state { self.new ≡ sources_ticked now self.old }
