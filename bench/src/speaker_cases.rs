@@ -58,12 +58,32 @@ fn hello(seqno: u16) -> Message {
 }
 
 fn ihu(iface: u8) -> Message {
+    ihu_with(iface, 96, 60_000)
+}
+
+fn ihu_with(iface: u8, rxcost: u16, interval: u16) -> Message {
     let to = Some(IpAddr::V4(Ipv4Addr::new(10, iface, 0, 1)));
     Message::Ihu {
         to,
-        rxcost: Metric(96),
-        interval: 60_000,
+        rxcost: Metric(rxcost),
+        interval,
     }
+}
+
+/// Two IHUs of the neighbour 0 of the interface, which has routes, of which each changes the cost of the link.
+fn costs(iface: u8) -> Vec<u8> {
+    let mut steps = Vec::new();
+    for rxcost in [97, 96] {
+        steps.extend(datagram(iface, 0, NOW, &[ihu_with(iface, rxcost, 60_000)]));
+    }
+    steps
+}
+
+/// The cost of a neighbour without routes is too old, and all 256 prefixes are selected again.
+fn timeout() -> Vec<u8> {
+    let mut steps = datagram(7, 7, NOW, &[ihu_with(7, 96, 1)]);
+    steps.extend(tick(NOW + 4));
+    steps
 }
 
 fn update(n: usize, router: u8) -> Message {
@@ -167,6 +187,24 @@ pub fn all() -> Vec<Case> {
             setup: setup(),
             turn: repeated(&datagram(3, 4, NOW, &[hello(2), ihu(3)]), 10),
             times: 10,
+        },
+        Case {
+            name: "a link's cost is too old",
+            setup: setup(),
+            turn: timeout(),
+            times: 1,
+        },
+        Case {
+            name: "a new cost, 16 routes",
+            setup: setup(),
+            turn: costs(4),
+            times: 2,
+        },
+        Case {
+            name: "a new cost, 60 routes",
+            setup: setup(),
+            turn: costs(1),
+            times: 2,
         },
         Case {
             name: "60 updates, full tables",

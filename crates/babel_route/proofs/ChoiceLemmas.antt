@@ -1,5 +1,5 @@
 -- A walk that keeps the candidate of least rank finds the first one.
-use Rattle.std.proofs.Common.{◌≡◌, ℕ, Bool, true, false, cond, if◌then◌else◌, ◌∷◌, filter, [], Option, Some, None, IfSome, IsSome, option_map, refl, sym, ap, subst, ◌∙◌}
+use Rattle.std.proofs.Common.{◌≡◌, ℕ, Bool, true, false, cond, if◌then◌else◌, ◌∷◌, filter, [], Option, Some, None, IfSome, IsSome, option_map, option_and_then, slice_get, refl, sym, ap, subst, ◌∙◌}
 use Rattle.std.proofs.lemmas.Option.{same_Some, none-some}
 use Rattle.std.specs.Option.{option_map_or}
 use Rattle.std.proofs.lemmas.Bool.{false≢true}
@@ -11,40 +11,68 @@ use Rattle.babel_route.specs.declared.routes.choices.Rank.{Rank}
 use Rattle.babel_route.specs.declared.routes.choices.Candidate.{Candidate}
 use Rattle.babel_route.specs.Routes.{Route, RouteEntries}
 use Rattle.babel_table.specs.Firsts.{first_from, first_of}
-use Rattle.babel_route.specs.Selections.{rank_of, rank_cmp, preference, routes_of, has_entry, selection_of}
+use Rattle.babel_route.specs.PrefixWalks.{rank_at, is_lesser_rank}
+use Rattle.babel_route.specs.Selections.{is_change, route_metric, rank_of, rank_cmp, preference, routes_of, has_entry, selection_of}
 use Rattle.babel_route.proofs.RoomLemmas.{some_route}
 
--- a candidate alone has a rank
-pub ranked_candidate : (passes : Bool) (rank found : Rank) → cond passes (Some rank) None ≡ Some found → (passes ≡ true) × (found ≡ rank)
-ranked_candidate true rank found is = (refl, sym (same_Some rank found is))
-ranked_candidate false rank found is = absurd (none-some found is)
+-- a candidate alone has a metric
+pub measured : (passes : Bool) (metric found : ℕ) → cond passes (Some metric) None ≡ Some found → (passes ≡ true) × (found ≡ metric)
+measured true metric found is = (refl, sym (same_Some metric found is))
+measured false metric found is = absurd (none-some found is)
 
-pub unranked : (passes : Bool) (rank : Rank) → cond passes (Some rank) None ≡ None → passes ≡ false
-unranked true rank is = cc
-unranked false rank is = refl
+pub unmeasured : (passes : Bool) (metric : ℕ) → cond passes (Some metric) None ≡ None → passes ≡ false
+unmeasured true metric is = cc
+unmeasured false metric is = refl
 
 -- any other route is left out
 pub left_out : (passes : Route → Bool) (route : Route) (rest : RouteEntries) → passes route ≡ false → filter passes (route ∷ rest) ≡ filter passes rest
 left_out passes route rest other = rw other refl
 
-module _ (cost : Peer → ℕ) (before : Option Peer) (passes : Route → Bool) where
-  -- one candidate more
-  pub found_more : (found : Option Candidate) (new result : Candidate) (rest : RouteEntries) → IfSome found (λ c. c.rank ≡ rank_of cost before c.route) → new.rank ≡ rank_of cost before new.route → passes new.route ≡ true → result ≡ option_map_or (λ old. if is_lt (rank_cmp new.rank old.rank) then new else old) found new → (first_from (preference cost before) (Some result.route) (filter passes rest) ≡ first_from (preference cost before) (option_map (λ c. c.route) found) (filter passes (new.route ∷ rest))) × (result.rank ≡ rank_of cost before result.route)
-  found_more None new result rest ranked new_ranked here is =
-      (ap (λ (c : Candidate). first_from (preference cost before) (Some c.route) (filter passes rest)) is ∙ rw here refl, subst (λ (c : Candidate). c.rank ≡ rank_of cost before c.route) (sym is) new_ranked)
-  found_more (Some old) new result rest ranked new_ranked here is =
-      by (is_lt (rank_cmp new.rank old.rank)) refl is
-    where
-      compared : is_lt (rank_cmp new.rank old.rank) ≡ is_lt (preference cost before new.route old.route)
-      compared = ap (λ r. is_lt (rank_cmp r old.rank)) new_ranked ∙ ap (λ r. is_lt (rank_cmp (rank_of cost before new.route) r)) ranked
+-- The candidate's metric is that of the route at its index.
+pub record IsMeasured (cost : Peer → ℕ) (es : RouteEntries) (candidate : Candidate) : Type 0 where
+  pub route : Route
+  pub at : slice_get es candidate.place ≡ Some route
+  pub metric : candidate.metric ≡ route_metric cost route
 
-      by : (b : Bool) → is_lt (rank_cmp new.rank old.rank) ≡ b → result ≡ cond b new old → (first_from (preference cost before) (Some result.route) (filter passes rest) ≡ first_from (preference cost before) (Some old.route) (filter passes (new.route ∷ rest))) × (result.rank ≡ rank_of cost before result.route)
-      by true lt is =
-          let step : is_lt (preference cost before new.route old.route) ≡ true = sym compared ∙ lt in
-          (ap (λ (c : Candidate). first_from (preference cost before) (Some c.route) (filter passes rest)) is ∙ rw here (ap (λ b. first_from (preference cost before) (Some (if b then new.route else old.route)) (filter passes rest)) (sym step)), subst (λ (c : Candidate). c.rank ≡ rank_of cost before c.route) (sym is) new_ranked)
-      by false lt is =
-          let step : is_lt (preference cost before new.route old.route) ≡ false = sym compared ∙ lt in
-          (ap (λ (c : Candidate). first_from (preference cost before) (Some c.route) (filter passes rest)) is ∙ rw here (ap (λ b. first_from (preference cost before) (Some (if b then new.route else old.route)) (filter passes rest)) (sym step)), subst (λ (c : Candidate). c.rank ≡ rank_of cost before c.route) (sym is) ranked)
+module _ (cost : Peer → ℕ) (before : Option Peer) (passes : Route → Bool) (es : RouteEntries) where
+  abbrev ranked : ℕ → Route → Rank
+  ranked metric route = record { metric = metric; is_change = is_change before route.0.peer; peer = route.0.peer }
+
+  -- The first of the routes and of one that was found already.
+  abbrev over : Option Route → RouteEntries → Option Route
+  over found routes = first_from (preference cost before) found (filter passes routes)
+
+  abbrev is_lesser : Candidate → Candidate → Bool
+  is_lesser one other = is_lesser_rank (rank_at es before one.metric one.place) (rank_at es before other.metric other.place)
+
+  -- one candidate more
+  pub found_more : (found : Option Candidate) (new result : Candidate) (route : Route) (rest : RouteEntries) → IfSome found (IsMeasured cost es) → slice_get es new.place ≡ Some route → new.metric ≡ route_metric cost route → passes route ≡ true → result ≡ option_map_or (λ old. if is_lesser new old then new else old) found new → (over (slice_get es result.place) rest ≡ over (option_and_then (slice_get es) (option_map (λ c. c.place) found)) (route ∷ rest)) × IsMeasured cost es result
+  found_more None new result route rest known at metric here is =
+      let step : over (Some route) rest ≡ over None (route ∷ rest) = rw here refl in (
+        ap (λ (c : Candidate). over (slice_get es c.place) rest) is ∙ ap (λ o. over o rest) at ∙ step,
+        subst (IsMeasured cost es) (sym is) (record { route = route; at = at; metric = metric }),
+      )
+  found_more (Some old) new result route rest known at metric here is = by (is_lesser new old) refl is
+    where
+      compared : is_lesser new old ≡ is_lt (preference cost before route known.route)
+      compared =
+          ap (λ (o : Option Route). is_lesser_rank (option_map (ranked new.metric) o) (rank_at es before old.metric old.place)) at
+          ∙ ap (λ (o : Option Route). is_lesser_rank (Some (ranked new.metric route)) (option_map (ranked old.metric) o)) known.at
+          ∙ ap (λ n. is_lt (rank_cmp (ranked n route) (ranked old.metric known.route))) metric
+          ∙ ap (λ n. is_lt (rank_cmp (rank_of cost before route) (ranked n known.route))) known.metric
+
+      step : (b : Bool) → is_lt (preference cost before route known.route) ≡ b → over (Some (if b then route else known.route)) rest ≡ over (Some known.route) (route ∷ rest)
+      step b one = rw here (ap (λ x. first_from (preference cost before) (Some (if x then route else known.route)) (filter passes rest)) (sym one))
+
+      by : (b : Bool) → is_lesser new old ≡ b → result ≡ cond b new old → (over (slice_get es result.place) rest ≡ over (slice_get es old.place) (route ∷ rest)) × IsMeasured cost es result
+      by true lt is = (
+        ap (λ (c : Candidate). over (slice_get es c.place) rest) is ∙ ap (λ o. over o rest) at ∙ step true (sym compared ∙ lt) ∙ ap (λ o. over o (route ∷ rest)) (sym known.at),
+        subst (IsMeasured cost es) (sym is) (record { route = route; at = at; metric = metric }),
+      )
+      by false lt is = (
+        ap (λ (c : Candidate). over (slice_get es c.place) rest) is ∙ ap (λ o. over o rest) known.at ∙ step false (sym compared ∙ lt) ∙ ap (λ o. over o (route ∷ rest)) (sym known.at),
+        subst (IsMeasured cost es) (sym is) known,
+      )
 
 -- where something is chosen, the prefix has an entry
 pub chosen_is_known : (order : Route → Route → Ordering) (passes : Route → Bool) (p : PrefixValue) (es routes : RouteEntries) → routes_of p es ≡ routes → IsSome (option_map selection_of (first_of order (filter passes routes))) → has_entry es p ≡ true

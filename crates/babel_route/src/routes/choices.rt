@@ -1,13 +1,13 @@
 //! The choice among the candidates of a prefix (RFC 8966, section 3.6).
 
-ghost use Rattle.std.specs.Prelude.{◌≡◌, ℕ, true, not, drop, Option, IsSome, Some, None, option_map, if◌then◌else◌};
+ghost use Rattle.std.specs.Prelude.{◌≡◌, ℕ, true, not, drop, slice_get, option_and_then, Option, IsSome, Some, None, option_map, if◌then◌else◌};
 ghost use Rattle.std.specs.List.{filter, list_all};
 ghost use Rattle.std.specs.Option.{option_map_or};
 ghost use Rattle.std.specs.Ordering.{is_lt};
 ghost use Rattle.babel_value.specs.declared.keys.Peer.{Peer};
 ghost use Rattle.babel_table.specs.Firsts.{first_of};
 ghost use Rattle.babel_route.specs.PrefixBounds.{is_before};
-ghost use Rattle.babel_route.specs.PrefixWalks.{others_of};
+ghost use Rattle.babel_route.specs.PrefixWalks.{others_of, rank_at, is_lesser_rank};
 ghost use Rattle.babel_route.specs.Selections.{routes_of, has_entry, choice, peer_before, is_candidate, is_change, is_feasible_route, route_metric, rank_of, rank_cmp, preference, selection_of};
 
 use super::bounds::Before;
@@ -37,11 +37,11 @@ pub struct Rank {
     pub peer: Peer,
 }
 
-/// A candidate with its rank.
+/// A candidate: its metric and its index.
 #[derive(Clone, Copy)]
 struct Candidate {
-    rank: Rank,
-    route: (RouteKey, Entry),
+    metric: Metric,
+    place: usize,
 }
 
 /// The selection of the prefix after this one: the candidate that no other comes before, and none if
@@ -73,7 +73,7 @@ pub(crate) fn choose<E: Table<RouteKey, Entry>, T: Table<Source, SourceEntry>, C
         near,
     );
     cursor.entry = end.wrapping_sub(1);
-    first
+    selection_at(entries, first)
 }
 
 pub(crate) fn peer_of(selection: &Option<Selection>) -> Option<Peer>
@@ -85,8 +85,8 @@ pub(crate) fn peer_of(selection: &Option<Selection>) -> Option<Peer>
     }
 }
 
-/// The candidate of the prefix that no other comes before, if this neighbour was selected before, and the index
-/// after the routes of the prefix. The first one is at the index `start`, or would be.
+/// The index of the candidate of the prefix that no other comes before, if this neighbour was selected before, and the
+/// index after the routes of the prefix. The first one is at the index `start`, or would be.
 pub(crate) fn first_from<E: Table<RouteKey, Entry>, T: Table<Source, SourceEntry>, C: Costs>(
     entries: &E,
     start: usize,
@@ -95,68 +95,113 @@ pub(crate) fn first_from<E: Table<RouteKey, Entry>, T: Table<Source, SourceEntry
     sources: &SourcesOver<T>,
     costs: &C,
     near: &mut usize,
-) -> (Option<Selection>, usize)
+) -> (Option<usize>, usize)
     requires { list_all (λ e. not (is_before prefix.now e.0.prefix)) (drop start (E.entries entries.now)) ≡ true }
-    ensures first { result.0 ≡ option_map selection_of (first_of (preference (C.cost_of costs.now) before) (filter (is_candidate sources.now (C.cost_of costs.now)) (routes_of prefix.now (drop start (E.entries entries.now))))) }
+    ensures first { option_and_then (slice_get (E.entries entries.now)) result.0 ≡ first_of (preference (C.cost_of costs.now) before) (filter (is_candidate sources.now (C.cost_of costs.now)) (routes_of prefix.now (drop start (E.entries entries.now)))) }
     ensures rest { drop result.1 (E.entries entries.now) ≡ others_of prefix.now (drop start (E.entries entries.now)) }
 {
     let len = entries.len();
     let mut first: Option<Candidate> = None;
     for place in start..len {
         let Some(route) = entries.at(place) else {
-            return (selection_of(&first), place);
+            return (place_of(&first), place);
         };
         if !is_of(&route, prefix) {
-            return (selection_of(&first), place);
+            return (place_of(&first), place);
         }
-        if let Some(rank) = candidate_rank(&route, before, sources, costs, near) {
-            first = Some(first_of_two(first, Candidate { rank, route }));
+        if let Some(metric) = candidate_metric(&route, sources, costs, near) {
+            let new = Candidate { metric, place };
+            first = Some(first_of_two(entries, first, new, before));
         }
     }
-    (selection_of(&first), len)
+    (place_of(&first), len)
 }
 
-fn selection_of(first: &Option<Candidate>) -> Option<Selection>
-    ensures { result ≡ option_map selection_of (option_map (λ c. c.route) first.now) }
+fn place_of(first: &Option<Candidate>) -> Option<usize>
+    ensures { result ≡ option_map (λ c. c.place) first.now }
 {
     match first {
-        Some(first) => Some(Selection {
-            peer: first.route.0.peer,
-            entry: first.route.1,
-        }),
+        Some(first) => Some(first.place),
         None => None,
     }
 }
 
+/// The selection of the route at the index, if there is one.
+pub(crate) fn selection_at<E: Table<RouteKey, Entry>>(
+    entries: &E,
+    place: Option<usize>,
+) -> Option<Selection>
+    ensures { result ≡ option_map selection_of (option_and_then (slice_get (E.entries entries.now)) place) }
+{
+    let route = entries.at(place?)?;
+    Some(Selection {
+        peer: route.0.peer,
+        entry: route.1,
+    })
+}
+
 /// The candidate found before, unless the new one comes before it.
-fn first_of_two(found: Option<Candidate>, new: Candidate) -> Candidate
-    ensures { result ≡ option_map_or (λ old. if is_lt (rank_cmp new.rank old.rank) then new else old) found new }
+fn first_of_two<E: Table<RouteKey, Entry>>(
+    entries: &E,
+    found: Option<Candidate>,
+    new: Candidate,
+    before: Option<Peer>,
+) -> Candidate
+    ensures { result ≡ option_map_or (λ old. if is_lesser_rank (rank_at (E.entries entries.now) before new.metric new.place) (rank_at (E.entries entries.now) before old.metric old.place) then new else old) found new }
 {
     match found {
-        Some(old) if !new.rank.cmp(&old.rank).is_lt() => old,
+        Some(old) if !comes_before(entries, &new, &old, before) => old,
         _ => new,
     }
 }
 
-/// The rank of a route that is a candidate: it is feasible and its metric is finite.
-fn candidate_rank<T: Table<Source, SourceEntry>, C: Costs>(
-    route: &(RouteKey, Entry),
+/// Whether a candidate comes before another one.
+fn comes_before<E: Table<RouteKey, Entry>>(
+    entries: &E,
+    one: &Candidate,
+    other: &Candidate,
     before: Option<Peer>,
+) -> bool
+    ensures { result ≡ is_lesser_rank (rank_at (E.entries entries.now) before one.now.metric one.now.place) (rank_at (E.entries entries.now) before other.now.metric other.now.place) }
+{
+    match (
+        rank_at(entries, one, before),
+        rank_at(entries, other, before),
+    ) {
+        (Some(one), Some(other)) => one.cmp(&other).is_lt(),
+        _ => true,
+    }
+}
+
+/// The rank of a candidate.
+fn rank_at<E: Table<RouteKey, Entry>>(
+    entries: &E,
+    candidate: &Candidate,
+    before: Option<Peer>,
+) -> Option<Rank>
+    ensures { result ≡ rank_at (E.entries entries.now) before candidate.now.metric candidate.now.place }
+{
+    let peer = entries.at(candidate.place)?.0.peer;
+    let is_change = is_change(before, peer);
+    Some(Rank {
+        metric: candidate.metric,
+        is_change,
+        peer,
+    })
+}
+
+/// The metric of a route that is a candidate: it is feasible and its metric is finite.
+fn candidate_metric<T: Table<Source, SourceEntry>, C: Costs>(
+    route: &(RouteKey, Entry),
     sources: &SourcesOver<T>,
     costs: &C,
     near: &mut usize,
-) -> Option<Rank>
-    ensures { result ≡ (if is_candidate sources.now (C.cost_of costs.now) route.now then Some (rank_of (C.cost_of costs.now) before route.now) else None) }
+) -> Option<Metric>
+    ensures { result ≡ (if is_candidate sources.now (C.cost_of costs.now) route.now then Some (route_metric (C.cost_of costs.now) route.now) else None) }
 {
-    let peer = route.0.peer;
-    let metric = route.1.distance.metric.add(costs.cost(&peer));
+    let metric = route.1.distance.metric.add(costs.cost(&route.0.peer));
     if metric.is_finite() && is_feasible(route, sources, near) {
-        let is_change = is_change(before, peer);
-        Some(Rank {
-            metric,
-            is_change,
-            peer,
-        })
+        Some(metric)
     } else {
         None
     }

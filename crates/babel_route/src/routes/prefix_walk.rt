@@ -11,7 +11,7 @@ ghost use Rattle.babel_route.specs.PrefixWalks.{without_prefix, are_from};
 ghost use Rattle.babel_route.specs.RouteLaws.{is_among};
 ghost use Rattle.babel_route.specs.Selections.{prefixes_of};
 
-use super::choices::{Costs, first_from, peer_of};
+use super::choices::{Costs, first_from, peer_of, selection_at};
 use super::current::is_same_selection;
 use super::lesser_prefix;
 use crate::{Entry, RouteKey, Selection, SourceEntry, SourcesOver};
@@ -92,7 +92,10 @@ impl<'a, E: Table<RouteKey, Entry>, S: Table<Prefix, Selection>> PrefixWalk<'a, 
         );
         self.entry = entry;
         self.selection = selection;
-        is_same_selection(&before, &unless_local(local, first))
+        is_same_selection(
+            &before,
+            &unless_local(local, selection_at(self.entries, first)),
+        )
     }
 }
 

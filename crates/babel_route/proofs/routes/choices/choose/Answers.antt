@@ -13,8 +13,10 @@ returns g c =
     let p = c.args.prefix.now in
     let passes = is_candidate c.args.sources.now cost in
     let order = preference cost c.peer_of.result in
-    let chosen : c.first_from-first.result.0 ≡ option_map selection_of (first_of order (filter passes (routes_of p es))) =
-    c.first_from-first.ensures.first ∙ ap (λ routes. option_map selection_of (first_of order (filter passes routes))) (all_routes_from p es c.places_below_near-place.result c.places_below_near-place.ensures.below) in
+    let chosen : c.selection_at.result ≡ option_map selection_of (first_of order (filter passes (routes_of p es))) =
+    c.selection_at.ensures
+    ∙ ap (option_map selection_of) (c.first_from-first.ensures.first ∙ ap (λ routes. first_of order (filter passes routes)) (all_routes_from p es c.places_below_near-place.result c.places_below_near-place.ensures.below))
+    in
     record {
       choice = chosen ∙ ap (λ before. option_map selection_of (first_of (preference cost before) (filter passes (routes_of p es)))) c.peer_of.ensures ∙ ap (λ local. choice c.args.sources.now cost p local c.args.before.now es) (sym c.if-local.false);
       known = λ some. chosen_is_known order passes p es (routes_of p es) refl (subst IsSome chosen some);

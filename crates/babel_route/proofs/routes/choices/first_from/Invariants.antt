@@ -1,8 +1,9 @@
--- The first of what was seen and what is to come is that of all, and it has its rank.
-use Rattle.std.proofs.Common.{◌≡◌, true, filter, IfSome, option_map, drop}
+-- The first of what was seen and what is to come is that of all, and it has its metric.
+use Rattle.std.proofs.Common.{◌≡◌, true, filter, IfSome, option_map, option_and_then, slice_get, drop}
 use Rattle.babel_table.specs.Firsts.{first_from, first_of}
 use Rattle.babel_route.specs.PrefixWalks.{others_of}
-use Rattle.babel_route.specs.Selections.{routes_of, is_candidate, rank_of, preference}
+use Rattle.babel_route.specs.Selections.{routes_of, is_candidate, preference}
+use Rattle.babel_route.proofs.ChoiceLemmas.{IsMeasured}
 use Rattle.babel_route.proofs.RunLemmas.{are_not_before}
 use Rattle.babel_route.proofs.routes.choices.first_from.Given as goal
 
@@ -13,7 +14,7 @@ invariant-loop-place g l =
     let es = g.E.Table.entries l.entries in
     record {
       from : are_not_before l.prefix (drop l.place es) ≡ true;
-      first : first_from (preference cost l.before) (option_map (λ found. found.route) l.first) (filter passes (routes_of l.prefix (drop l.place es))) ≡ first_of (preference cost l.before) (filter passes (routes_of l.prefix (drop l.start es)));
-      ranked : IfSome l.first (λ found. found.rank ≡ rank_of cost l.before found.route);
+      first : first_from (preference cost l.before) (option_and_then (slice_get es) (option_map (λ found. found.place) l.first)) (filter passes (routes_of l.prefix (drop l.place es))) ≡ first_of (preference cost l.before) (filter passes (routes_of l.prefix (drop l.start es)));
+      measured : IfSome l.first (IsMeasured cost es);
       rest : others_of l.prefix (drop l.place es) ≡ others_of l.prefix (drop l.start es);
     }
