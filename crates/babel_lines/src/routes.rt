@@ -88,7 +88,12 @@ fn push_advertised_distance(line: &mut Line, distance: &Distance)
     ensures text { line.new ≡ line.old ++ advertised_distance_text distance.now }
     ensures short { length line.new ≤ length line.old + 28 }
 {
-    line.push_fields("seqno ", distance.seqno.0, " advertised ", distance.metric.0);
+    line.push_fields(
+        "seqno ",
+        distance.seqno.0,
+        " advertised ",
+        distance.metric.0,
+    );
 }
 
 /// Appends the link, and whether the route is used.
