@@ -354,7 +354,7 @@ impl Replayer {
         ensures seen { self.new.seen.choices.entries ≡ self.old.seen.choices.entries }
     {
         match self.seen.cursor(index) {
-            Some(cursor) => self.speaker.selected_near(prefix, cursor).map(Choice::of),
+            Some(cursor) => self.speaker.selected_near(prefix, cursor).map(choice_of),
             None => self.choice(prefix),
         }
     }
