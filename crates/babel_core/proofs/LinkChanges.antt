@@ -1,4 +1,4 @@
--- If the cost of one link changed, reselecting the prefixes to which its neighbour has a route is reselecting all.
+-- If the cost of one link changed, the selections of the prefixes to which its neighbour has no route stay current.
 use Rattle.std.specs.Prelude.{◌≡◌, ℕ, Bool, true, false, cond, ◌&&◌, [], ◌∷◌, map, filter, IfSome, ⊤, nat_eq, nat_lt, Option, Some, None, if◌then◌else◌}
 use Rattle.std.specs.Option.{option_map, option_map_or}
 use Rattle.std.specs.Ordering.{eq_by_cmp, is_lt}
