@@ -353,7 +353,7 @@ impl Replayer {
         ensures speaker { self.new.speaker ≡ self.old.speaker }
         ensures seen { self.new.seen.choices.entries ≡ self.old.seen.choices.entries }
     {
-        match self.seen.cursor(index) {
+        match self.seen.cursors.get_mut(index) {
             Some(cursor) => self.speaker.selected_near(prefix, cursor).map(choice_of),
             None => self.choice(prefix),
         }

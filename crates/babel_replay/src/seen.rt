@@ -46,7 +46,7 @@ pub(crate) fn is_same(a: &Option<Choice>, b: &Option<Choice>) -> bool
 pub(crate) struct SeenPrefixes {
     choices: IndexMap<Prefix, Option<Choice>>,
     /// Where the selection of each was last found. They only matter for speed.
-    cursors: Vec<Cursor>,
+    pub(crate) cursors: Vec<Cursor>,
 }
 
 impl SeenPrefixes {
@@ -108,13 +108,6 @@ impl SeenPrefixes {
     {
         let (prefix, choice) = self.choices.get_index(index)?;
         Some((*prefix, *choice))
-    }
-
-    /// Where the selection of the prefix at the index was last found.
-    pub(crate) fn cursor(&mut self, index: usize) -> Option<&mut Cursor>
-        ensures { self.new.choices.entries ≡ self.old.choices.entries }
-    {
-        self.cursors.get_mut(index)
     }
 
     /// Notes what is printed of the prefix at the index.
