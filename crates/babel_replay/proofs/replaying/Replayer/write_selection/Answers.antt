@@ -1,4 +1,3 @@
-use Rattle.std.proofs.Common.{refl}
 use Rattle.babel_replay.proofs.Seeing.{set_same}
 use Rattle.babel_replay.proofs.replaying.Replayer.write_selection.Goals as goal
 
