@@ -1,11 +1,14 @@
 -- The messages that a speaker sends, one by one (profile).
-use Rattle.std.specs.Prelude.{◌≡◌, Bool, false, [], None, drop}
+use Rattle.std.specs.Prelude.{◌≡◌, Bool, true, false, [], Option, Some, None, drop}
+use Rattle.std.specs.Option.{option_map_or}
+use Rattle.babel_value.specs.Prefixes.{PrefixValue}
 use Rattle.babel_packet.specs.declared.messages.Message.{Message}
 use Rattle.babel_packet.specs.declared.messages.Message.TheVariants as messages
+use Rattle.babel_route.specs.Currency.{is_current}
 use Rattle.babel_route.specs.Distances.{improves_on}
 use Rattle.babel_state.specs.declared.items.Outgoing.{Outgoing}
 use Rattle.babel_state.specs.declared.items.Outgoing.TheVariants as outgoings
-use Rattle.babel_state.specs.State.{State, pair_at}
+use Rattle.babel_state.specs.State.{State, announces, cost_at, pair_at}
 use Rattle.babel_state.specs.OutgoingMessages.{is_source_too_many}
 use Rattle.babel_state.specs.NextDatagram.{Draft}
 
@@ -24,6 +27,16 @@ abbrev pub changes_a_pair : Message → State → Bool
 changes_a_pair (messages.Update prefix router next_hop seqno metric interval) s =
     improves_on (pair_at prefix router s) (record { seqno = seqno; metric = metric })
 changes_a_pair message s = false
+
+-- The prefix that an Update names.
+abbrev pub named_prefix : Message → Option PrefixValue
+named_prefix (messages.Update prefix router next_hop seqno metric interval) = Some prefix
+named_prefix message = None
+
+-- The selection of that prefix is current.
+abbrev pub is_named_current : Message → State → Bool
+is_named_current message s =
+    option_map_or (λ prefix. is_current s.sources (cost_at s) prefix (announces prefix s) s.routes) (named_prefix message) true
 
 -- A draft without target and messages.
 abbrev pub no_draft : State → Draft

@@ -6,7 +6,7 @@ ghost use Rattle.babel_state.specs.State.{announces};
 ghost use Rattle.babel_state.specs.Calls.{set_cost_fault, cost_set, is_prefix_too_many, announced_also, withdrawn, select_and_advertise, selected_route, reported_entries, reported_entry};
 
 use crate::Core;
-use babel_route::{Cursor, Entry, Selection};
+use babel_route::{Entry, Selection};
 use babel_state::{MAX_COST, NotAnnounced, Selected, SetCostFault, TooManyPrefixes};
 use babel_value::{Metric, Peer, Prefix};
 
@@ -72,19 +72,11 @@ impl Core {
 
     /// The selected route of the prefix, with its metric by the present cost of the link (RFC 8966,
     /// section 3.6).
+    #[tactic(auto, unfolding(babel_state::specs::Calls::selected_route))]
     pub fn selected_route(&self, prefix: &Prefix) -> Option<Selected>
         ensures { result ≡ selected_route prefix.now self.now }
     {
-        let mut cursor = Cursor::new();
-        self.selected_route_near(prefix, &mut cursor)
-    }
-
-    /// The same. The search begins at the cursor, which goes to the prefix.
-    #[tactic(auto, unfolding(babel_state::specs::Calls::selected_route))]
-    pub fn selected_route_near(&self, prefix: &Prefix, cursor: &mut Cursor) -> Option<Selected>
-        ensures { result ≡ selected_route prefix.now self.now }
-    {
-        match self.routes.selected_near(prefix, cursor) {
+        match self.selected(prefix) {
             Some(Selection { peer, entry }) => {
                 let Entry {
                     next_hop,

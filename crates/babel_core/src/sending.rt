@@ -7,10 +7,11 @@ ghost use Rattle.babel_state.specs.Addresses.{transport_at};
 ghost use Rattle.babel_state.specs.CurrentSelections.{AreCurrent};
 ghost use Rattle.babel_state.specs.State.{with_interface};
 ghost use Rattle.babel_state.specs.NextDatagram.{next_hello, left_out_more, after_message};
-ghost use Rattle.babel_core.specs.SentMessages.{HasRoomFor, changes_a_pair, without_front};
+ghost use Rattle.babel_core.specs.SentMessages.{HasRoomFor, changes_a_pair, is_named_current, without_front};
 
 use crate::Core;
 use babel_packet::Message;
+use babel_parts::LinkCosts;
 use babel_parts::sources::address_of;
 use babel_route::Cursor;
 use babel_state::{Item, Target};
@@ -83,8 +84,24 @@ impl Core {
         }
     }
 
-    /// The same. If the speaker is settled, it stays so unless the message changes the feasibility distance of its source.
-    #[tactic(auto, using(crate::proofs::SettledSends::sent_current))]
+    /// Whether the selection of the prefix that an Update names is current.
+    fn is_named_current(&self, message: &Message, cursor: &mut Cursor) -> bool
+        ensures { result ≡ is_named_current message.now self.now }
+    {
+        match *message {
+            Message::Update { prefix, .. } => {
+                let local = self.announces(&prefix);
+                let costs = LinkCosts::new(&self.interfaces, &self.neighbours);
+                self.routes
+                    .is_current_near(&prefix, local, &self.sources, &costs, cursor)
+            }
+            _ => true,
+        }
+    }
+
+    /// The same. If the speaker is settled, it stays so unless the message changes the feasibility distance of its source
+    /// and then the selection of its prefix is no longer current.
+    #[tactic(auto, using(crate::proofs::SettledSends::sent_current, crate::proofs::SettledSends::sent_but_current))]
     pub fn send_message(
         &mut self,
         now: u64,
@@ -99,10 +116,11 @@ impl Core {
         ensures pending { self.new.pending ≡ self.old.pending }
         ensures current { IsTrue settled.new → AreCurrent self.new }
     {
-        if *settled && self.changes_a_pair(message, cursor) {
+        let changes = *settled && self.changes_a_pair(message, cursor);
+        self.apply_message(now, target, message, cursor);
+        if changes && !self.is_named_current(message, cursor) {
             *settled = false;
         }
-        self.apply_message(now, target, message, cursor);
     }
 
     /// An Update was left out, since the source table has no room.

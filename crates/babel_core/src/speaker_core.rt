@@ -90,8 +90,8 @@ impl Core {
         self.neighbours.rxcost(*peer, nominal)
     }
 
-    /// The cost of the link to the peer.
-    pub(crate) fn cost(&self, peer: &Peer) -> Metric
+    /// The cost of the link to the peer, as of now (RFC 8966, section 3.4.3).
+    pub fn cost(&self, peer: &Peer) -> Metric
         ensures { result ≡ cost_at self.now peer.now }
     {
         let nominal = self.interfaces.nominal_cost(peer.iface);
