@@ -1,6 +1,6 @@
 //! A datagram, from its octets to the notes of its TLVs.
 
-ghost use Rattle.std.specs.Prelude.{◌≡◌, ◌+◌, ◌≤◌, ◌<◌, ◌++◌, ◌∷◌, [], length, vec_len, vec_capacity, IfOk, IfErr, OnErr, IsTrue};
+ghost use Rattle.std.specs.Prelude.{◌≡◌, ◌+◌, ◌≤◌, ◌<◌, ◌++◌, ◌∷◌, [], length, vec_len, vec_capacity, Ok, IfOk, IfErr, OnOk, OnErr, IsTrue};
 ghost use Rattle.babel_packet.specs.Meaning.{meaning};
 ghost use Rattle.babel_value.specs.declared.keys.Peer.{Peer};
 ghost use Rattle.babel_state.specs.Addresses.{source_fault};
@@ -60,6 +60,32 @@ fn handle_places(
     }
 }
 
+/// Handles the TLVs of a datagram of the neighbour, and returns a note for each. The memory for the notes is allocated
+/// before anything changes.
+fn take_places(
+    core: &mut Core,
+    alloc: Global,
+    now: u64,
+    peer: &Peer,
+    placed: &[Placed],
+    settled: &mut bool,
+    scratch: &mut Scratch,
+) -> Result<Vec<Note>, RecvFault>
+    requires settled { IsTrue settled.old → AreCurrent core.old }
+    ensures state { OnOk result (core.new ≡ after_places now peer.now placed.now core.old) }
+    ensures notes { IfOk result (λ notes. notes.items ≡ notes_of now peer.now placed.now core.old) }
+    ensures memory { IfErr result (λ fault. fault ≡ RecvFault.Refused Refusal.Memory) }
+    ensures unchanged { OnErr result (core.new ≡ core.old) }
+    ensures current { IsTrue settled.new → AreCurrent core.new }
+{
+    let mut notes = match Vec::with_capacity(alloc, placed.len()) {
+        Ok(notes) => notes,
+        Err(_) => return Err(RecvFault::Refused(Refusal::Memory)),
+    };
+    handle_places(core, now, peer, placed, &mut notes, settled, scratch);
+    Ok(notes)
+}
+
 /// Takes a datagram that came over an interface from a source address at the moment `now`, in
 /// centiseconds. There is a note for each TLV. The memory is allocated before anything changes. If the
 /// speaker is settled, it stays so, and it becomes so by a Hello or an IHU for it.
@@ -86,22 +112,36 @@ pub(crate) fn receive(
         Ok(placed) => placed,
         Err(refusal) => return Err(RecvFault::Refused(refusal)),
     };
-    let mut notes = match Vec::with_capacity(alloc, placed.len()) {
-        Ok(notes) => notes,
-        Err(_) => return Err(RecvFault::Refused(Refusal::Memory)),
-    };
     let peer = Peer {
         iface,
         addr: source,
     };
-    handle_places(
-        core,
-        now,
-        &peer,
-        placed.as_slice(),
-        &mut notes,
-        settled,
-        scratch,
-    );
-    Ok(notes)
+    take_places(core, alloc, now, &peer, placed.as_slice(), settled, scratch)
+}
+
+/// The same for a datagram that is decoded already.
+pub(crate) fn receive_decoded(
+    core: &mut Core,
+    alloc: Global,
+    now: u64,
+    iface: u8,
+    source: Addr,
+    placed: &[Placed],
+    settled: &mut bool,
+    scratch: &mut Scratch,
+) -> Result<Vec<Note>, RecvFault>
+    requires settled { IsTrue settled.old → AreCurrent core.old }
+    ensures ok { IfOk result (λ notes. Receives now (record { iface = iface; addr = source }) (source_fault iface source core.old) (Ok placed.now) core.old core.new notes.items) }
+    ensures refused { IfErr result (λ fault. IsRecvFault (source_fault iface source core.old) (Ok placed.now) fault) }
+    ensures unchanged { OnErr result (core.new ≡ core.old) }
+    ensures current { IsTrue settled.new → AreCurrent core.new }
+{
+    if let Some(fault) = core.source_fault(iface, &source) {
+        return Err(fault);
+    }
+    let peer = Peer {
+        iface,
+        addr: source,
+    };
+    take_places(core, alloc, now, &peer, placed, settled, scratch)
 }

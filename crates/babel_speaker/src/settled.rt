@@ -1,7 +1,7 @@
 //! The state of a speaker, and whether all its selections are current. Then Hellos and IHUs that change no
 //! cost, and ticks in which no deadline is due, select no route again.
 
-ghost use Rattle.std.specs.Prelude.{◌≡◌, ◌↔◌, [], true, false, Some, IsOk, IsErr, IsNone, IfOk, IfErr, IfSome, OnOk, OnErr};
+ghost use Rattle.std.specs.Prelude.{◌≡◌, ◌↔◌, [], true, false, Ok, Some, IsOk, IsErr, IsNone, IfOk, IfErr, IfSome, OnOk, OnErr};
 ghost use Rattle.babel_packet.specs.Meaning.{meaning};
 ghost use Rattle.babel_state.specs.Addresses.{source_fault, transport_at};
 ghost use Rattle.babel_state.specs.Calls.{set_cost_fault, cost_set, first_state, is_prefix_too_many, announced_also, withdrawn};
@@ -17,10 +17,11 @@ ghost use Rattle.babel_core.specs.Making.{IsMakingFault, IsRestoreFault};
 ghost use Rattle.babel_state.specs.QueueLaws.{is_silent};
 ghost use Rattle.babel_speaker.specs.Sending.{are_encodable, fits_by, HaveTransports, MeansFrom};
 
-use crate::receiving::receive;
+use crate::receiving::{receive, receive_decoded};
 use crate::sending::next_datagram;
 use arrayvec::ArrayVec;
 use babel_core::Core;
+use babel_packet::Placed;
 use babel_parts::Scratch;
 use babel_state::{
     Config, ConfigFault, NotAnnounced, Note, RecvFault, RestoreFault, SetCostFault, Target,
@@ -111,6 +112,35 @@ impl SettledCore {
             iface,
             source,
             octets,
+            &mut settled,
+            scratch,
+        );
+        self.is_settled = settled;
+        notes
+    }
+
+    /// Takes a datagram that is decoded already, as `receive_decoded`.
+    pub(crate) fn receive_decoded(
+        &mut self,
+        alloc: Global,
+        now: u64,
+        iface: u8,
+        source: Addr,
+        placed: &[Placed],
+        scratch: &mut Scratch,
+    ) -> Result<Vec<Note>, RecvFault>
+        ensures ok { IfOk result (λ notes. Receives now (record { iface = iface; addr = source }) (source_fault iface source self.old) (Ok placed.now) self.old self.new notes.items) }
+        ensures refused { IfErr result (λ fault. IsRecvFault (source_fault iface source self.old) (Ok placed.now) fault) }
+        ensures unchanged { OnErr result (self.new ≡ self.old) }
+    {
+        let mut settled = self.is_settled;
+        let notes = receive_decoded(
+            &mut self.core,
+            alloc,
+            now,
+            iface,
+            source,
+            placed,
             &mut settled,
             scratch,
         );

@@ -1,7 +1,7 @@
 //! The speaker: its calls, from moments and octets to octets. Each call's meaning is its definition in
 //! `babel_state`.
 
-ghost use Rattle.std.specs.Prelude.{◌≡◌, ◌≤◌, ◌<◌, ◌↔◌, ℕ, [], true, false, Some, length, slice_get, IsOk, IsErr, IsNone, IfOk, IfErr, IfSome, OnOk, OnErr, option_map};
+ghost use Rattle.std.specs.Prelude.{◌≡◌, ◌≤◌, ◌<◌, ◌↔◌, ℕ, [], true, false, Ok, Some, length, slice_get, IsOk, IsErr, IsNone, IfOk, IfErr, IfSome, OnOk, OnErr, option_map};
 ghost use Rattle.babel_packet.specs.Meaning.{meaning};
 ghost use Rattle.babel_route.specs.Selections.{prefix_after};
 ghost use Rattle.babel_state.specs.Addresses.{source_fault, transport_at};
@@ -14,7 +14,7 @@ ghost use Rattle.babel_state.specs.QueueLaws.{is_silent};
 ghost use Rattle.babel_state.specs.Seen.{seen, updates_among, announcing_also, announcing_without, IsNew, IsSelecting, Sends};
 ghost use Rattle.babel_state.specs.SeenLaws.{MovesAlone, MovesByDatagram};
 ghost use Rattle.babel_state.specs.SeqnoRequests.{raised};
-ghost use Rattle.babel_state.specs.State.{announces, pair_at};
+ghost use Rattle.babel_state.specs.State.{announces, cost_at, pair_at};
 ghost use Rattle.babel_state.specs.Ticks.{ticked};
 ghost use Rattle.babel_value.specs.Prefixes.{PrefixValue};
 ghost use Rattle.babel_state.specs.Restarts.{snapshot_of, restored, IsRestartedFrom};
@@ -27,8 +27,9 @@ ghost use Rattle.babel_speaker.specs.Sending.{fits_by, MeansFrom};
 use crate::SettledCore;
 use crate::decoded::decoded_are_encodable;
 use arrayvec::ArrayVec;
+use babel_packet::Placed;
 use babel_parts::Scratch;
-use babel_route::{Cursor, Entry, Memory, Selection};
+use babel_route::{Entry, Memory, Selection};
 use babel_state::{
     Config, ConfigFault, NotAnnounced, Note, RecvFault, RestoreFault, Selected, SetCostFault,
     Target, TooManyPrefixes, calls_move, datagrams_send, items_mean_messages, restarts_are_seen,
@@ -207,6 +208,31 @@ impl Speaker {
             .receive(alloc, now, iface, source, octets, scratch)
     }
 
+    /// The same for a datagram that is decoded already: `placed` is what `decode` returned.
+    pub fn receive_decoded(
+        &mut self,
+        now: u64,
+        iface: u8,
+        source: Addr,
+        octets: &[u8],
+        placed: &[Placed],
+    ) -> Result<Vec<Note>, RecvFault>
+        requires decoded { meaning octets.now source ≡ Ok placed.now }
+        ensures ok { IfOk result (λ notes. Receives now (record { iface = iface; addr = source }) (source_fault iface source self.old) (meaning octets.now source) self.old self.new notes.items) }
+        ensures refused { IfErr result (IsRecvFault (source_fault iface source self.old) (meaning octets.now source)) }
+        ensures unchanged { OnErr result (self.new ≡ self.old) }
+        ensures moves { OnOk result (MovesByDatagram (record { iface = iface; addr = source }) (meaning octets.now source) self.old self.new) }
+        ensures current { OnOk result (KeepsCurrent self.old self.new) }
+    {
+        calls_move();
+        selections_stay_current();
+        decoded_are_encodable(octets, &source);
+        let alloc = self.alloc;
+        let scratch = &mut self.scratch;
+        self.core
+            .receive_decoded(alloc, now, iface, source, placed, scratch)
+    }
+
     /// Takes all deadlines that are due (RFC 8966, sections 3.2.5, 3.4, 3.5.4, 3.7.1 and 3.8.2.1).
     pub fn tick(&mut self, now: u64)
         ensures state { self.new ≡ ticked now self.old }
@@ -308,19 +334,18 @@ impl Speaker {
         self.core.core.selected_route(prefix)
     }
 
-    /// The same. The search begins at the cursor, which goes to the prefix: it is quick if the selection is where the
-    /// last search with this cursor found one.
-    pub fn selected_near(&self, prefix: &Prefix, cursor: &mut Cursor) -> Option<Selected>
-        ensures { result ≡ selected_route prefix.now self.now }
-    {
-        self.core.core.selected_route_near(prefix, cursor)
-    }
-
     /// The selection whose prefix has exactly `place` lesser ones among the selections' prefixes.
     pub fn selection_at(&self, place: usize) -> Option<(Prefix, Selection)>
         ensures { result ≡ slice_get self.now.routes.selections place }
     {
         self.core.core.selection_at(place)
+    }
+
+    /// The cost of the link to a neighbour, as of now: infinite if it is none (RFC 8966, section 3.4.3).
+    pub fn cost(&self, peer: &Peer) -> Metric
+        ensures { result ≡ cost_at self.now peer.now }
+    {
+        self.core.core.cost(peer)
     }
 
     /// The least prefix greater than the one given that has an entry in the route table, or a selected
