@@ -1,6 +1,7 @@
 -- The prefixes that a replay has seen, in the code's table.
 use Rattle.std.proofs.Common.{◌≡◌, ℕ, zero, suc, ◌<◌, Bool, true, false, ◌&&◌, cond, true≢false, nat_eq, List, [], ◌∷◌, Option, Some, None, is_some, slice_get, refl, sym, ap, ◌∙◌, length, arith}
-use Rattle.std.proofs.lemmas.Bool.{eqb-true}
+use Rattle.std.proofs.lemmas.Bool.{and_from, eqb-true, eq-eqb}
+use Rattle.std.specs.Cmp.{tied_itself}
 use Rattle.std.proofs.lemmas.Option.{same_Some}
 use Rattle.std.specs.Cmp.Lexicographic.{pointwise, same_text}
 use Rattle.std.specs.declared.cmp.Ordering.{Ordering}
@@ -12,7 +13,7 @@ use Rattle.indexmap.specs.IndexMap.{insert_entry, set_value_at}
 use Rattle.babel_value.specs.declared.keys.Peer.{Peer}
 use Rattle.babel_value.specs.Orders.{peer_cmp}
 use Rattle.babel_value.specs.Prefixes.{PrefixValue}
-use Rattle.babel_value.proofs.OrderLaws.{peer_exact}
+use Rattle.babel_value.proofs.OrderLaws.{peer_total, peer_exact}
 use Rattle.babel_state.specs.Sameness.{is_same_peer, is_same_prefix}
 use Rattle.babel_state.specs.State.{State}
 use Rattle.babel_lines.specs.declared.choices.Choice.{Choice}
@@ -57,12 +58,12 @@ both true true is = (refl, refl)
 both true false is = absurd (true≢false (sym is))
 both false b is = absurd (true≢false (sym is))
 
-tied : (r : Ordering) → is_eq r ≡ true → r ≡ Equal
+pub tied : (r : Ordering) → is_eq r ≡ true → r ≡ Equal
 tied Less is = absurd (true≢false (sym is))
 tied Equal is = refl
 tied Greater is = absurd (true≢false (sym is))
 
-same_route : (a b : Choice) → is_same_route a b ≡ true → a ≡ b
+pub same_route : (a b : Choice) → is_same_route a b ≡ true → a ≡ b
 same_route a b same =
     let (peer, rest) = both (is_same_peer a.peer b.peer) _ same in
     let (metric, others) = both (nat_eq a.metric b.metric) _ rest in
@@ -77,6 +78,18 @@ same_choice None None same = refl
 same_choice None (Some b) same = absurd (true≢false (sym same))
 same_choice (Some a) None same = absurd (true≢false (sym same))
 same_choice (Some a) (Some b) same = ap Some (same_route a b same)
+
+-- Each choice is the same as itself.
+itself : (xs : List ℕ) → pointwise nat_eq xs xs ≡ true
+itself [] = refl
+itself (x ∷ xs) = and_from (nat_eq x x) (pointwise nat_eq xs xs) (eq-eqb x x refl) (itself xs)
+
+pub is_itself : (c : Option Choice) → is_same_choice c c ≡ true
+is_itself None = refl
+is_itself (Some a) =
+    and_from (is_same_peer a.peer a.peer) _ (ap is_eq (tied_itself peer_total a.peer))
+    (and_from (nat_eq a.metric a.metric) _ (eq-eqb a.metric a.metric refl)
+    (and_from (pointwise nat_eq a.router a.router) (nat_eq a.seqno a.seqno) (itself a.router) (eq-eqb a.seqno a.seqno refl)))
 
 set_itself : (es : List SeenPrefix) (i : ℕ) (e : SeenPrefix) → slice_get es i ≡ Some e → es ≡ set_value_at es i e.1
 set_itself [] zero e at = refl

@@ -28,6 +28,11 @@ abbrev pub places_in : Action → List Placed
 places_in (actions.Receive iface source octets) = places_or_none (meaning octets.now source)
 places_in action = []
 
+-- The datagram can be read, and these are its places.
+abbrev pub IsDecoded : Action → List Placed → Type 0
+IsDecoded (actions.Receive iface source octets) placed = meaning octets.now source ≡ Ok placed
+IsDecoded action placed = ⊥
+
 abbrev pub note_line : ℕ → Placed × Note → List ℕ
 note_line time (placed, note) = line (note_text time placed note.verdict)
 

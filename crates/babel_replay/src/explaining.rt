@@ -150,7 +150,7 @@ fn take_event(speaker: &mut Speaker, event: &Event<'_>) -> Result<(), LineFault>
     ensures memory { IfErr result (λ fault. fault ≡ LineFault.Memory) }
     ensures unchanged { OnErr result (speaker.new ≡ speaker.old) }
 {
-    match step(speaker, event) {
+    match step(speaker, event, &[], false) {
         Ok(_) => {
             send_datagrams(speaker, event.time);
             Ok(())

@@ -1,15 +1,15 @@
 //! A log replayed: what the speaker makes of each line.
 
-ghost use Rattle.std.specs.Prelude.{◌≡◌, ◌≢◌, ◌≤◌, ◌⊎◌, [], length, slice_get, Err, IsOk, IsNone, OnOk, IfOk, IfErr};
+ghost use Rattle.std.specs.Prelude.{◌≡◌, ◌≢◌, ◌≤◌, ◌⊎◌, [], length, slice_get, Err, IsOk, IsNone, OnOk, IfOk, IfErr, IsTrue, MatchOption};
 ghost use Rattle.std.specs.Io.KnownBytes.{Appends};
 ghost use Rattle.std.specs.Option.{option_map_or};
-ghost use Rattle.indexmap.specs.IndexMap.{spare, set_value_at};
+ghost use Rattle.indexmap.specs.IndexMap.{set_value_at};
 ghost use Rattle.babel_state.specs.Calls.{first_state};
 ghost use Rattle.babel_state.specs.Configs.{config_fault};
 ghost use Rattle.babel_speaker.specs.Making.{IsMakingFault};
 ghost use Rattle.babel_replay.specs.declared.errors.LineFault.TheVariants.{Memory, Write};
 ghost use Rattle.babel_replay.specs.LogReports.{room, whole_report, IsCause, IsReplayFault, IsStopped, OfAllLines, OfLinesBefore, Writes};
-ghost use Rattle.babel_replay.specs.Report.{places_in, note_lines, outcome_lines, seen_by, select_line, select_lines, Reports, ReportsStep, Sends, table_line, table_lines};
+ghost use Rattle.babel_replay.specs.Report.{places_in, IsDecoded, note_lines, outcome_lines, seen_by, select_line, select_lines, Reports, ReportsStep, Sends, table_line, table_lines};
 ghost use Rattle.babel_replay.specs.Seen.{updates_in, choice_at, choice_printed, printed_all};
 ghost use Rattle.babel_replay.specs.Taking.{IsReported, IsReportedLine, TakesLine};
 
@@ -96,7 +96,7 @@ impl Replayer {
     /// A speaker of the configuration, of which nothing was seen yet.
     fn new(alloc: Global, config: Config) -> Result<Replayer, ConfigFault>
         ensures speaker { IfOk result (λ replayer. replayer.speaker ≡ first_state config) }
-        ensures seen { IfOk result (λ replayer. replayer.seen.choices.entries ≡ []) }
+        ensures seen { IfOk result (λ replayer. replayer.seen.entries ≡ []) }
         ensures valid { IsOk result → IsNone (config_fault config) }
         ensures refused { IfErr result (IsMakingFault (config_fault config)) }
     {
@@ -116,7 +116,7 @@ impl Replayer {
         log: &mut R,
         out: &mut W,
     ) -> Result<(), ReplayFault>
-        requires { self.old.seen.choices.entries ≡ [] }
+        requires { self.old.seen.entries ≡ [] }
         ensures report { OnOk result (OfAllLines (R.remaining log.old) (Writes whole_report self.old.speaker (W.contents out.old) (W.contents out.new))) }
         ensures fault { IfErr result (IsStopped whole_report self.old.speaker (R.remaining log.old) (W.contents out.old) (W.contents out.new)) }
     {
@@ -137,8 +137,8 @@ impl Replayer {
         number: &mut u64,
     ) -> Result<(), LineFault>
         requires { number.old ≡ 1 }
-        ensures taken { OnOk result (OfAllLines (R.remaining log.old) (IsReported number.new self.old.speaker self.old.seen.choices.entries self.new.speaker self.new.seen.choices.entries (W.contents out.old) (W.contents out.new))) }
-        ensures fault { IfErr result (λ fault. OfLinesBefore (R.remaining log.old) number.new fault (IsReported number.new self.old.speaker self.old.seen.choices.entries self.new.speaker self.new.seen.choices.entries (W.contents out.old) (W.contents out.new))) }
+        ensures taken { OnOk result (OfAllLines (R.remaining log.old) (IsReported number.new self.old.speaker self.old.seen.entries self.new.speaker self.new.seen.entries (W.contents out.old) (W.contents out.new))) }
+        ensures fault { IfErr result (λ fault. OfLinesBefore (R.remaining log.old) number.new fault (IsReported number.new self.old.speaker self.old.seen.entries self.new.speaker self.new.seen.entries (W.contents out.old) (W.contents out.new))) }
     {
         match Buffers::new(self.alloc) {
             Ok(mut buffers) => {
@@ -158,8 +158,8 @@ impl Replayer {
         number: &mut u64,
     ) -> Result<(), LineFault>
         requires { length octets.old ≡ room }
-        ensures taken { OnOk result (OfAllLines (R.remaining log.old) (IsReported number.new self.old.speaker self.old.seen.choices.entries self.new.speaker self.new.seen.choices.entries (W.contents out.old) (W.contents out.new))) }
-        ensures fault { IfErr result (λ fault. OfLinesBefore (R.remaining log.old) number.new fault (IsReported number.new self.old.speaker self.old.seen.choices.entries self.new.speaker self.new.seen.choices.entries (W.contents out.old) (W.contents out.new))) }
+        ensures taken { OnOk result (OfAllLines (R.remaining log.old) (IsReported number.new self.old.speaker self.old.seen.entries self.new.speaker self.new.seen.entries (W.contents out.old) (W.contents out.new))) }
+        ensures fault { IfErr result (λ fault. OfLinesBefore (R.remaining log.old) number.new fault (IsReported number.new self.old.speaker self.old.seen.entries self.new.speaker self.new.seen.entries (W.contents out.old) (W.contents out.new))) }
     {
         for turn in 1..u64::MAX {
             *number = turn;
@@ -185,9 +185,9 @@ impl Replayer {
         out: &mut W,
     ) -> Result<bool, LineFault>
         requires { length octets.old ≡ room }
-        ensures taken { IfOk result (λ more. TakesLine (R.remaining log.old) (R.remaining log.new) more (IsReportedLine self.old.speaker self.old.seen.choices.entries self.new.speaker self.new.seen.choices.entries (W.contents out.old) (W.contents out.new)) ((self.new.speaker ≡ self.old.speaker) × (self.new.seen.choices.entries ≡ self.old.seen.choices.entries) × (W.contents out.new ≡ W.contents out.old))) }
+        ensures taken { IfOk result (λ more. TakesLine (R.remaining log.old) (R.remaining log.new) more (IsReportedLine self.old.speaker self.old.seen.entries self.new.speaker self.new.seen.entries (W.contents out.old) (W.contents out.new)) ((self.new.speaker ≡ self.old.speaker) × (self.new.seen.entries ≡ self.old.seen.entries) × (W.contents out.new ≡ W.contents out.old))) }
         ensures cause { IfErr result (IsCause (R.remaining log.old) []) }
-        ensures unchanged { IfErr result (λ fault. fault ≢ Write → (self.new.speaker ≡ self.old.speaker) × (self.new.seen.choices.entries ≡ self.old.seen.choices.entries) × (W.contents out.new ≡ W.contents out.old)) }
+        ensures unchanged { IfErr result (λ fault. fault ≢ Write → (self.new.speaker ≡ self.old.speaker) × (self.new.seen.entries ≡ self.old.seen.entries) × (W.contents out.new ≡ W.contents out.old)) }
     {
         let more = read_line(log, line)?;
         if !more {
@@ -207,30 +207,34 @@ impl Replayer {
     /// Makes the step of a line, and writes its report. All memory is allocated before anything is
     /// changed or written.
     fn take_event<W: Write>(&mut self, event: &Event<'_>, out: &mut W) -> Result<(), LineFault>
-        ensures report { OnOk result (Reports event.now.time event.now.action self.old.speaker self.old.seen.choices.entries self.new.speaker self.new.seen.choices.entries (W.contents out.old) (W.contents out.new)) }
+        ensures report { OnOk result (Reports event.now.time event.now.action self.old.speaker self.old.seen.entries self.new.speaker self.new.seen.entries (W.contents out.old) (W.contents out.new)) }
         ensures fault { IfErr result (λ fault. (fault ≡ Memory) ⊎ (fault ≡ Write)) }
-        ensures unchanged { IfErr result (λ fault. fault ≢ Write → (self.new.speaker ≡ self.old.speaker) × (self.new.seen.choices.entries ≡ self.old.seen.choices.entries) × (W.contents out.new ≡ W.contents out.old)) }
+        ensures unchanged { IfErr result (λ fault. fault ≢ Write → (self.new.speaker ≡ self.old.speaker) × (self.new.seen.entries ≡ self.old.seen.entries) × (W.contents out.new ≡ W.contents out.old)) }
     {
-        let placed = self.decode(event)?;
-        self.take_placed(event, &placed, out)
+        match self.decode(event)? {
+            Some(placed) => self.take_placed(event, &placed, true, out),
+            None => self.take_placed(event, &[], false, out),
+        }
     }
 
-    /// The same with what the line's datagram means.
+    /// The same with what the line's datagram means, and whether it has one that can be read.
     fn take_placed<W: Write>(
         &mut self,
         event: &Event<'_>,
         placed: &[Placed],
+        is_decoded: bool,
         out: &mut W,
     ) -> Result<(), LineFault>
-        requires { placed.now ≡ places_in event.now.action }
-        ensures report { OnOk result (Reports event.now.time event.now.action self.old.speaker self.old.seen.choices.entries self.new.speaker self.new.seen.choices.entries (W.contents out.old) (W.contents out.new)) }
+        requires places { placed.now ≡ places_in event.now.action }
+        requires decoded { IsTrue is_decoded → IsDecoded event.now.action placed.now }
+        ensures report { OnOk result (Reports event.now.time event.now.action self.old.speaker self.old.seen.entries self.new.speaker self.new.seen.entries (W.contents out.old) (W.contents out.new)) }
         ensures fault { IfErr result (λ fault. (fault ≡ Memory) ⊎ (fault ≡ Write)) }
-        ensures unchanged { IfErr result (λ fault. fault ≢ Write → (self.new.speaker ≡ self.old.speaker) × (self.new.seen.choices.entries ≡ self.old.seen.choices.entries) × (W.contents out.new ≡ W.contents out.old)) }
+        ensures unchanged { IfErr result (λ fault. fault ≢ Write → (self.new.speaker ≡ self.old.speaker) × (self.new.seen.entries ≡ self.old.seen.entries) × (W.contents out.new ≡ W.contents out.old)) }
     {
         if self.seen.reserve(placed).is_err() {
             return Err(LineFault::Memory);
         }
-        let outcome = step(&mut self.speaker, event)?;
+        let outcome = step(&mut self.speaker, event, placed, is_decoded)?;
         self.write_report(event.time, placed, &outcome, out)
     }
 
@@ -242,8 +246,8 @@ impl Replayer {
         outcome: &Outcome,
         out: &mut W,
     ) -> Result<(), LineFault>
-        requires { updates_in placed.now ≤ spare self.old.seen.choices }
-        ensures report { OnOk result (ReportsStep time placed.now outcome.now self.old.speaker self.old.seen.choices.entries self.new.speaker self.new.seen.choices.entries (W.contents out.old) (W.contents out.new)) }
+        requires { updates_in placed.now ≤ self.old.seen.room }
+        ensures report { OnOk result (ReportsStep time placed.now outcome.now self.old.speaker self.old.seen.entries self.new.speaker self.new.seen.entries (W.contents out.old) (W.contents out.new)) }
         ensures failed { IfErr result (λ fault. fault ≡ LineFault.Write) }
     {
         self.write_outcome(time, placed, outcome, out)?;
@@ -259,9 +263,9 @@ impl Replayer {
         outcome: &Outcome,
         out: &mut W,
     ) -> Result<(), LineFault>
-        requires { updates_in placed.now ≤ spare self.old.seen.choices }
+        requires { updates_in placed.now ≤ self.old.seen.room }
         ensures written { OnOk result (Appends (W.contents out.old) (W.contents out.new) (outcome_lines time placed.now outcome.now)) }
-        ensures seen { OnOk result (self.new.seen.choices.entries ≡ seen_by placed.now outcome.now self.old.seen.choices.entries) }
+        ensures seen { OnOk result (self.new.seen.entries ≡ seen_by placed.now outcome.now self.old.seen.entries) }
         ensures speaker { self.new.speaker ≡ self.old.speaker }
         ensures failed { IfErr result (λ fault. fault ≡ LineFault.Write) }
     {
@@ -284,8 +288,8 @@ impl Replayer {
         taken: Result<(), LineFault>,
         out: &mut W,
     ) -> Result<(), LineFault>
-        ensures ok { OnOk result (IsOk taken × Appends (W.contents out.old) (W.contents out.new) (table_lines self.now.speaker self.now.seen.choices.entries)) }
-        ensures fault { IfErr result (λ fault. (fault ≡ LineFault.Write) ⊎ ((taken ≡ Err fault) × Appends (W.contents out.old) (W.contents out.new) (table_lines self.now.speaker self.now.seen.choices.entries))) }
+        ensures ok { OnOk result (IsOk taken × Appends (W.contents out.old) (W.contents out.new) (table_lines self.now.speaker self.now.seen.entries)) }
+        ensures fault { IfErr result (λ fault. (fault ≡ LineFault.Write) ⊎ ((taken ≡ Err fault) × Appends (W.contents out.old) (W.contents out.new) (table_lines self.now.speaker self.now.seen.entries))) }
     {
         if let Err(LineFault::Write) = taken {
             return taken;
@@ -295,25 +299,40 @@ impl Replayer {
     }
 
     /// What the line's datagram means, if it has one that can be read.
-    fn decode(&self, event: &Event<'_>) -> Result<Vec<Placed>, LineFault>
-        ensures ok { IfOk result (λ placed. placed.items ≡ places_in event.now.action) }
+    fn decode(&self, event: &Event<'_>) -> Result<Option<Vec<Placed>>, LineFault>
+        ensures ok { IfOk result (λ found. MatchOption found (places_in event.now.action ≡ []) (λ placed. IsDecoded event.now.action placed.items)) }
         ensures memory { IfErr result (λ fault. fault ≡ LineFault.Memory) }
     {
         let Action::Receive { source, octets, .. } = event.action else {
-            return Ok(Vec::new(self.alloc));
+            return Ok(None);
         };
         match decode(self.alloc, octets, source) {
-            Ok(placed) => Ok(placed),
+            Ok(placed) => Ok(Some(placed)),
             Err(Refusal::Memory) => Err(LineFault::Memory),
-            Err(_) => Ok(Vec::new(self.alloc)),
+            Err(_) => Ok(None),
         }
     }
 
     /// Writes a `select` line for each seen prefix whose selected route isn't the one that was last
-    /// printed.
+    /// printed. Mostly there is none, which one walk over the selections shows.
     fn write_selections<W: Write>(&mut self, time: u64, out: &mut W) -> Result<(), LineFault>
-        ensures written { OnOk result (Appends (W.contents out.old) (W.contents out.new) (select_lines time self.old.speaker self.old.seen.choices.entries)) }
-        ensures seen { OnOk result (self.new.seen.choices.entries ≡ printed_all self.old.speaker self.old.seen.choices.entries) }
+        ensures written { OnOk result (Appends (W.contents out.old) (W.contents out.new) (select_lines time self.old.speaker self.old.seen.entries)) }
+        ensures seen { OnOk result (self.new.seen.entries ≡ printed_all self.old.speaker self.old.seen.entries) }
+        ensures speaker { self.new.speaker ≡ self.old.speaker }
+        ensures failed { IfErr result (λ fault. fault ≡ LineFault.Write) }
+    {
+        if self.seen.are_current(&self.speaker) {
+            return Ok(());
+        }
+        self.write_changes(time, out)?;
+        self.seen.remember(&self.speaker);
+        Ok(())
+    }
+
+    /// The same, by a look at each seen prefix.
+    fn write_changes<W: Write>(&mut self, time: u64, out: &mut W) -> Result<(), LineFault>
+        ensures written { OnOk result (Appends (W.contents out.old) (W.contents out.new) (select_lines time self.old.speaker self.old.seen.entries)) }
+        ensures seen { OnOk result (self.new.seen.entries ≡ printed_all self.old.speaker self.old.seen.entries) }
         ensures speaker { self.new.speaker ≡ self.old.speaker }
         ensures failed { IfErr result (λ fault. fault ≡ LineFault.Write) }
     {
@@ -330,8 +349,8 @@ impl Replayer {
         time: u64,
         out: &mut W,
     ) -> Result<(), LineFault>
-        ensures written { OnOk result (Appends (W.contents out.old) (W.contents out.new) (option_map_or (select_line time self.old.speaker) (slice_get self.old.seen.choices.entries index) [])) }
-        ensures seen { OnOk result (self.new.seen.choices.entries ≡ option_map_or (λ e. set_value_at self.old.seen.choices.entries index (choice_printed self.old.speaker e)) (slice_get self.old.seen.choices.entries index) self.old.seen.choices.entries) }
+        ensures written { OnOk result (Appends (W.contents out.old) (W.contents out.new) (option_map_or (select_line time self.old.speaker) (slice_get self.old.seen.entries index) [])) }
+        ensures seen { OnOk result (self.new.seen.entries ≡ option_map_or (λ e. set_value_at self.old.seen.entries index (choice_printed self.old.speaker e)) (slice_get self.old.seen.entries index) self.old.seen.entries) }
         ensures speaker { self.new.speaker ≡ self.old.speaker }
         ensures failed { IfErr result (λ fault. fault ≡ LineFault.Write) }
     {
@@ -339,24 +358,12 @@ impl Replayer {
             return Ok(());
         };
         let (prefix, last) = seen;
-        let choice = self.choice_near(&prefix, index);
+        let choice = self.choice(&prefix);
         if is_same(&choice, &last) {
             return Ok(());
         }
         self.seen.set(index, choice);
         write_line(out, &select_line(time, &prefix, &choice))
-    }
-
-    /// What is printed of the selected route of the prefix, which is the seen one at the index.
-    fn choice_near(&mut self, prefix: &Prefix, index: usize) -> Option<Choice>
-        ensures choice { result ≡ choice_at self.old.speaker prefix.now }
-        ensures speaker { self.new.speaker ≡ self.old.speaker }
-        ensures seen { self.new.seen.choices.entries ≡ self.old.seen.choices.entries }
-    {
-        match self.seen.cursors.get_mut(index) {
-            Some(cursor) => self.speaker.selected_near(prefix, cursor).map(choice_of),
-            None => self.choice(prefix),
-        }
     }
 
     /// What is printed of the prefix's selected route.
@@ -368,7 +375,7 @@ impl Replayer {
 
     /// Writes a `table` line for each seen prefix, and flushes.
     fn write_table<W: Write>(&self, out: &mut W) -> Result<(), LineFault>
-        ensures written { OnOk result (Appends (W.contents out.old) (W.contents out.new) (table_lines self.now.speaker self.now.seen.choices.entries)) }
+        ensures written { OnOk result (Appends (W.contents out.old) (W.contents out.new) (table_lines self.now.speaker self.now.seen.entries)) }
         ensures failed { IfErr result (λ fault. fault ≡ LineFault.Write) }
     {
         for index in 0..self.seen.len() {
@@ -382,7 +389,7 @@ impl Replayer {
 
     /// The line of the seen prefix at the index.
     fn write_table_line<W: Write>(&self, index: usize, out: &mut W) -> Result<(), LineFault>
-        ensures written { OnOk result (Appends (W.contents out.old) (W.contents out.new) (option_map_or (table_line self.now.speaker) (slice_get self.now.seen.choices.entries index) [])) }
+        ensures written { OnOk result (Appends (W.contents out.old) (W.contents out.new) (option_map_or (table_line self.now.speaker) (slice_get self.now.seen.entries index) [])) }
         ensures failed { IfErr result (λ fault. fault ≡ LineFault.Write) }
     {
         let Some((prefix, _)) = self.seen.get(index) else {

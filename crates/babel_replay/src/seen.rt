@@ -1,17 +1,20 @@
 //! The prefixes that a replay has seen, in the order in which it saw them first, with the route that
 //! was last printed of each.
 
-ghost use Rattle.std.specs.Prelude.{◌≡◌, ◌+◌, ◌≤◌, ◌<◌, [], length, zip, slice_get, OnOk};
-ghost use Rattle.indexmap.specs.IndexMap.{spare, set_value_at};
-ghost use Rattle.babel_replay.specs.Seen.{choice_of, is_same_choice, updated, updates_in, stored, with_seen, seen_after};
+ghost use Rattle.std.specs.Prelude.{◌≡◌, ◌+◌, ◌≤◌, ◌<◌, [], length, zip, slice_get, Some, OnOk, IsTrue};
+ghost use Rattle.indexmap.specs.IndexMap.{set_value_at};
+ghost use Rattle.babel_state.specs.State.{cost_at};
+ghost use Rattle.babel_replay.specs.Seen.{choice_of, is_same_route, is_same_choice, choices_in, updated, updates_in, stored, with_seen, seen_after, printed_all, IsCostOf};
 
 use babel_lines::Choice;
 use babel_packet::{Content, Message, Placed};
-use babel_route::Cursor;
+use babel_route::{Entry, Selection};
+use babel_speaker::Speaker;
 use babel_state::{Note, Selected, Verdict};
-use babel_value::Prefix;
+use babel_value::{Metric, Peer, Prefix};
 use indexmap::IndexMap;
 use std::alloc::{AllocError, Global};
+use std::marker::Model;
 
 /// What is printed of a selected route.
 pub(crate) fn choice_of(selected: Selected) -> Choice
@@ -31,49 +34,134 @@ pub(crate) fn is_same(a: &Option<Choice>, b: &Option<Choice>) -> bool
 {
     match (a, b) {
         (None, None) => true,
-        (Some(a), Some(b)) => {
-            a.peer.cmp(&b.peer).is_eq()
-                && a.metric == b.metric
-                && a.router == b.router
-                && a.seqno == b.seqno
-        }
+        (Some(a), Some(b)) => is_same_route(a, b),
         _ => false,
     }
 }
 
-/// The seen prefixes.
+fn is_same_route(a: &Choice, b: &Choice) -> bool
+    ensures { result ≡ is_same_route a.now b.now }
+{
+    a.peer.cmp(&b.peer).is_eq()
+        && a.metric == b.metric
+        && a.router == b.router
+        && a.seqno == b.seqno
+}
+
+/// The cost of the link to the neighbour. If it is the one that was looked up last, it isn't looked up again.
+fn link_cost(speaker: &Speaker, peer: &Peer, last: &mut Option<(Peer, Metric)>) -> Metric
+    requires last { IsCostOf speaker.now last.old }
+    ensures cost { result ≡ cost_at speaker.now peer.now }
+    ensures last { IsCostOf speaker.now last.new }
+{
+    if let Some((known, cost)) = *last {
+        if known.cmp(peer).is_eq() {
+            return cost;
+        }
+    }
+    let cost = speaker.cost(peer);
+    *last = Some((*peer, cost));
+    cost
+}
+
+/// What is printed of the selection at the index, in the order of the prefixes.
+fn choice_in(
+    speaker: &Speaker,
+    index: usize,
+    last: &mut Option<(Peer, Metric)>,
+) -> Option<(Prefix, Choice)>
+    requires last { IsCostOf speaker.now last.old }
+    ensures choice { result ≡ slice_get (choices_in speaker.now) index }
+    ensures last { IsCostOf speaker.now last.new }
+{
+    let (prefix, selection) = speaker.selection_at(index)?;
+    let Selection { peer, entry } = selection;
+    let Entry {
+        router,
+        distance,
+        ..
+    } = entry;
+    let choice = Choice {
+        peer,
+        metric: distance.metric.add(link_cost(speaker, &peer, last)),
+        router,
+        seqno: distance.seqno,
+    };
+    Some((prefix, choice))
+}
+
+/// Whether the prefix and what is printed of its selection are these.
+fn is_choice(found: &Option<(Prefix, Choice)>, prefix: &Prefix, choice: &Choice) -> bool
+    ensures { IsTrue result → found.now ≡ Some (prefix.now, choice.now) }
+{
+    match found {
+        Some((p, c)) => p.cmp(prefix).is_eq() && is_same_route(c, choice),
+        None => false,
+    }
+}
+
+/// Whether this is what is printed of all selections.
+fn are_choices(choices: &[(Prefix, Choice)], speaker: &Speaker) -> bool
+    ensures { IsTrue result → choices.now ≡ choices_in speaker.now }
+{
+    let mut last = None;
+    for index in 0..choices.len() {
+        let (prefix, choice) = &choices[index];
+        if !is_choice(&choice_in(speaker, index, &mut last), prefix, choice) {
+            return false;
+        }
+    }
+    choice_in(speaker, choices.len(), &mut last).is_none()
+}
+
+/// The seen prefixes. A clause sees them in the order in which each was seen first, with what was last printed of it.
 #[derive(Drop)]
 pub(crate) struct SeenPrefixes {
-    choices: IndexMap<Prefix, Option<Choice>>,
-    /// Where the selection of each was last found. They only matter for speed.
-    pub(crate) cursors: Vec<Cursor>,
+    table: IndexMap<Prefix, Option<Choice>>,
+    // What is printed of all selections, as they were when all were compared last.
+    choices: Vec<(Prefix, Choice)>,
+    // Whether that is what was last printed of each seen prefix. It only matters for speed.
+    is_known: bool,
+}
+
+impl Model for SeenPrefixes {
+    ghost use Rattle.std.specs.Prelude.{IsTrue};
+    ghost use Rattle.indexmap.specs.IndexMap.{spare};
+    ghost use Rattle.babel_replay.specs.Seen.{SeenTable, ArePrinted};
+
+    ghost Value = { SeenTable };
+
+    ghost view = { λ s. record { entries = s.table.entries; room = spare s.table } };
+
+    ghost invariant = { λ s. IsTrue s.is_known → ArePrinted s.choices.items s.table.entries };
 }
 
 impl SeenPrefixes {
     /// None, which takes no memory.
     pub(crate) fn new(alloc: Global) -> SeenPrefixes
-        ensures { result.choices.entries ≡ [] }
+        ensures { result.entries ≡ [] }
     {
         SeenPrefixes {
-            choices: IndexMap::new(alloc),
-            cursors: Vec::new(alloc),
+            table: IndexMap::new(alloc),
+            choices: Vec::new(alloc),
+            is_known: false,
         }
     }
 
     /// Makes room for as many more as a datagram of these places may name.
     pub(crate) fn reserve(&mut self, placed: &[Placed]) -> Result<(), AllocError>
-        ensures unchanged { self.new.choices.entries ≡ self.old.choices.entries }
-        ensures room { OnOk result (updates_in placed.now ≤ spare self.new.choices) }
+        ensures unchanged { self.new.entries ≡ self.old.entries }
+        ensures room { OnOk result (updates_in placed.now ≤ self.new.room) }
     {
         let more = count_updates(placed);
-        self.cursors.reserve(more)?;
-        self.choices.reserve(more)
+        self.choices.reserve(more)?;
+        self.table.reserve(more)
     }
 
     /// Adds the prefixes of the Updates that were stored.
     pub(crate) fn add_stored(&mut self, placed: &[Placed], notes: &[Note])
-        requires { updates_in placed.now ≤ spare self.old.choices }
-        ensures { self.new.choices.entries ≡ seen_after (zip placed.now notes.now) self.old.choices.entries }
+        requires { updates_in placed.now ≤ self.old.room }
+        ensures { self.new.entries ≡ seen_after (zip placed.now notes.now) self.old.entries }
     {
         for (place, note) in placed.iter().zip(notes) {
             if let Some(prefix) = stored_prefix(place, note) {
@@ -84,40 +172,79 @@ impl SeenPrefixes {
 
     /// Adds a prefix, for which there is room.
     fn add(&mut self, prefix: Prefix)
-        requires { 0 < spare self.old.choices }
-        ensures seen { self.new.choices.entries ≡ with_seen prefix self.old.choices.entries }
-        ensures room { spare self.old.choices ≤ spare self.new.choices + 1 }
+        requires { 0 < self.old.room }
+        ensures seen { self.new.entries ≡ with_seen prefix self.old.entries }
+        ensures room { self.old.room ≤ self.new.room + 1 }
     {
-        if !self.choices.contains_key(&prefix) {
-            let _ = self.choices.insert(prefix, None);
-            // There is room for it too.
-            let _ = self.cursors.push(Cursor::new());
+        if !self.table.contains_key(&prefix) {
+            self.is_known = false;
+            let _ = self.table.insert(prefix, None);
         }
     }
 
     /// How many there are.
     pub(crate) fn len(&self) -> usize
-        ensures { result ≡ length self.now.choices.entries }
+        ensures { result ≡ length self.now.entries }
     {
-        self.choices.len()
+        self.table.len()
     }
 
     /// The prefix at the index, and what was last printed of it.
     pub(crate) fn get(&self, index: usize) -> Option<(Prefix, Option<Choice>)>
-        ensures { result ≡ slice_get self.now.choices.entries index }
+        ensures { result ≡ slice_get self.now.entries index }
     {
-        let (prefix, choice) = self.choices.get_index(index)?;
+        let (prefix, choice) = self.table.get_index(index)?;
         Some((*prefix, *choice))
     }
 
     /// Notes what is printed of the prefix at the index.
     pub(crate) fn set(&mut self, index: usize, choice: Option<Choice>)
-        ensures { self.new.choices.entries ≡ set_value_at self.old.choices.entries index choice }
+        ensures { self.new.entries ≡ set_value_at self.old.entries index choice }
     {
-        if let Some(last) = self.choices.get_index_mut(index) {
-            *last = choice;
+        self.is_known = false;
+        set_choice(&mut self.table, index, choice);
+    }
+
+    /// Whether nothing changed since all were compared: then what was last printed of each is what is selected now. It
+    /// is one walk over the selections.
+    pub(crate) fn are_current(&self, speaker: &Speaker) -> bool
+        ensures { IsTrue result → self.now.entries ≡ printed_all speaker.now self.now.entries }
+    {
+        self.is_known && are_choices(&self.choices, speaker)
+    }
+
+    /// Notes the selections, which are what was last printed of each.
+    pub(crate) fn remember(&mut self, speaker: &Speaker)
+        requires { self.old.entries ≡ printed_all speaker.now self.old.entries }
+        ensures { self.new ≡ self.old }
+    {
+        self.is_known = gather_choices(&mut self.choices, speaker);
+    }
+}
+
+/// Stores what is printed of the prefix at the index.
+fn set_choice(table: &mut IndexMap<Prefix, Option<Choice>>, index: usize, choice: Option<Choice>)
+    ensures { table.new.entries ≡ set_value_at table.old.entries index choice }
+{
+    if let Some(last) = table.get_index_mut(index) {
+        *last = choice;
+    }
+}
+
+/// Makes the list that of what is printed of all selections. False: there is no room for all.
+fn gather_choices(choices: &mut Vec<(Prefix, Choice)>, speaker: &Speaker) -> bool
+    ensures { IsTrue result → choices.new.items ≡ choices_in speaker.now }
+{
+    choices.clear();
+    let mut last = None;
+    let room = choices.capacity();
+    for index in 0..room {
+        match choice_in(speaker, index, &mut last) {
+            Some(choice) => choices.push_reserved(choice),
+            None => return true,
         }
     }
+    choice_in(speaker, choices.len(), &mut last).is_none()
 }
 
 /// How many of the places are Updates.

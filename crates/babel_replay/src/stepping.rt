@@ -1,13 +1,18 @@
 //! The speaker's step for a line of a log.
 
-ghost use Rattle.std.specs.Prelude.{◌≡◌, IfOk, IfErr, OnErr};
+ghost use Rattle.std.specs.Prelude.{◌≡◌, Ok, IfOk, IfErr, OnErr, IsTrue};
+ghost use Rattle.babel_packet.specs.Meaning.{meaning};
+ghost use Rattle.babel_state.specs.Addresses.{source_fault};
+ghost use Rattle.babel_state.specs.Messages.{Receives, IsRecvFault};
+ghost use Rattle.babel_replay.specs.Report.{IsDecoded};
 ghost use Rattle.babel_replay.specs.Stepping.{Steps};
 ghost use Rattle.babel_replay.specs.declared.errors.LineFault.TheVariants.{Memory};
 
 use crate::{Action, Event, LineFault};
-use babel_packet::Refusal;
+use babel_packet::{Placed, Refusal};
 use babel_speaker::Speaker;
 use babel_state::{Note, RecvFault, SetCostFault};
+use babel_value::Addr;
 
 /// What the speaker returned.
 #[derive(Drop)]
@@ -22,8 +27,37 @@ pub(crate) enum Outcome {
     CostRefused(SetCostFault),
 }
 
-/// Makes the speaker's step for the line. The only fault is memory, and then the speaker is unchanged.
-pub(crate) fn step(speaker: &mut Speaker, event: &Event<'_>) -> Result<Outcome, LineFault>
+/// Takes a datagram. If it is decoded already, `placed` is what it means, and it isn't decoded again.
+fn receive(
+    speaker: &mut Speaker,
+    time: u64,
+    iface: u8,
+    source: Addr,
+    octets: &[u8],
+    placed: &[Placed],
+    is_decoded: bool,
+) -> Result<Vec<Note>, RecvFault>
+    requires decoded { IsTrue is_decoded → meaning octets.now source ≡ Ok placed.now }
+    ensures ok { IfOk result (λ notes. Receives time (record { iface = iface; addr = source }) (source_fault iface source speaker.old) (meaning octets.now source) speaker.old speaker.new notes.items) }
+    ensures refused { IfErr result (IsRecvFault (source_fault iface source speaker.old) (meaning octets.now source)) }
+    ensures unchanged { OnErr result (speaker.new ≡ speaker.old) }
+{
+    if is_decoded {
+        speaker.receive_decoded(time, iface, source, octets, placed)
+    } else {
+        speaker.receive(time, iface, source, octets)
+    }
+}
+
+/// Makes the speaker's step for the line. The only fault is memory, and then the speaker is unchanged. If the line's
+/// datagram is decoded already, `placed` is what it means, and it isn't decoded again.
+pub(crate) fn step(
+    speaker: &mut Speaker,
+    event: &Event<'_>,
+    placed: &[Placed],
+    is_decoded: bool,
+) -> Result<Outcome, LineFault>
+    requires decoded { IsTrue is_decoded → IsDecoded event.now.action placed.now }
     ensures ok { IfOk result (λ outcome. Steps event.now.time event.now.action speaker.old speaker.new outcome) }
     ensures memory { IfErr result (λ fault. fault ≡ Memory) }
     ensures unchanged { OnErr result (speaker.new ≡ speaker.old) }
@@ -37,7 +71,8 @@ pub(crate) fn step(speaker: &mut Speaker, event: &Event<'_>) -> Result<Outcome, 
             let Ok(iface) = u8::try_from(iface) else {
                 return Ok(Outcome::Refused(RecvFault::NoInterface));
             };
-            match speaker.receive(event.time, iface, source, octets) {
+            let time = event.time;
+            match receive(speaker, time, iface, source, octets, placed, is_decoded) {
                 Ok(notes) => Ok(Outcome::Notes(notes)),
                 Err(RecvFault::Refused(Refusal::Memory)) => Err(LineFault::Memory),
                 Err(fault) => Ok(Outcome::Refused(fault)),

@@ -1,13 +1,22 @@
-use Rattle.std.proofs.Common.{◌∙◌}
-use Rattle.babel_replay.proofs.Printing.{selection_goes}
+-- Nothing changed, or all was printed.
+use Rattle.std.proofs.Common.{sym, ap, subst, ◌∙◌}
+use Rattle.std.specs.Io.KnownBytes.{Appends}
+use Rattle.babel_replay.specs.Seen.{printed_all}
+use Rattle.babel_replay.proofs.Remembering.{no_lines, printed_again}
+use Rattle.babel_replay.proofs.Writing.{appends_none}
 use Rattle.babel_replay.proofs.replaying.Replayer.write_selections.Goals as goal
 
-pub loop-index-preserved : goal.loop-index-preserved
-loop-index-preserved g c =
-    let step =
-    selection_goes c.args.time c.args.self.now.speaker c.args.self.now.seen.choices.entries c.loop-index.index c.loop-index.self.speaker
-    c.loop-index.self.seen.choices.entries c.write_selection.new.self.seen.choices.entries
-    (g.W.Write.contents c.args.out.now) (g.W.Write.contents c.loop-index.out) (g.W.Write.contents c.write_selection.new.out) _
-    c.loop-index.invariant.0 c.loop-index.invariant.1 c.loop-index.invariant.2
-    c.in_ok-write_selection.ensures.written c.in_ok-write_selection.ensures.seen in
-    (c.write_selection.ensures.speaker ∙ c.loop-index.invariant.0, step.0, step.1)
+pub returns-then-are_current-clause-written : goal.returns-then-are_current-clause-written
+returns-then-are_current-clause-written g c =
+    let contents = g.W.Write.contents c.args.out.now in
+    subst (Appends contents contents)
+    (sym (no_lines c.args.time c.args.self.now.speaker c.args.self.now.seen.entries (c.are_current.ensures c.if-are_current.true)))
+    (appends_none contents)
+
+pub remember-requires : goal.remember-requires
+remember-requires g c =
+    let now = c.args.self.now in
+    c.in_ok-write_changes.ensures.seen
+    ∙ printed_again now.speaker now.seen.entries
+    ∙ ap (printed_all now.speaker) (sym c.in_ok-write_changes.ensures.seen)
+    ∙ ap (λ s. printed_all s c.write_changes.new.self.seen.entries) (sym c.write_changes.ensures.speaker)
