@@ -1,21 +1,22 @@
 -- What keeps all selections current, and what there is to do then.
-use Rattle.std.specs.Prelude.{◌≡◌, ℕ, Bool, true}
+use Rattle.std.specs.Prelude.{◌≡◌, ℕ, Bool, true, List, []}
 use Rattle.std.specs.FinMap.{is_sorted}
-use Rattle.std.proofs.Common.{sym, ◌∙◌, subst}
+use Rattle.std.proofs.Common.{sym, ap, ◌∙◌, subst}
 use Rattle.babel_value.specs.declared.keys.Peer.{Peer}
 use Rattle.babel_value.specs.Orders.{prefix_cmp}
 use Rattle.babel_route.specs.RouteKeys.{route_cmp}
+use Rattle.babel_route.specs.Selections.{IsCurrent}
 use Rattle.babel_state.specs.State.{State}
 use Rattle.babel_state.specs.Reselection.{reselect_all}
-use Rattle.babel_state.specs.Ticks.{interfaces_ticked, requests_ticked}
+use Rattle.babel_state.specs.Ticks.{forget_each, interfaces_ticked, requests_ticked}
 use Rattle.babel_state.specs.CurrentSelections.{AreCurrent}
 use Rattle.babel_state.proofs.CurrentLaws.{reselections_current}
 use Rattle.babel_state.proofs.SettledLemmas.{nothing_reselected, timers_settled, hello_current, ihu_current}
 use Rattle.babel_link.specs.declared.marks.Heard.TheVariants.{Kept}
-use Rattle.babel_link.specs.Neighbours.{hello_verdict}
+use Rattle.babel_link.specs.Neighbours.{Links, hello_verdict, tick_of, gone_of, cost_of}
 use Rattle.babel_state.specs.Hellos.{hears}
 use Rattle.babel_state.specs.SettledLaws.{with_ihu}
-use Rattle.babel_state.specs.State.{cost_at}
+use Rattle.babel_state.specs.State.{announces, nominal_cost, cost_at}
 
 -- ---- reselections
 
@@ -42,3 +43,16 @@ heard_current now peer unicast seqno interval s t is kept same current =
 pub ihu_current_to : (now : ℕ) (peer : Peer) (rxcost interval : ℕ) (s t : State) → t ≡ with_ihu now peer rxcost interval s → cost_at t peer ≡ cost_at s peer → AreCurrent s → AreCurrent t
 ihu_current_to now peer rxcost interval s t is same current =
     subst AreCurrent (sym is) (ihu_current now peer rxcost interval s (sym (λ i. cost_at (is i) peer) ∙ same) current)
+
+-- ---- deadlines of links
+
+-- If a tick flushes no neighbour and changes no cost, all stay current.
+pub ticked_current : (now : ℕ) (s t : State) (links : Links) (gone : List Peer) → t ≡ forget_each gone (record s { neighbours = links }) →
+    links ≡ tick_of now s.neighbours → gone ≡ gone_of now s.neighbours →
+    ((peer : Peer) (nominal : ℕ) → cost_of peer nominal (tick_of now s.neighbours) ≡ cost_of peer nominal s.neighbours) → gone_of now s.neighbours ≡ [] →
+    AreCurrent s → AreCurrent t
+ticked_current now s t links gone is ticked left same none current =
+    let after : State = record s { neighbours = links } in
+    subst AreCurrent (sym (is ∙ ap (λ peers. forget_each peers after) (left ∙ none)))
+    (λ p. subst (λ cost. IsCurrent s.sources cost p (announces p s) s.routes)
+    (λ i peer. sym (ap (cost_of peer (nominal_cost peer.iface s)) ticked ∙ same peer (nominal_cost peer.iface s)) i) (current p))

@@ -31,16 +31,18 @@ impl Core {
     }
 
     /// Takes the deadlines of Hellos and IHUs (RFC 8966, sections 3.4.1 and 3.4.2). Routes of flushed
-    /// neighbours are removed. If it returns `false`, none is due, and nothing changed.
+    /// neighbours are removed. If it returns `false`, no neighbour was flushed and no cost changed, so that all selections
+    /// that were current are so.
     #[tactic(auto, unfolding(babel_state::specs::Ticks::links_ticked))]
     pub(crate) fn tick_links(&mut self, now: u64) -> bool
         ensures state { self.new ≡ links_ticked now self.old }
-        ensures quiet { IsFalse result → self.new ≡ self.old }
+        ensures quiet { IsFalse result → AreCurrent self.old → AreCurrent self.new }
     {
+        let keeps = self.neighbours.keep_costs(now);
         let mut gone = ArrayVec::new();
-        let due = self.neighbours.tick(now, &mut gone);
+        let _ = self.neighbours.tick(now, &mut gone);
         self.forget_each(gone.as_slice());
-        due
+        !keeps
     }
 
     /// Takes the deadlines of routes (RFC 8966, section 3.5.4). If it returns `false`, none is due, and
@@ -121,15 +123,15 @@ impl Core {
     }
 
     /// Takes the deadlines of Hellos, IHUs and routes, each followed by a reselection of all. If the speaker is
-    /// settled and none is due, it selects no route again.
+    /// settled, it selects no route again unless a cost changes, a neighbour is flushed or a route is due.
     #[tactic(auto, using(crate::proofs::Settling::still_current))]
     fn tick_selections(&mut self, now: u64, settled: bool, scratch: &mut Scratch)
         requires settled { IsTrue settled → AreCurrent self.old }
         ensures state { self.new ≡ routes_selected now self.old }
         ensures current { AreCurrent self.new }
     {
-        let due = self.tick_links(now);
-        self.reselect_after(due, settled, now, scratch);
+        let changed = self.tick_links(now);
+        self.reselect_after(changed, settled, now, scratch);
         let due = self.tick_routes(now);
         self.reselect_after(due, true, now, scratch);
     }

@@ -1,3 +1,4 @@
+pub mod CostLemmas
 pub mod WordLemmas
 pub mod PlaceLemmas
 pub mod PeerCmp

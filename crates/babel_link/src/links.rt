@@ -1,8 +1,8 @@
 //! What is known of one neighbour (RFC 8966, section 3.2.4).
 
-ghost use Rattle.std.specs.Prelude.{◌≡◌, ◌<◌, ℕ, false, Some, None};
+ghost use Rattle.std.specs.Prelude.{◌≡◌, ◌<◌, ℕ, false, Some, None, IsTrue};
 ghost use Rattle.std.specs.Option.{option_and_then, option_map_or};
-ghost use Rattle.babel_link.specs.Links.{new_link, history_of, with_history, hello_timer, first_history, later_history, fired_history, link_verdict, hello_link, ihu_link, unless_silent, fired_link, expired_link, ticked_link, link_rxcost, link_cost, is_heard, is_up_history, is_txcost_due, IsQuietUntil};
+ghost use Rattle.babel_link.specs.Links.{new_link, history_of, with_history, hello_timer, first_history, later_history, fired_history, link_verdict, hello_link, ihu_link, unless_silent, fired_link, expired_link, ticked_link, link_rxcost, link_cost, is_heard, is_up_history, is_txcost_due, IsQuietUntil, KeepsCost};
 ghost use Rattle.babel_value.specs.Moments.{later, hold_time};
 ghost use Rattle.babel_link.specs.Moments.{hello_patience};
 ghost use Rattle.babel_link.specs.Histories.{heard_verdict};
@@ -294,6 +294,26 @@ impl Link {
             self.txcost
         } else {
             Metric::INFINITE
+        }
+    }
+
+    /// Whether the link costs what the other one costs, whatever the nominal cost.
+    #[tactic(auto, unfolding(crate::specs::Links::link_cost, crate::specs::Links::link_rxcost))]
+    fn costs_as(&self, other: &Link) -> bool
+        ensures { IsTrue result → (nominal : ℕ) → link_cost nominal self.now ≡ link_cost nominal other.now }
+    {
+        let up = is_up(self.multicast) || is_up(self.unicast);
+        let was_up = is_up(other.multicast) || is_up(other.unicast);
+        up == was_up && self.txcost == other.txcost
+    }
+
+    /// Whether a tick neither flushes the neighbour nor changes the cost of its link.
+    pub(crate) fn keeps_cost(&self, now: u64) -> bool
+        ensures { IsTrue result → KeepsCost now self.now }
+    {
+        match self.ticked(now) {
+            Some(after) => after.costs_as(self),
+            None => false,
         }
     }
 }

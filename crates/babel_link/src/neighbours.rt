@@ -1,9 +1,10 @@
 //! The table of neighbours (RFC 8966, section 3.2.4).
 
-ghost use Rattle.std.specs.Prelude.{◌≡◌, ◌+◌, ◌<◌, ◌≤◌, ◌↔◌, [], IsTrue, IsFalse, IsErr, IfOk, IfErr, OnOk, OnErr, IsNone, length, IfSome, is_some, count_by, insert, slice_get};
+ghost use Rattle.std.specs.Prelude.{◌≡◌, ℕ, ◌+◌, ◌<◌, ◌≤◌, ◌↔◌, [], IsTrue, IsFalse, IsErr, IfOk, IfErr, OnOk, OnErr, IsNone, length, IfSome, is_some, count_by, insert, slice_get};
 ghost use Rattle.std.specs.FinMap.{find, put, is_sorted};
 ghost use Rattle.std.specs.Option.{option_map};
 ghost use Rattle.std.specs.Vec.{vec_len, vec_capacity};
+ghost use Rattle.babel_value.specs.declared.keys.Peer.{Peer};
 ghost use Rattle.babel_value.specs.Orders.{peer_cmp};
 ghost use Rattle.babel_link.specs.Neighbours.{max_neighbours, link_of, hello_of, hello_verdict, ihu_of, tick_of, gone_of, rxcost_of, cost_of, are_ascending, comes_before, peers_of, AreQuietUntil};
 ghost use Rattle.babel_link.specs.Places.{IsPlaceOf, IsGapFor};
@@ -247,6 +248,23 @@ impl Neighbours {
             return false;
         }
         self.due = tick_links(&mut self.links, now, gone);
+        true
+    }
+
+    /// Whether a tick at this moment would flush no neighbour and leave the cost of each link as it is. `false` only
+    /// means that this isn't known.
+    pub fn keep_costs(&self, now: u64) -> bool
+        ensures costs { IsTrue result → (peer : Peer) (nominal : ℕ) → cost_of peer nominal (tick_of now self.now) ≡ cost_of peer nominal self.now }
+        ensures gone { IsTrue result → gone_of now self.now ≡ [] }
+    {
+        if now < self.due {
+            return true;
+        }
+        for place in 0..self.links.len() {
+            if !self.links[place].1.keeps_cost(now) {
+                return false;
+            }
+        }
         true
     }
 

@@ -6,7 +6,7 @@ ghost use Rattle.std.specs.List.{list_all};
 ghost use Rattle.std.specs.Ordering.{is_gt};
 ghost use Rattle.std.specs.FinMap.{find};
 ghost use Rattle.babel_table.specs.Entries.{with_value};
-ghost use Rattle.babel_table.specs.Places.{are_lesser};
+ghost use Rattle.babel_table.specs.Places.{are_lesser, are_greater};
 ghost use Rattle.babel_route.specs.PrefixBounds.{lesser_falls};
 
 use babel_table::{Bound, Key, Steps, Table, places_below};
@@ -14,7 +14,7 @@ use std::cmp::Ordering;
 use std::marker::Brand;
 use std::sync::ledger::{Blank, Ledger};
 
-/// How many entries a walk passes before it gives up and searches.
+/// How many entries a walk passes, on or back, before it gives up and searches.
 const FAR: usize = 8;
 
 /// Where in the tables the last reselection was. It only matters for speed: prefixes that rise are
@@ -71,7 +71,7 @@ fn order_on<L: Ledger, K: Key>(key: &K, other: &K, blank: Blank) -> Ordering
 }
 
 /// How many entries have a key below the bound, as `places_below`. It walks a few entries on from the index
-/// `near` if the entry there is below, and searches otherwise.
+/// `near` if the entry there is below, and back otherwise.
 pub(crate) fn places_below_near<K: Key, V: Copy, T: Table<K, V>, B: Bound<K>>(
     table: &T,
     near: usize,
@@ -83,8 +83,37 @@ pub(crate) fn places_below_near<K: Key, V: Copy, T: Table<K, V>, B: Bound<K>>(
 {
     match table.at(near) {
         Some(entry) if bound.is_below(&entry.0) => places_below_from(table, near, bound),
-        _ => places_below(table, bound),
+        Some(_) => places_below_back(table, near, bound),
+        None => places_below(table, bound),
     }
+}
+
+/// The same by a walk back from an index whose key isn't below the bound.
+fn places_below_back<K: Key, V: Copy, T: Table<K, V>, B: Bound<K>>(
+    table: &T,
+    near: usize,
+    bound: &B,
+) -> usize
+    requires within { near < length (T.entries table.now) }
+    requires above { list_all (λ e. not (B.is_below bound.now e.0)) (drop near (T.entries table.now)) ≡ true }
+    ensures within { result ≤ length (T.entries table.now) }
+    ensures below { list_all (λ e. B.is_below bound.now e.0) (take result (T.entries table.now)) ≡ true }
+    ensures above { list_all (λ e. not (B.is_below bound.now e.0)) (drop result (T.entries table.now)) ≡ true }
+{
+    let mut place = near;
+    for _ in 0..FAR {
+        if place == 0 {
+            return 0;
+        }
+        let Some(entry) = table.at(place - 1) else {
+            return places_below(table, bound);
+        };
+        if bound.is_below(&entry.0) {
+            return place;
+        }
+        place -= 1;
+    }
+    places_below(table, bound)
 }
 
 /// The same by a walk from an index on whose key is below the bound.
@@ -124,7 +153,7 @@ pub(crate) fn find_near<K: Key, V: Copy, T: Table<K, V>>(
         return search_for(table, near, key);
     };
     match order_of(key, &entry.0) {
-        Ordering::Less => search_for(table, near, key),
+        Ordering::Less => walk_back_for(table, near, key),
         Ordering::Equal => Some(entry.1),
         Ordering::Greater => walk_for(table, near, key),
     }
@@ -170,6 +199,33 @@ fn walk_for<K: Key, V: Copy, T: Table<K, V>>(table: &T, near: &mut usize, key: &
     }
     *near = len;
     None
+}
+
+/// The same by a walk back from an index whose key is greater.
+fn walk_back_for<K: Key, V: Copy, T: Table<K, V>>(table: &T, near: &mut usize, key: &K) -> Option<V>
+    requires within { near.old < length (T.entries table.now) }
+    requires greater { are_greater K.order key.now (drop near.old (T.entries table.now)) ≡ true }
+    ensures { result ≡ find K.order key.now (T.entries table.now) }
+{
+    let mut place = *near;
+    for _ in 0..FAR {
+        *near = place;
+        if place == 0 {
+            return None;
+        }
+        let Some(entry) = table.at(place - 1) else {
+            return search_for(table, near, key);
+        };
+        match order_of(key, &entry.0) {
+            Ordering::Less => place -= 1,
+            Ordering::Equal => {
+                *near = place - 1;
+                return Some(entry.1);
+            }
+            Ordering::Greater => return None,
+        }
+    }
+    search_for(table, near, key)
 }
 
 /// Stores the value at the key, or removes the entry of the key if there is no value. The index is that

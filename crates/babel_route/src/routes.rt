@@ -105,13 +105,20 @@ impl<E: Table<RouteKey, Entry>, S: Table<Prefix, Selection>> RoutesOver<E, S> {
         ensures ok { OnOk result (self.new ≡ record self.old { entries = updated now prefix peer router distance next_hop interval self.old.entries }) }
         ensures err { OnErr result (self.new ≡ self.old) }
     {
-        let cursor = Cursor::new();
+        let mut cursor = Cursor::new();
         self.update_near(
-            now, prefix, peer, router, distance, next_hop, interval, &cursor,
+            now,
+            prefix,
+            peer,
+            router,
+            distance,
+            next_hop,
+            interval,
+            &mut cursor,
         )
     }
 
-    /// The same. The search begins at the cursor.
+    /// The same. The search begins at the cursor, which goes to the route.
     pub fn update_near(
         &mut self,
         now: u64,
@@ -121,7 +128,7 @@ impl<E: Table<RouteKey, Entry>, S: Table<Prefix, Selection>> RoutesOver<E, S> {
         distance: Distance,
         next_hop: Addr,
         interval: u16,
-        cursor: &Cursor,
+        cursor: &mut Cursor,
     ) -> Result<(), Full>
         ensures full { IsErr result ↔ (IsNone (find route_cmp (key_of prefix peer) self.old.entries) × (places_taken self.old ≡ 256)) }
         ensures ok { OnOk result (self.new ≡ record self.old { entries = updated now prefix peer router distance next_hop interval self.old.entries }) }
@@ -138,6 +145,7 @@ impl<E: Table<RouteKey, Entry>, S: Table<Prefix, Selection>> RoutesOver<E, S> {
         };
         let mut place = cursor.entry;
         let known = find_near(&self.entries, &mut place, &key);
+        cursor.entry = place;
         if known.is_none() && is_crowded(&self.entries, &self.selections) {
             return Err(Full);
         }
