@@ -2,7 +2,7 @@
 
 use babel_net::Event;
 use babel_network::Network;
-use babel_route::Selection;
+use babel_route::{ROUTE_PLACES, Selection};
 use babel_show::Fault;
 use babel_state::Config;
 use babel_value::{Peer, Prefix, RouterId};
@@ -40,6 +40,22 @@ struct Kept {
     printed: Option<Hop>,
 }
 
+/// A selected route.
+#[derive(Clone, Copy, Debug)]
+struct Seen {
+    prefix: Prefix,
+    route: Route,
+}
+
+/// What is kept of a node.
+#[derive(Drop)]
+struct NodeHops {
+    /// The selected routes after the node's last event, in the order of their prefixes.
+    seen: Vec<Seen>,
+    /// What is kept of each prefix, by its index in `Hops::prefixes`.
+    kept: Vec<Kept>,
+}
+
 /// For each node and then each prefix the next hop that was printed last.
 #[derive(Drop)]
 pub(crate) struct Hops {
@@ -47,8 +63,8 @@ pub(crate) struct Hops {
     prefixes: Vec<Prefix>,
     /// The same in ascending order, each with its index in `prefixes`.
     ascending: Vec<(Prefix, usize)>,
-    /// For each node what is kept of each prefix, by its index in `prefixes`.
-    nodes: Vec<Vec<Kept>>,
+    /// What is kept of each node.
+    nodes: Vec<NodeHops>,
 }
 
 impl Hops {
@@ -79,13 +95,17 @@ impl Hops {
         let Some(node) = changed_node(event) else {
             return Ok(());
         };
-        let Some(kept) = self.nodes.get_mut(node) else {
+        let Some(hops) = self.nodes.get_mut(node) else {
             return Ok(());
         };
-        if !see_routes(network, node, self.ascending.as_slice(), kept) {
+        if are_same(network, node, hops.seen.as_slice()) {
             return Ok(());
         }
-        for (prefix, kept) in self.prefixes.iter().zip(kept.iter_mut()) {
+        see_all(network, node, &mut hops.seen);
+        if !see_routes(network, node, self.ascending.as_slice(), &mut hops.kept) {
+            return Ok(());
+        }
+        for (prefix, kept) in self.prefixes.iter().zip(hops.kept.iter_mut()) {
             if kept.is_changed {
                 kept.is_changed = false;
                 let hop = hop_of(network, node, prefix);
@@ -124,16 +144,53 @@ fn ascending_of(alloc: Global, prefixes: &[Prefix]) -> Result<Vec<(Prefix, usize
     Ok(ascending)
 }
 
-fn no_hops(alloc: Global, prefixes: usize) -> Result<Vec<Kept>, AllocError> {
-    let mut hops = Vec::with_capacity(alloc, prefixes)?;
+fn no_hops(alloc: Global, prefixes: usize) -> Result<NodeHops, AllocError> {
+    let mut kept = Vec::with_capacity(alloc, prefixes)?;
     for _ in 0..prefixes {
-        hops.push(Kept {
+        kept.push(Kept {
             route: None,
             is_changed: false,
             printed: None,
         })?;
     }
-    Ok(hops)
+    let seen = Vec::with_capacity(alloc, ROUTE_PLACES)?;
+    Ok(NodeHops { seen, kept })
+}
+
+/// Whether the selected routes of the node are still these. After most events they are.
+fn are_same(network: &Network, node: usize, seen: &[Seen]) -> bool {
+    for (place, seen) in seen.iter().enumerate() {
+        if !is_seen(seen, &network.selection_at(node, place)) {
+            return false;
+        }
+    }
+    network.selection_at(node, seen.len()).is_none()
+}
+
+/// The orders compare octets as numbers, which is faster than `==`.
+fn is_seen(seen: &Seen, found: &Option<(Prefix, Selection)>) -> bool {
+    match found {
+        Some((prefix, selection)) => {
+            seen.prefix.cmp(prefix).is_eq()
+                && seen.route.peer.cmp(&selection.peer).is_eq()
+                && seen.route.router.cmp(&selection.entry.router).is_eq()
+        }
+        None => false,
+    }
+}
+
+/// Makes the list that of the selected routes of the node. It has room for as many as there may be.
+fn see_all(network: &Network, node: usize, seen: &mut Vec<Seen>) {
+    seen.clear();
+    for place in 0..seen.capacity() {
+        let Some((prefix, Selection { peer, entry })) = network.selection_at(node, place) else {
+            return;
+        };
+        let router = entry.router;
+        let route = Route { peer, router };
+        // There is room.
+        let _ = seen.push(Seen { prefix, route });
+    }
 }
 
 /// Looks at all selected routes of the node, in one walk over them. Returns whether one changed.
