@@ -1,7 +1,7 @@
 -- The selections that a replay keeps, in order to see that nothing changed.
 use Rattle.std.proofs.Common.{◌≡◌, ℕ, zero, suc, ◌+◌, ◌≤◌, Bool, true, false, true≢false, cond, not, is_some, arith, List, [], ◌∷◌, ◌++◌, map, take, drop, get_or, slice_get, length, Option, Some, None, refl, sym, ap, ◌∙◌, subst}
 use Rattle.std.proofs.lemmas.List.{take_all, take_more, take_more_same}
-use Rattle.std.proofs.lemmas.Option.{slice_get_within, get_or_from_slice_get}
+use Rattle.std.proofs.lemmas.Option.{slice_get-map, slice_get_within, get_or_from_slice_get}
 use Rattle.std.specs.FinMap.{find}
 use Rattle.std.specs.Option.{option_map}
 use Rattle.std.specs.Ordering.{is_eq, eq_by_cmp}
@@ -9,6 +9,7 @@ use Rattle.babel_value.specs.declared.keys.Peer.{Peer}
 use Rattle.babel_value.specs.Orders.{peer_cmp, prefix_cmp}
 use Rattle.babel_value.specs.Prefixes.{PrefixValue}
 use Rattle.babel_value.proofs.OrderLaws.{peer_exact, prefix_exact}
+use Rattle.babel_route.specs.declared.routes.entries.Selection.{Selection}
 use Rattle.babel_route.specs.Selections.{Selections}
 use Rattle.babel_state.specs.Calls.{reported_selected, selected_route}
 use Rattle.babel_state.specs.State.{State, cost_at}
@@ -25,6 +26,10 @@ same_printed p q a b prefix route = λ i. Some (prefix_exact p q (tied (prefix_c
 
 pub kept_cost : (s : State) (found : Option (Peer × ℕ)) (known peer : Peer) (cost : ℕ) → found ≡ Some (known, cost) → IsCostOf s found → is_eq (peer_cmp known peer) ≡ true → cost ≡ cost_at s peer
 kept_cost s found known peer cost is holds same = subst (IsCostOf s) is holds ∙ ap (cost_at s) (peer_exact known peer (tied (peer_cmp known peer) same))
+
+-- What is printed of the selection at an index.
+pub printed_at : (s : State) (i : ℕ) (found : Option (PrefixValue × Selection)) → found ≡ slice_get s.routes.selections i → slice_get (choices_in s) i ≡ option_map (printed_choice s) found
+printed_at s i found at = slice_get-map (printed_choice s) s.routes.selections i ∙ ap (option_map (printed_choice s)) (sym at)
 
 -- ---- lists that are compared or made item by item
 

@@ -19,6 +19,7 @@ use Rattle.babel_state.specs.Calls.{reported_selected, selected_route}
 use Rattle.babel_state.specs.Sameness.{is_same_peer, is_same_prefix}
 use Rattle.babel_state.specs.State.{State, cost_at}
 use Rattle.babel_lines.specs.declared.choices.Choice.{Choice}
+use Rattle.babel_replay.specs.declared.seen.LastCosts.{LastCosts}
 
 -- ---- what is printed of a route
 
@@ -102,6 +103,9 @@ pub record SeenTable : Type 0 where
 abbrev pub ArePrinted : List (PrefixValue × Choice) → List SeenPrefix → Type 0
 ArePrinted choices es = es ≡ map (λ e. (e.0, find prefix_cmp e.0 choices)) es
 
--- The cost of a link that was looked up last, if one was, is still that of the state.
+-- The cost of a link that was looked up, if one was, is still that of the state.
 abbrev pub IsCostOf : State → Option (Peer × ℕ) → Type 0
 IsCostOf s found = IfSome found (λ (peer, cost). cost ≡ cost_at s peer)
+
+abbrev pub AreCosts : State → LastCosts → Type 0
+AreCosts s last = IsCostOf s last.one × IsCostOf s last.other

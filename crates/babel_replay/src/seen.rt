@@ -1,10 +1,12 @@
 //! The prefixes that a replay has seen, in the order in which it saw them first, with the route that
 //! was last printed of each.
 
-ghost use Rattle.std.specs.Prelude.{◌≡◌, ◌+◌, ◌≤◌, ◌<◌, [], length, zip, slice_get, Some, OnOk, IsTrue};
+ghost use Rattle.std.specs.Prelude.{◌≡◌, ◌+◌, ◌≤◌, ◌<◌, [], length, zip, slice_get, Some, None, OnOk, IfSome, IsTrue};
 ghost use Rattle.indexmap.specs.IndexMap.{set_value_at};
+ghost use Rattle.std.specs.Option.{option_map};
 ghost use Rattle.babel_state.specs.State.{cost_at};
-ghost use Rattle.babel_replay.specs.Seen.{choice_of, is_same_route, is_same_choice, choices_in, updated, updates_in, stored, with_seen, seen_after, printed_all, IsCostOf};
+ghost use Rattle.babel_replay.specs.Seen.{choice_of, is_same_route, is_same_choice, printed_choice, choices_in, updated, updates_in, stored, with_seen, seen_after, printed_all, IsCostOf, AreCosts};
+ghost use Rattle.babel_value.specs.Prefixes.{PrefixValue};
 
 use babel_lines::Choice;
 use babel_packet::{Content, Message, Placed};
@@ -48,54 +50,114 @@ fn is_same_route(a: &Choice, b: &Choice) -> bool
         && a.seqno == b.seqno
 }
 
-/// The cost of the link to the neighbour. If it is the one that was looked up last, it isn't looked up again.
-fn link_cost(speaker: &Speaker, peer: &Peer, last: &mut Option<(Peer, Metric)>) -> Metric
-    requires last { IsCostOf speaker.now last.old }
-    ensures cost { result ≡ cost_at speaker.now peer.now }
-    ensures last { IsCostOf speaker.now last.new }
-{
-    if let Some((known, cost)) = *last {
-        if known.cmp(peer).is_eq() {
-            return cost;
-        }
-    }
-    let cost = speaker.cost(peer);
-    *last = Some((*peer, cost));
-    cost
+/// The costs of two links that were looked up last.
+#[derive(Clone, Copy)]
+struct LastCosts {
+    one: Option<(Peer, Metric)>,
+    other: Option<(Peer, Metric)>,
 }
 
-/// What is printed of the selection at the index, in the order of the prefixes.
-fn choice_in(
-    speaker: &Speaker,
-    index: usize,
-    last: &mut Option<(Peer, Metric)>,
-) -> Option<(Prefix, Choice)>
-    requires last { IsCostOf speaker.now last.old }
-    ensures choice { result ≡ slice_get (choices_in speaker.now) index }
-    ensures last { IsCostOf speaker.now last.new }
+impl LastCosts {
+    /// None was looked up.
+    fn new() -> LastCosts
+        ensures one { result.one ≡ None }
+        ensures other { result.other ≡ None }
+    {
+        LastCosts {
+            one: None,
+            other: None,
+        }
+    }
+
+    /// The cost of the link to the neighbour, if it was looked up.
+    fn get(&self, speaker: &Speaker, peer: &Peer) -> Option<Metric>
+        requires { AreCosts speaker.now self.now }
+        ensures { IfSome result (λ cost. cost ≡ cost_at speaker.now peer.now) }
+    {
+        match known_cost(speaker, peer, &self.one) {
+            Some(cost) => Some(cost),
+            None => known_cost(speaker, peer, &self.other),
+        }
+    }
+
+    /// The cost of the link to the neighbour. It isn't looked up again if it is known.
+    fn find(&mut self, speaker: &Speaker, peer: &Peer) -> Metric
+        requires { AreCosts speaker.now self.old }
+        ensures cost { result ≡ cost_at speaker.now peer.now }
+        ensures last { AreCosts speaker.now self.new }
+    {
+        if let Some(cost) = self.get(speaker, peer) {
+            return cost;
+        }
+        let cost = speaker.cost(peer);
+        self.other = self.one;
+        self.one = Some((*peer, cost));
+        cost
+    }
+}
+
+/// The cost, if it is that of the link to the neighbour.
+fn known_cost(speaker: &Speaker, peer: &Peer, last: &Option<(Peer, Metric)>) -> Option<Metric>
+    requires { IsCostOf speaker.now last.now }
+    ensures { IfSome result (λ cost. cost ≡ cost_at speaker.now peer.now) }
 {
-    let (prefix, selection) = speaker.selection_at(index)?;
+    // The speaker is in the contract alone.
+    let _ = speaker;
+    let (known, cost) = (*last)?;
+    if known.cmp(peer).is_eq() {
+        Some(cost)
+    } else {
+        None
+    }
+}
+
+/// What is printed of the selection.
+fn choice_by(speaker: &Speaker, selection: Selection, last: &mut LastCosts) -> Choice
+    requires last { AreCosts speaker.now last.old }
+    ensures choice { (prefix : PrefixValue) → result ≡ (printed_choice speaker.now (prefix, selection)).1 }
+    ensures last { AreCosts speaker.now last.new }
+{
     let Selection { peer, entry } = selection;
     let Entry {
         router,
         distance,
         ..
     } = entry;
-    let choice = Choice {
+    Choice {
         peer,
-        metric: distance.metric.add(link_cost(speaker, &peer, last)),
+        metric: distance.metric.add(last.find(speaker, &peer)),
         router,
         seqno: distance.seqno,
-    };
-    Some((prefix, choice))
+    }
 }
 
-/// Whether the prefix and what is printed of its selection are these.
-fn is_choice(found: &Option<(Prefix, Choice)>, prefix: &Prefix, choice: &Choice) -> bool
-    ensures { IsTrue result → found.now ≡ Some (prefix.now, choice.now) }
+/// What is printed of the selection at the index, in the order of the prefixes.
+fn choice_in(speaker: &Speaker, index: usize, last: &mut LastCosts) -> Option<(Prefix, Choice)>
+    requires last { AreCosts speaker.now last.old }
+    ensures choice { result ≡ slice_get (choices_in speaker.now) index }
+    ensures last { AreCosts speaker.now last.new }
+{
+    let (prefix, selection) = speaker.selection_at(index)?;
+    Some((prefix, choice_by(speaker, selection, last)))
+}
+
+/// Whether this is what is printed of the selection, if there is one.
+fn is_choice(
+    speaker: &Speaker,
+    found: &Option<(Prefix, Selection)>,
+    prefix: &Prefix,
+    choice: &Choice,
+    last: &mut LastCosts,
+) -> bool
+    requires last { AreCosts speaker.now last.old }
+    ensures same { IsTrue result → option_map (printed_choice speaker.now) found.now ≡ Some (prefix.now, choice.now) }
+    ensures last { AreCosts speaker.now last.new }
 {
     match found {
-        Some((p, c)) => p.cmp(prefix).is_eq() && is_same_route(c, choice),
+        Some((selected, selection)) => {
+            selected.cmp(prefix).is_eq()
+                && is_same_route(&choice_by(speaker, *selection, last), choice)
+        }
         None => false,
     }
 }
@@ -104,14 +166,15 @@ fn is_choice(found: &Option<(Prefix, Choice)>, prefix: &Prefix, choice: &Choice)
 fn are_choices(choices: &[(Prefix, Choice)], speaker: &Speaker) -> bool
     ensures { IsTrue result → choices.now ≡ choices_in speaker.now }
 {
-    let mut last = None;
+    let mut last = LastCosts::new();
     for index in 0..choices.len() {
         let (prefix, choice) = &choices[index];
-        if !is_choice(&choice_in(speaker, index, &mut last), prefix, choice) {
+        let found = speaker.selection_at(index);
+        if !is_choice(speaker, &found, prefix, choice, &mut last) {
             return false;
         }
     }
-    choice_in(speaker, choices.len(), &mut last).is_none()
+    speaker.selection_at(choices.len()).is_none()
 }
 
 /// The seen prefixes. A clause sees them in the order in which each was seen first, with what was last printed of it.
@@ -236,7 +299,7 @@ fn gather_choices(choices: &mut Vec<(Prefix, Choice)>, speaker: &Speaker) -> boo
     ensures { IsTrue result → choices.new.items ≡ choices_in speaker.now }
 {
     choices.clear();
-    let mut last = None;
+    let mut last = LastCosts::new();
     let room = choices.capacity();
     for index in 0..room {
         match choice_in(speaker, index, &mut last) {
@@ -244,7 +307,7 @@ fn gather_choices(choices: &mut Vec<(Prefix, Choice)>, speaker: &Speaker) -> boo
             None => return true,
         }
     }
-    choice_in(speaker, choices.len(), &mut last).is_none()
+    speaker.selection_at(choices.len()).is_none()
 }
 
 /// How many of the places are Updates.

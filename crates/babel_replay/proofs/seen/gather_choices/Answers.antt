@@ -1,7 +1,8 @@
 -- One choice more is in the list, and at the end there is no other.
 use Rattle.std.proofs.Common.{slice_get, sym, ap, ◌∙◌, rules}
-use Rattle.babel_replay.specs.Seen.{choices_in}
-use Rattle.babel_replay.proofs.Remembering.{added, is_none_at, to_none}
+use Rattle.std.specs.Option.{option_map}
+use Rattle.babel_replay.specs.Seen.{printed_choice, choices_in}
+use Rattle.babel_replay.proofs.Remembering.{printed_at, added, is_none_at, to_none}
 use Rattle.babel_replay.proofs.seen.gather_choices.Goals as goal
 
 pub loop-index-preserved : goal.loop-index-preserved
@@ -17,4 +18,5 @@ returns c none =
     c.loop-index.invariant.gathered
     ∙ to_none c.loop-index.index (choices_in c.args.speaker.now)
     (ap (slice_get (choices_in c.args.speaker.now)) (sym (c.len.ensures ∙ c.loop-index.invariant.count))
-    ∙ sym c.choice_in-2.ensures.choice ∙ is_none_at c.choice_in-2.result c.is_none.result c.is_none.ensures none)
+    ∙ printed_at c.args.speaker.now _ c.selection_at.result c.selection_at.ensures
+    ∙ ap (option_map (printed_choice c.args.speaker.now)) (is_none_at c.selection_at.result c.is_none.result c.is_none.ensures none))
