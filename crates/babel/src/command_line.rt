@@ -7,7 +7,8 @@ use babel_check::check;
 use babel_config::FileFault;
 use babel_hops::net;
 use babel_report::{explain, replay};
-use babel_show::{Fault, LineOptions, Status, show, show_lines};
+use babel_show::{LineOptions, Status, show, show_lines};
+use babel_text::LineFault;
 use clap::error::ErrorKind;
 use clap::{Arg, ArgAction, ArgMatches, Command};
 use std::alloc::{AllocError, Global};
@@ -53,7 +54,7 @@ pub(crate) fn report<E: Write>(error: ArgumentsError, err: &mut E) -> Status {
             let _ = writeln!(err, "babel: the command line isn't UTF-8");
             Status::Usage
         }
-        ArgumentsError::Memory => babel_show::report(Fault::Memory, err),
+        ArgumentsError::Memory => babel_show::report(LineFault::Memory, err),
     }
 }
 
@@ -77,8 +78,8 @@ fn try_run<F: AllocGlobal + Files + Net + Clock, R: Read + Drop, W: Write + Drop
     input: R,
     out: W,
     err: &mut E,
-) -> Result<Status, Fault> {
-    let mut out = BufWriter::new(rt.alloc(), out).map_err(Fault::of_writing)?;
+) -> Result<Status, LineFault> {
+    let mut out = BufWriter::new(rt.alloc(), out).map_err(LineFault::of_writing)?;
     run_command(rt, arguments, input, &mut out, err)
 }
 
@@ -88,7 +89,7 @@ fn run_command<'a, F: AllocGlobal + Files + Net + Clock, R: Read + Drop, W: Writ
     input: R,
     out: &mut W,
     err: &mut E,
-) -> Result<Status, Fault> {
+) -> Result<Status, LineFault> {
     let command: Command<'a> = command(rt.alloc())?;
     match command.try_get_matches_from(arguments) {
         Ok(matches) => Ok(dispatch(rt, &matches, input, out, err)),
@@ -101,16 +102,16 @@ fn write_usage<W: Write, E: Write>(
     error: &clap::Error,
     out: &mut W,
     err: &mut E,
-) -> Result<Status, Fault> {
+) -> Result<Status, LineFault> {
     if error.kind() == ErrorKind::OutOfMemory {
-        return Err(Fault::Memory);
+        return Err(LineFault::Memory);
     }
     if error.use_stderr() {
-        write!(err, "{error}").map_err(Fault::of_writing)?;
+        write!(err, "{error}").map_err(LineFault::of_writing)?;
         return Ok(Status::Usage);
     }
-    write!(out, "{error}").map_err(Fault::of_writing)?;
-    out.flush().map_err(Fault::of_writing)?;
+    write!(out, "{error}").map_err(LineFault::of_writing)?;
+    out.flush().map_err(LineFault::of_writing)?;
     Ok(Status::Done)
 }
 

@@ -2,11 +2,12 @@
 
 use crate::CheckFault;
 use babel_config::{read_config, read_file};
-use babel_show::{Fault, Status};
+use babel_show::Status;
 use babel_snapshot::SavedState;
 use babel_snapshot_file::read_snapshot;
 use babel_speaker::Speaker;
 use babel_state::Config;
+use babel_text::LineFault;
 use std::alloc::Global;
 use std::io::{Read, Write};
 
@@ -77,15 +78,17 @@ fn check_octets<W: Write>(
     Ok(write_restored(&saved, out)?)
 }
 
-fn write_ok<W: Write>(out: &mut W) -> Result<(), Fault> {
-    writeln!(out, "ok").map_err(Fault::of_writing)?;
-    out.flush().map_err(Fault::of_writing)
+fn write_ok<W: Write>(out: &mut W) -> Result<(), LineFault> {
+    writeln!(out, "ok").map_err(LineFault::of_writing)?;
+    out.flush().map_err(LineFault::of_writing)
 }
 
-fn write_restored<W: Write>(saved: &SavedState<'_>, out: &mut W) -> Result<(), Fault> {
+fn write_restored<W: Write>(saved: &SavedState<'_>, out: &mut W) -> Result<(), LineFault> {
     let sources = saved.len();
     let seqno = saved.seqno();
     let raises = saved.raises();
-    writeln!(out, "ok {sources} sources seqno {seqno} raises {raises}").map_err(Fault::of_writing)?;
-    out.flush().map_err(Fault::of_writing)
+    writeln!(out, "ok {sources} sources seqno {seqno} raises {raises}").map_err(
+        LineFault::of_writing,
+    )?;
+    out.flush().map_err(LineFault::of_writing)
 }

@@ -1,9 +1,9 @@
 //! Why a configuration or a snapshot isn't accepted.
 
 use babel_config::FileFault;
-use babel_show::Fault;
 use babel_snapshot_file::{RestoreCode, SnapshotFileFault};
 use babel_state::{ConfigFault, RestoreFault};
+use babel_text::LineFault;
 use std::fmt;
 
 /// Why a configuration or a snapshot isn't accepted. Its text is the code that is printed.
@@ -18,7 +18,7 @@ pub(crate) enum CheckFault {
     /// K1 to K7, or C7: no speaker can be restored from the snapshot.
     Restore(RestoreFault),
     /// L7 or L8: writing failed.
-    Output(Fault),
+    Output(LineFault),
 }
 
 impl fmt::Display for CheckFault {
@@ -57,8 +57,8 @@ impl From<RestoreFault> for CheckFault {
     }
 }
 
-impl From<Fault> for CheckFault {
-    fn from(fault: Fault) -> CheckFault {
+impl From<LineFault> for CheckFault {
+    fn from(fault: LineFault) -> CheckFault {
         CheckFault::Output(fault)
     }
 }

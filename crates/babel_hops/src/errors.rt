@@ -2,7 +2,7 @@
 
 use babel_config::FileFault;
 use babel_net::NetFault;
-use babel_show::Fault;
+use babel_text::LineFault;
 use std::alloc::AllocError;
 
 /// Why a scenario isn't run to its end.
@@ -13,7 +13,7 @@ pub(crate) enum NetCommandFault {
     /// No network can be made of the configurations.
     Net(NetFault),
     /// An allocation or writing failed.
-    Output(Fault),
+    Output(LineFault),
 }
 
 impl From<FileFault> for NetCommandFault {
@@ -28,14 +28,14 @@ impl From<NetFault> for NetCommandFault {
     }
 }
 
-impl From<Fault> for NetCommandFault {
-    fn from(fault: Fault) -> NetCommandFault {
+impl From<LineFault> for NetCommandFault {
+    fn from(fault: LineFault) -> NetCommandFault {
         NetCommandFault::Output(fault)
     }
 }
 
 impl From<AllocError> for NetCommandFault {
     fn from(_error: AllocError) -> NetCommandFault {
-        NetCommandFault::Output(Fault::Memory)
+        NetCommandFault::Output(LineFault::Memory)
     }
 }

@@ -3,8 +3,8 @@
 use babel_net::Event;
 use babel_network::Network;
 use babel_route::{ROUTE_PLACES, Selection};
-use babel_show::Fault;
 use babel_state::Config;
+use babel_text::LineFault;
 use babel_value::{Peer, Prefix, RouterId};
 use indexmap::IndexSet;
 use std::alloc::{AllocError, Global};
@@ -91,7 +91,7 @@ impl Hops {
         event: &Event,
         network: &Network,
         out: &mut W,
-    ) -> Result<(), Fault> {
+    ) -> Result<(), LineFault> {
         let Some(node) = changed_node(event) else {
             return Ok(());
         };
@@ -258,7 +258,7 @@ fn write_hop<W: Write>(
     prefix: &Prefix,
     hop: Option<Hop>,
     out: &mut W,
-) -> Result<(), Fault> {
+) -> Result<(), LineFault> {
     let written = match hop {
         Some(hop) => writeln!(
             out,
@@ -267,7 +267,7 @@ fn write_hop<W: Write>(
         ),
         None => writeln!(out, "{number} hop {node} {prefix} -> none"),
     };
-    written.map_err(Fault::of_writing)
+    written.map_err(LineFault::of_writing)
 }
 
 /// The node whose selected routes an event may change. Sending a datagram changes none.

@@ -5,7 +5,8 @@ use crate::hops::Hops;
 use babel_config::{Scenario, read_file, read_scenario};
 use babel_net::{Event, NetFault, StepFault};
 use babel_network::Network;
-use babel_show::{Fault, Status, report};
+use babel_show::{Status, report};
+use babel_text::LineFault;
 use std::alloc::Global;
 use std::io::{Read, Write};
 
@@ -46,7 +47,7 @@ fn try_net<R: Read + Drop, W: Write>(
     let mut hops = Hops::new(alloc, configs.as_slice())?;
     let mut network = Network::new(alloc, configs)?;
     let refused = write_events(events.as_slice(), &mut network, &mut hops, out)?;
-    out.flush().map_err(Fault::of_writing)?;
+    out.flush().map_err(LineFault::of_writing)?;
     Ok(refused)
 }
 
@@ -56,7 +57,7 @@ fn write_events<W: Write>(
     network: &mut Network,
     hops: &mut Hops,
     out: &mut W,
-) -> Result<Status, Fault> {
+) -> Result<Status, LineFault> {
     let mut datagrams = 0;
     for (number, event) in events.iter().enumerate() {
         if let Err(fault) = network.step(event) {
@@ -68,10 +69,12 @@ fn write_events<W: Write>(
         }
         hops.write_changes(number, event, network, out)?;
     }
-    writeln!(out, "end {} events {datagrams} datagrams", events.len()).map_err(Fault::of_writing)?;
+    writeln!(out, "end {} events {datagrams} datagrams", events.len()).map_err(
+        LineFault::of_writing,
+    )?;
     Ok(Status::Done)
 }
 
-fn write_refused<W: Write>(number: usize, fault: StepFault, out: &mut W) -> Result<(), Fault> {
-    writeln!(out, "{number} refused {}", fault.code()).map_err(Fault::of_writing)
+fn write_refused<W: Write>(number: usize, fault: StepFault, out: &mut W) -> Result<(), LineFault> {
+    writeln!(out, "{number} refused {}", fault.code()).map_err(LineFault::of_writing)
 }

@@ -1,4 +1,3 @@
-pub mod Codes
 pub mod Stepping
 pub mod LogLines
 pub mod Seen

@@ -8,9 +8,10 @@ use Rattle.hex.specs.Hex.{decode_sized}
 use Rattle.hex.specs.declared.FromHexError.{FromHexError}
 use Rattle.babel_value.specs.declared.addresses.Addr.{Addr}
 use Rattle.babel_value.specs.Texts.{IsAddrText}
+use Rattle.babel_text.specs.Lines.{max_line_len}
 use Rattle.babel_text.specs.Numbers.{IsNumberText}
-use Rattle.babel_replay.specs.declared.errors.LineFault.{LineFault}
-use Rattle.babel_replay.specs.declared.errors.LineFault.TheVariants as faults
+use Rattle.babel_text.specs.declared.lines.LineFault.{LineFault}
+use Rattle.babel_text.specs.declared.lines.LineFault.TheVariants as faults
 use Rattle.babel_replay.specs.declared.log_lines.Action.{Action}
 use Rattle.babel_replay.specs.declared.log_lines.Action.TheVariants as actions
 use Rattle.babel_replay.specs.declared.reading.Part.{Part}
@@ -31,9 +32,8 @@ abbrev pub first_of : List (List ℕ) → List ℕ
 first_of [] = []
 first_of (line ∷ lines) = line
 
--- The longest line has 131,200 octets, its line feed not counted.
 abbrev pub IsTooLong : List ℕ → Type 0
-IsTooLong line = 131200 < length line
+IsTooLong line = max_line_len < length line
 
 -- Empty lines are skipped, and lines that begin with `#`.
 abbrev pub is_skipped_line : List ℕ → Bool
@@ -67,7 +67,7 @@ pub record ShowsTooMuch (left : Option (List ℕ)) (before : List ℕ) : Type 0 
   pub part : List ℕ
   pub plain : HasNoLineFeed part
   pub front : IfSome left (λ octets. StartsWith octets part)
-  pub long : 131200 < length before + length part
+  pub long : max_line_len < length before + length part
 
 -- ---- the fields of a line
 

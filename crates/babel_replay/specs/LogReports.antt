@@ -1,12 +1,13 @@
 -- The reports of whole logs (profile).
-use Rattle.std.specs.Prelude.{◌≡◌, ◌≢◌, ◌⊎◌, ◌+◌, ℕ, Bool, true, false, List, [], ◌∷◌, ◌++◌, length, Option, Some, None, IsNone, ⊤}
+use Rattle.std.specs.Prelude.{◌≡◌, ◌≢◌, ◌⊎◌, ◌+◌, ◌/◌, ℕ, Bool, true, false, List, [], ◌∷◌, ◌++◌, length, Option, Some, None, IsNone, ⊤}
 use Rattle.std.specs.Io.KnownBytes.{Appends, Keeps}
 use Rattle.babel_value.specs.Prefixes.{PrefixValue}
 use Rattle.babel_state.specs.declared.errors.ConfigFault.{ConfigFault}
 use Rattle.babel_state.specs.State.{State}
 use Rattle.babel_speaker.specs.Making.{IsMakingFault}
-use Rattle.babel_replay.specs.declared.errors.LineFault.{LineFault}
-use Rattle.babel_replay.specs.declared.errors.LineFault.TheVariants.{TooLong, Read, Write, Memory}
+use Rattle.babel_text.specs.Lines.{max_line_len}
+use Rattle.babel_text.specs.declared.lines.LineFault.{LineFault}
+use Rattle.babel_text.specs.declared.lines.LineFault.TheVariants.{TooLong, Read, Write, Memory}
 use Rattle.babel_replay.specs.declared.errors.ReplayFault.{ReplayFault}
 use Rattle.babel_replay.specs.declared.errors.ReplayFault.TheVariants as faults
 use Rattle.babel_replay.specs.declared.log_lines.Action.{Action}
@@ -19,7 +20,7 @@ use Rattle.babel_replay.specs.Seen.{SeenPrefix}
 
 -- The octets of the longest line have room.
 abbrev pub room : ℕ
-room = 65600
+room = max_line_len / 2
 
 -- A line that is skipped changes nothing. Any other has an event, with its report.
 pub record IsEventReport (text : List ℕ) (old : State) (seen : List SeenPrefix) (new : State) (later : List SeenPrefix) (report : List ℕ) : Type 0 where

@@ -15,7 +15,8 @@ mod replaying;
 mod seen;
 mod stepping;
 
-pub use errors::{LineFault, ReplayFault};
+pub use babel_text::{LineFault, MAX_LINE_LEN};
+pub use errors::ReplayFault;
 pub use explaining::explain;
-pub use log_lines::{Action, Event, MAX_LINE_LEN, parse_line};
+pub use log_lines::{Action, Event, parse_line};
 pub use replaying::replay;

@@ -6,12 +6,8 @@ ghost use Rattle.babel_text.specs.Numbers.{IsNumberText};
 ghost use Rattle.babel_replay.specs.LogLines.{is_skipped_line, HasBlank, before_blank, after_blank, HasTwoFields, HasThreeFields, hex_octets, IsReceiveText, IsCostText, IsLine};
 ghost use Rattle.babel_replay.specs.LogLines.{IsNumber, IsAddress, IsTickFault, IsReceiveFault, IsCostFault, IsLineFault};
 
-use crate::LineFault;
-use babel_text::{parse_u16, parse_u64};
+use babel_text::{LineFault, parse_u16, parse_u64};
 use babel_value::Addr;
-
-/// The most octets of a line, its line feed not counted.
-pub const MAX_LINE_LEN: usize = 131_200;
 
 /// A line of a log.
 #[derive(Clone, Copy, Debug, PartialEq, Eq)]

@@ -1,10 +1,10 @@
 //! The lines of a log, read one after another.
 
 ghost use Rattle.std.specs.Prelude.{◌≡◌, ◌⊎◌, ◌<◌, ◌≤◌, length, vec_capacity, Err, IfOk, IfErr, IfSome};
+ghost use Rattle.babel_text.specs.Lines.{max_line_len};
 ghost use Rattle.babel_replay.specs.LogLines.{lines_of, first_of, IsTooLong, ReadsLine, ReadsPart, ShowsTooMuch};
 
-use crate::LineFault;
-use crate::log_lines::MAX_LINE_LEN;
+use babel_text::{LineFault, MAX_LINE_LEN};
 use memchr::memchr;
 use std::io::{BufRead, ErrorKind};
 
@@ -15,9 +15,9 @@ use std::io::{BufRead, ErrorKind};
 /// is bounded.
 pub(crate) fn read_line<R: BufRead>(log: &mut R, line: &mut Vec<u8>) -> Result<bool, LineFault>
     ensures line { IfOk result (λ more. ReadsLine (R.remaining log.old) (R.remaining log.new) more line.new.items) }
-    ensures within { IfOk result (λ _. length line.new.items ≤ 131200) }
+    ensures within { IfOk result (λ _. length line.new.items ≤ max_line_len) }
     ensures too_long { result ≡ Err LineFault.TooLong → IfSome (R.remaining log.old) (λ octets. IsTooLong (first_of (lines_of octets))) }
-    ensures memory { result ≡ Err LineFault.Memory → vec_capacity line.old < 131200 }
+    ensures memory { result ≡ Err LineFault.Memory → vec_capacity line.old < max_line_len }
     ensures room { vec_capacity line.old ≤ vec_capacity line.new }
     ensures fault { IfErr result (λ f. (f ≡ LineFault.TooLong) ⊎ ((f ≡ LineFault.Read) ⊎ (f ≡ LineFault.Memory))) }
 {
@@ -44,11 +44,11 @@ enum Part {
 
 /// Appends what the reader has in its buffer of the line, and consumes it and its line feed.
 fn read_part<R: BufRead>(log: &mut R, line: &mut Vec<u8>) -> Result<Part, LineFault>
-    requires within { length line.old.items ≤ 131200 }
-    ensures within { length line.new.items ≤ 131200 }
+    requires within { length line.old.items ≤ max_line_len }
+    ensures within { length line.new.items ≤ max_line_len }
     ensures part { IfOk result (λ part. ReadsPart part (R.remaining log.old) (R.remaining log.new) line.old.items line.new.items) }
     ensures too_long { result ≡ Err LineFault.TooLong → ShowsTooMuch (R.remaining log.old) line.old.items }
-    ensures memory { result ≡ Err LineFault.Memory → vec_capacity line.old < 131200 }
+    ensures memory { result ≡ Err LineFault.Memory → vec_capacity line.old < max_line_len }
     ensures room { vec_capacity line.old ≤ vec_capacity line.new }
     ensures fault { IfErr result (λ f. (f ≡ LineFault.TooLong) ⊎ ((f ≡ LineFault.Read) ⊎ (f ≡ LineFault.Memory))) }
 {

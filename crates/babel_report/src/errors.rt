@@ -2,7 +2,8 @@
 
 use babel_config::FileFault;
 use babel_replay::ReplayFault;
-use babel_show::{Fault, Status};
+use babel_show::Status;
+use babel_text::LineFault;
 use std::io;
 use std::io::Write;
 
@@ -14,7 +15,7 @@ pub(crate) enum CommandFault {
     /// C1 to C7, or a fault of the log.
     Replay(ReplayFault),
     /// L8: an allocation before the log failed.
-    Output(Fault),
+    Output(LineFault),
 }
 
 impl From<FileFault> for CommandFault {
@@ -32,7 +33,7 @@ impl From<ReplayFault> for CommandFault {
 /// The room for what is read of the log ahead of its lines couldn't be allocated.
 impl From<io::Error> for CommandFault {
     fn from(_error: io::Error) -> CommandFault {
-        CommandFault::Output(Fault::Memory)
+        CommandFault::Output(LineFault::Memory)
     }
 }
 

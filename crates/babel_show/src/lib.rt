@@ -4,12 +4,12 @@
 //! one datagram from an argument, and `show_lines` reads many from a reader.
 #![tactic(auto)]
 
-mod errors;
 mod many;
 mod one;
+mod reporting;
 mod status;
 
-pub use errors::{Fault, report};
 pub use many::{LineOptions, show_lines};
 pub use one::show;
+pub use reporting::report;
 pub use status::Status;

@@ -1,15 +1,12 @@
 //! `babel show --stdin`: what many datagrams mean, one a line.
 
+use crate::Status;
 use crate::one::{read_source, write_meaning};
-use crate::{Fault, Status};
 use babel_packet::{Refusal, decode};
+use babel_text::{LineFault, MAX_LINE_LEN};
 use babel_value::Addr;
 use std::alloc::Global;
 use std::io::{BufRead, BufReader, Read, Write};
-
-/// The most octets of a line, its line feed not counted: an address, a blank, and the largest
-/// datagram in hexadecimal.
-const MAX_LINE_LEN: usize = 131_200;
 
 /// How many octets are read at a time.
 const READ_LEN: usize = 65_536;
@@ -61,7 +58,7 @@ fn try_show_lines<R: Read + Drop, W: Write>(
     input: R,
     out: &mut W,
     number: &mut u64,
-) -> Result<(), Fault> {
+) -> Result<(), LineFault> {
     let source = read_source(options.source)?;
     let mut shower = Shower {
         alloc,
@@ -69,16 +66,21 @@ fn try_show_lines<R: Read + Drop, W: Write>(
         header: options.header,
         is_first: true,
     };
-    let mut input = BufReader::with_capacity(alloc, READ_LEN, input).map_err(Fault::of_reading)?;
+    let mut input = BufReader::with_capacity(alloc, READ_LEN, input).map_err(
+        LineFault::of_reading,
+    )?;
     shower.show_all(&mut input, out, number)
 }
 
 /// Flushes what was shown, unless the whole of the next line was read already.
-fn flush_before_waiting<R: Read, W: Write>(input: &BufReader<R>, out: &mut W) -> Result<(), Fault> {
+fn flush_before_waiting<R: Read, W: Write>(
+    input: &BufReader<R>,
+    out: &mut W,
+) -> Result<(), LineFault> {
     if input.buffer().contains(&b'\n') {
         return Ok(());
     }
-    out.flush().map_err(Fault::of_writing)
+    out.flush().map_err(LineFault::of_writing)
 }
 
 /// Shows the datagrams of lines, one after another.
@@ -100,7 +102,7 @@ impl Shower {
         input: &mut BufReader<R>,
         out: &mut W,
         number: &mut u64,
-    ) -> Result<(), Fault> {
+    ) -> Result<(), LineFault> {
         let mut line = Vec::with_capacity(self.alloc, MAX_LINE_LEN + 1)?;
         let mut octets = vec![in self.alloc; 0u8; MAX_LINE_LEN / 2]?;
         self.show_each(input, &mut line, octets.as_mut_slice(), out, number)
@@ -114,7 +116,7 @@ impl Shower {
         octets: &mut [u8],
         out: &mut W,
         number: &mut u64,
-    ) -> Result<(), Fault> {
+    ) -> Result<(), LineFault> {
         for turn in 1..u64::MAX {
             *number = turn;
             flush_before_waiting(input, out)?;
@@ -123,7 +125,7 @@ impl Shower {
             }
             self.show_line(turn, line.as_slice(), octets, out)?;
         }
-        out.flush().map_err(Fault::of_writing)
+        out.flush().map_err(LineFault::of_writing)
     }
 
     /// Shows the datagram of a line, if it has one.
@@ -133,7 +135,7 @@ impl Shower {
         line: &[u8],
         octets: &mut [u8],
         out: &mut W,
-    ) -> Result<(), Fault> {
+    ) -> Result<(), LineFault> {
         if is_skipped(line) {
             return Ok(());
         }
@@ -141,7 +143,7 @@ impl Shower {
         let datagram = decode_hex(hex, octets)?;
         self.write_head(number, source, out)?;
         match decode(self.alloc, datagram, source) {
-            Err(Refusal::Memory) => Err(Fault::Memory),
+            Err(Refusal::Memory) => Err(LineFault::Memory),
             meaning => write_meaning(&meaning, out),
         }
     }
@@ -152,13 +154,13 @@ impl Shower {
         number: u64,
         source: Addr,
         out: &mut W,
-    ) -> Result<(), Fault> {
+    ) -> Result<(), LineFault> {
         if !self.is_first {
-            writeln!(out, "").map_err(Fault::of_writing)?;
+            writeln!(out, "").map_err(LineFault::of_writing)?;
         }
         self.is_first = false;
         if self.header {
-            writeln!(out, "# {number} {source}").map_err(Fault::of_writing)?;
+            writeln!(out, "# {number} {source}").map_err(LineFault::of_writing)?;
         }
         Ok(())
     }
@@ -166,18 +168,22 @@ impl Shower {
 
 /// Reads a line without its line feed, and returns whether there was one. The end of the input ends the
 /// last line.
-fn read_line<R: BufRead>(input: &mut R, line: &mut Vec<u8>) -> Result<bool, Fault> {
+fn read_line<R: BufRead>(input: &mut R, line: &mut Vec<u8>) -> Result<bool, LineFault> {
     line.clear();
     let most = MAX_LINE_LEN as u64 + 1;
     let mut front = Read::take(&mut *input, most);
-    if front.read_until(b'\n', line).map_err(Fault::of_reading)? == 0 {
+    if front
+        .read_until(b'\n', line)
+        .map_err(LineFault::of_reading)?
+        == 0
+    {
         return Ok(false);
     }
     if line.last() == Some(&b'\n') {
         let _ = line.pop();
     }
     if line.len() > MAX_LINE_LEN {
-        return Err(Fault::Line);
+        return Err(LineFault::TooLong);
     }
     Ok(true)
 }
@@ -192,28 +198,28 @@ fn is_skipped(line: &[u8]) -> bool {
 
 /// The source and the hexadecimal text of a line, which the first blank separates. A line without a
 /// blank has the source that is given.
-fn parse_line(line: &[u8], source: Addr) -> Result<(Addr, &[u8]), Fault> {
+fn parse_line(line: &[u8], source: Addr) -> Result<(Addr, &[u8]), LineFault> {
     let Some(blank) = line.iter().position(|octet| *octet == b' ') else {
         return Ok((source, line));
     };
     let Ok(text) = str::from_utf8(&line[..blank]) else {
-        return Err(Fault::Address);
+        return Err(LineFault::Address);
     };
     Ok((read_source(text)?, &line[blank + 1..]))
 }
 
 /// Reads the octets into the front of `octets`, and returns that front.
-fn decode_hex<'a>(hex: &[u8], octets: &'a mut [u8]) -> Result<&'a [u8], Fault> {
+fn decode_hex<'a>(hex: &[u8], octets: &'a mut [u8]) -> Result<&'a [u8], LineFault> {
     if let [b'-'] = hex {
         return Ok(&[]);
     }
     let count = hex.len() / 2;
     if count == 0 || count > octets.len() {
-        return Err(Fault::Hex);
+        return Err(LineFault::Hex);
     }
     let front = &mut octets[..count];
     match hex::decode_to_slice(hex, front) {
         Ok(()) => Ok(front),
-        Err(_) => Err(Fault::Hex),
+        Err(_) => Err(LineFault::Hex),
     }
 }

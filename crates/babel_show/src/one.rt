@@ -1,7 +1,8 @@
 //! `babel show HEX`: what one datagram means.
 
-use crate::{Fault, Status, report};
+use crate::{Status, report};
 use babel_packet::{Placed, Refusal, decode};
+use babel_text::LineFault;
 use babel_value::Addr;
 use std::alloc::Global;
 use std::io::Write;
@@ -29,12 +30,12 @@ fn try_show<W: Write>(
     source: &str,
     hex: &str,
     out: &mut W,
-) -> Result<Status, Fault> {
+) -> Result<Status, LineFault> {
     let source = read_source(source)?;
     let octets = read_octets(alloc, hex)?;
     let meaning = decode(alloc, octets.as_slice(), source);
     write_meaning(&meaning, out)?;
-    out.flush().map_err(Fault::of_writing)?;
+    out.flush().map_err(LineFault::of_writing)?;
     Ok(if meaning.is_ok() {
         Status::Done
     } else {
@@ -42,16 +43,16 @@ fn try_show<W: Write>(
     })
 }
 
-pub(crate) fn read_source(text: &str) -> Result<Addr, Fault> {
-    text.parse::<Addr>().map_err(|_| Fault::Address)
+pub(crate) fn read_source(text: &str) -> Result<Addr, LineFault> {
+    text.parse::<Addr>().map_err(|_| LineFault::Address)
 }
 
-fn read_octets(alloc: Global, text: &str) -> Result<Vec<u8>, Fault> {
+fn read_octets(alloc: Global, text: &str) -> Result<Vec<u8>, LineFault> {
     if text == NO_OCTETS {
         return Ok(Vec::new(alloc));
     }
     if text.is_empty() {
-        return Err(Fault::Hex);
+        return Err(LineFault::Hex);
     }
     Ok(hex::decode(alloc, text)?)
 }
@@ -60,15 +61,15 @@ fn read_octets(alloc: Global, text: &str) -> Result<Vec<u8>, Fault> {
 pub(crate) fn write_meaning<W: Write>(
     meaning: &Result<Vec<Placed>, Refusal>,
     out: &mut W,
-) -> Result<(), Fault> {
+) -> Result<(), LineFault> {
     match meaning {
         Ok(placed) => {
             for place in placed.as_slice() {
-                writeln!(out, "{place}").map_err(Fault::of_writing)?;
+                writeln!(out, "{place}").map_err(LineFault::of_writing)?;
             }
         }
         Err(refusal) => {
-            writeln!(out, "refused {}", refusal.code()).map_err(Fault::of_writing)?;
+            writeln!(out, "refused {}", refusal.code()).map_err(LineFault::of_writing)?;
         }
     }
     Ok(())

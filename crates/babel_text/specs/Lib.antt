@@ -2,3 +2,4 @@ pub mod Readings
 pub mod Numbers
 pub mod Prefixes
 pub mod RouterIds
+pub mod Lines

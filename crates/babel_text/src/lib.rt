@@ -1,12 +1,16 @@
-//! Values read from text, as files and logs write them. Addresses are read by `babel_value`.
+//! Values read from text, as files and logs write them, and the faults of lines. Addresses are read by
+//! `babel_value`.
 //!
 //! Nothing here allocates.
 #![tactic(auto)]
 
+pub mod laws;
+mod lines;
 mod numbers;
 mod prefixes;
 mod router_ids;
 
+pub use lines::{LineFault, MAX_LINE_LEN};
 pub use numbers::{parse_u8, parse_u16, parse_u64};
 pub use prefixes::{parse_network, parse_prefix};
 pub use router_ids::parse_router_id;

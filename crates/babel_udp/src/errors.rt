@@ -1,8 +1,8 @@
 //! Why the command `speak` ends early.
 
-use babel_show::Fault;
 use babel_snapshot_file::{RestoreCode, SnapshotFileFault};
 use babel_state::{ConfigFault, RestoreFault};
+use babel_text::LineFault;
 use std::alloc::AllocError;
 use std::fmt;
 use thiserror::Error;
@@ -27,12 +27,12 @@ pub enum SpeakFault {
     Socket,
     /// L7 and L8: writing failed, or an allocation failed.
     #[error("{0}")]
-    Output(#[from] Fault),
+    Output(#[from] LineFault),
 }
 
 impl From<AllocError> for SpeakFault {
     fn from(error: AllocError) -> SpeakFault {
-        SpeakFault::Output(Fault::from(error))
+        SpeakFault::Output(LineFault::from(error))
     }
 }
 

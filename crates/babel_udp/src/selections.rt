@@ -1,8 +1,8 @@
 //! The selected routes, as they are printed.
 
-use babel_show::Fault;
 use babel_speaker::Speaker;
 use babel_state::Selected;
+use babel_text::LineFault;
 use babel_value::{Metric, Peer, Prefix, RouterId, Seqno};
 use std::alloc::{AllocError, Global};
 use std::fmt;
@@ -83,13 +83,15 @@ impl Selections {
         speaker: &Speaker,
         moment: u64,
         out: &mut W,
-    ) -> Result<bool, Fault> {
+    ) -> Result<bool, LineFault> {
         self.add_new(speaker)?;
         let mut has_changed = false;
         for (prefix, printed) in self.printed.iter_mut() {
             let selected = SelectedText::of(speaker.selected(prefix));
             if selected != *printed {
-                writeln!(out, "{moment} select {prefix} {selected}").map_err(Fault::of_writing)?;
+                writeln!(out, "{moment} select {prefix} {selected}").map_err(
+                    LineFault::of_writing,
+                )?;
                 *printed = selected;
                 has_changed = true;
             }
@@ -100,9 +102,9 @@ impl Selections {
     }
 
     /// Writes the selected route of each prefix.
-    pub(crate) fn write_table<W: Write>(&self, out: &mut W) -> Result<(), Fault> {
+    pub(crate) fn write_table<W: Write>(&self, out: &mut W) -> Result<(), LineFault> {
         for (prefix, printed) in &self.printed {
-            writeln!(out, "table {prefix} {printed}").map_err(Fault::of_writing)?;
+            writeln!(out, "table {prefix} {printed}").map_err(LineFault::of_writing)?;
         }
         Ok(())
     }

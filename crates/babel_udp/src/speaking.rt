@@ -7,9 +7,9 @@ use crate::links::Links;
 use crate::selections::Selections;
 use crate::snapshots::{make_speaker, save};
 use crate::sockets::UdpWire;
-use babel_show::Fault;
 use babel_speaker::Speaker;
 use babel_state::Config;
+use babel_text::LineFault;
 use babel_wire::{Report, drive};
 use std::alloc::Global;
 use std::fs::Files;
@@ -108,7 +108,7 @@ fn take_turns<R: Net + Clock, W: Write>(
     wire: &mut UdpWire<'_, R>,
     options: SpeakOptions<'_>,
     out: &mut W,
-) -> Result<Report, Fault>
+) -> Result<Report, LineFault>
     requires { wire.old.faults ≡ 0 }
 {
     let mut buf = vec![in alloc; 0u8; MAX_DATAGRAM_LEN]?;
@@ -128,7 +128,7 @@ fn speak_with_routes<R: Net + Clock, W: Write>(
     buf: &mut [u8],
     turns: u32,
     out: &mut W,
-) -> Result<Report, Fault>
+) -> Result<Report, LineFault>
     requires { wire.old.faults ≡ 0 }
 {
     let mut selections = Selections::new(alloc)?;
@@ -140,14 +140,14 @@ fn speak_with_routes<R: Net + Clock, W: Write>(
         report.refused += turn.refused;
         report.faults += turn.faults;
         if selections.write_changes(speaker, wire.moment(), out)? {
-            out.flush().map_err(Fault::of_writing)?;
+            out.flush().map_err(LineFault::of_writing)?;
         }
     }
     selections.write_table(out)?;
     Ok(report)
 }
 
-fn write_report<W: Write>(turns: u32, report: Report, out: &mut W) -> Result<(), Fault> {
+fn write_report<W: Write>(turns: u32, report: Report, out: &mut W) -> Result<(), LineFault> {
     let Report {
         received,
         sent,
@@ -158,6 +158,6 @@ fn write_report<W: Write>(turns: u32, report: Report, out: &mut W) -> Result<(),
         out,
         "turns {turns} received {received} sent {sent} refused {refused} faults {faults}"
     )
-    .map_err(Fault::of_writing)?;
-    out.flush().map_err(Fault::of_writing)
+    .map_err(LineFault::of_writing)?;
+    out.flush().map_err(LineFault::of_writing)
 }

@@ -1,0 +1,10 @@
+//! A law of the code's limit: the contract of a function that does nothing.
+
+ghost use Rattle.std.specs.Prelude.{◌≡◌};
+ghost use Rattle.babel_text.specs.declared.lines.TheConstants.{MAX_LINE_LEN};
+ghost use Rattle.babel_text.specs.Lines.{max_line_len};
+
+/// The constant of the code is the number of the definitions.
+pub fn line_limit_is_that_of_the_code()
+    ensures { MAX_LINE_LEN ≡ max_line_len }
+{}
