@@ -4,12 +4,11 @@
 
 mod acceptance;
 mod calls;
-mod laws;
+pub mod laws;
 mod network;
 mod nodes;
 mod owners;
 mod sent;
 
 pub use babel_net::{Event, NetFault, StepFault};
-pub use laws::{networks_begin, networks_go_on};
 pub use network::Network;

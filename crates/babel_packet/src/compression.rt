@@ -9,7 +9,7 @@ ghost use Rattle.babel_packet.specs.Encodable.{is_encodable, IsMessage};
 ghost use Rattle.babel_packet.specs.BodyMeanings.{BodyMeans, state_after};
 ghost use Rattle.babel_packet.specs.Compressed.{compressed, state_with, max_message_len};
 
-use babel_tlv::put_is_one_more;
+use babel_tlv::laws::put_is_one_more;
 
 /// The compressed TLVs of a message mean that message to a reader of the body before them (RFC 8966,
 /// sections 4.5 and 4.6). They leave the body whole, and change what the reader keeps as `state_with`

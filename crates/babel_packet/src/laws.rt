@@ -26,7 +26,7 @@ ghost use Rattle.babel_packet.specs.BodyMeanings.{BodyMeans, Means, Provides, st
 
 use crate::Message;
 pub use crate::compression::compressed_is_read;
-use babel_tlv::put_is_one_more;
+use babel_tlv::laws::put_is_one_more;
 use babel_value::{Addr, Prefix, RouterId};
 
 /// The constants of the code are the numbers of the definitions.

@@ -14,7 +14,6 @@ mod walking;
 mod writing;
 
 pub use errors::TlvFault;
-pub use laws::{put_is_one_more, spelled_is_split};
 pub use layout::{DATAGRAM_LEN, MAX_PAYLOAD_LEN, PAD1, TLV_HEADER_LEN};
 pub use splitting::{Tlvs, split};
 pub use tlvs::Tlv;

@@ -21,7 +21,6 @@ pub use addresses::{Addr, Family};
 pub use distances::Distance;
 pub use errors::{AddrTextFault, Memory};
 pub use keys::{Peer, Source};
-pub use laws::{distances_agree_on_lifts, seqnos_agree_on_lifts};
 pub use lines::Line;
 pub use metrics::Metric;
 pub use moments::hold_time;
