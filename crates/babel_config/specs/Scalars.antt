@@ -1,5 +1,5 @@
 -- Numbers, truth values and words of a file (profile).
-use Rattle.std.specs.Prelude.{◌≡◌, ◌<◌, ℕ, pos, Bool, List, codes, Some}
+use Rattle.std.specs.Prelude.{◌≡◌, ◌<◌, ◌^◌, ℕ, pos, Bool, List, codes, Some}
 use Rattle.toml.specs.Data.{Data, as_str, as_integer, as_bool}
 use Rattle.babel_value.specs.declared.addresses.Addr.TheVariants.{V4, V6}
 use Rattle.babel_value.specs.declared.addresses.Family.{Family}
@@ -9,7 +9,7 @@ use Rattle.babel_text.specs.Prefixes.{IsNetworkText}
 
 -- A whole number from 0 to 65535.
 abbrev pub IsNumber : Data → ℕ → Type 0
-IsNumber d n = (n < 65536) × (as_integer d ≡ Some (pos n))
+IsNumber d n = (n < 2 ^ 16) × (as_integer d ≡ Some (pos n))
 
 -- A truth value.
 abbrev pub IsFlag : Data → Bool → Type 0

@@ -8,7 +8,7 @@ ghost use Rattle.babel_state.specs.Addresses.{address_of};
 ghost use Rattle.babel_value.specs.Addresses.{family_of};
 ghost use Rattle.babel_state.specs.State.{interface_at, is_neighbour};
 ghost use Rattle.babel_state.specs.OutgoingMessages.{to_peer, outgoing_ihu, outgoing_finite, outgoing_update, outgoing, outgoing_over, is_source_too_many};
-ghost use Rattle.babel_parts.specs.Limits.{longest_hello};
+ghost use Rattle.babel_state.specs.Limits.{longest_hello};
 ghost use Rattle.babel_core.specs.SentMessages.{HasRoom};
 
 use crate::Core;

@@ -3,6 +3,7 @@
 
 ghost use Rattle.std.specs.Prelude.{◌≡◌, [], ◌∷◌, IsTrue, IsFalse};
 ghost use Rattle.babel_state.specs.declared.requests.Resend.TheVariants.{Unfeasible};
+ghost use Rattle.babel_state.specs.Limits.{request_hops};
 ghost use Rattle.babel_state.specs.Reselection.{queue, updates_to_all, update_to, request_seqno, unfeasible_peers, is_same_origin, advertise_change, may_request_for_lost, seqno_after, request_for_lost, is_selected_peer, request_for_update, request_from_sender, request_for_seqno, select, reselect, reselect_each, reselect_all};
 ghost use Rattle.babel_state.specs.State.{prefixes_in, selected_at};
 ghost use Rattle.babel_state.specs.CurrentSelections.{AreCurrent};
@@ -77,7 +78,7 @@ impl Core {
     /// prefix, unless it is redundant (RFC 8966, section 3.8.2.1).
     #[tactic(auto, unfolding(babel_state::specs::Reselection::request_seqno, babel_state::specs::Reselection::unfeasible_peers))]
     fn request_seqno_from_unfeasible(&mut self, now: u64, source: Source, seqno: Seqno)
-        ensures { self.new ≡ request_seqno now source seqno Unfeasible 64 (unfeasible_peers source.prefix self.old) self.old }
+        ensures { self.new ≡ request_seqno now source seqno Unfeasible request_hops (unfeasible_peers source.prefix self.old) self.old }
     {
         if self.requests.is_redundant(&source, seqno) {
             return;

@@ -50,6 +50,7 @@ impl Model for Core {
 impl Core {
     ghost use Rattle.std.specs.Prelude.{◌≡◌, ◌≤◌, length, slice_get, option_map};
     ghost use Rattle.babel_route.specs.Selections.{prefix_after};
+    ghost use Rattle.babel_state.specs.Limits.{most_pending};
     ghost use Rattle.babel_state.specs.State.{interface_at, announces, is_neighbour, cost_at, rxcost_at, pair_at, entry_at, selected_at};
     ghost use Rattle.babel_state.specs.CurrentSelections.{AreRoutesInOrder};
     ghost use Rattle.babel_value.specs.declared.keys.Peer.{Peer};
@@ -147,7 +148,7 @@ impl Core {
     /// How many items are pending, at most 4,096.
     pub fn pending_count(&self) -> usize
         ensures count { result ≡ length self.now.pending.items }
-        ensures few { result ≤ 4096 }
+        ensures few { result ≤ most_pending }
     {
         self.pending.len()
     }

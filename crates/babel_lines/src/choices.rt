@@ -1,6 +1,7 @@
 //! The lines of the selected routes.
 
 ghost use Rattle.std.specs.Prelude.{◌≡◌, ◌+◌, ◌≤◌, ◌++◌, Some, length};
+ghost use Rattle.babel_value.specs.Lines.{line_room};
 ghost use Rattle.babel_lines.specs.Texts.{choice_text, line, select_text, table_text};
 
 use crate::parts::push_peer;
@@ -49,7 +50,7 @@ pub fn table_line(prefix: &Prefix, choice: &Option<Choice>) -> Line
 
 /// Appends the route, or `none`.
 fn push_choice(line: &mut Line, choice: &Option<Choice>)
-    requires room { length line.old + 98 ≤ 256 }
+    requires room { length line.old + 98 ≤ line_room }
     ensures text { line.new ≡ line.old ++ choice_text choice.now }
     ensures short { length line.new ≤ length line.old + 98 }
 {
@@ -60,7 +61,7 @@ fn push_choice(line: &mut Line, choice: &Option<Choice>)
 }
 
 fn push_route(line: &mut Line, choice: &Choice)
-    requires room { length line.old + 98 ≤ 256 }
+    requires room { length line.old + 98 ≤ line_room }
     ensures text { line.new ≡ line.old ++ choice_text (Some choice.now) }
     ensures short { length line.new ≤ length line.old + 98 }
 {

@@ -1,6 +1,7 @@
 //! What became of a datagram or a cost, and the datagrams that are sent.
 
 ghost use Rattle.std.specs.Prelude.{◌≡◌, ◌+◌, ◌≤◌, ◌++◌, length};
+ghost use Rattle.babel_value.specs.Lines.{line_room};
 ghost use Rattle.babel_state.specs.Codes.{set_cost_code};
 ghost use Rattle.babel_lines.specs.Texts.{cost_refused_text, line, note_text, out_text, refusal_text, refused_text, target_text, verdict_after, verdict_text};
 
@@ -24,7 +25,7 @@ pub fn note_line(time: u64, placed: &Placed, verdict: &Verdict) -> Line
 
 /// Appends the verdict after a message.
 fn push_verdict_after(line: &mut Line, content: &Content, verdict: &Verdict)
-    requires room { length line.old + 17 ≤ 256 }
+    requires room { length line.old + 17 ≤ line_room }
     ensures text { line.new ≡ line.old ++ verdict_after content.now verdict.now }
     ensures short { length line.new ≤ length line.old + 17 }
 {
@@ -36,7 +37,7 @@ fn push_verdict_after(line: &mut Line, content: &Content, verdict: &Verdict)
 
 /// Appends `V1` to `V9`, with the distance after `V2`.
 fn push_verdict(line: &mut Line, verdict: &Verdict)
-    requires room { length line.old + 16 ≤ 256 }
+    requires room { length line.old + 16 ≤ line_room }
     ensures text { line.new ≡ line.old ++ verdict_text verdict.now }
     ensures short { length line.new ≤ length line.old + 16 }
 {
@@ -75,7 +76,7 @@ pub fn refused_line(time: u64, fault: RecvFault) -> Line
 
 /// Appends the code of the fault, with the offset after `P5`.
 fn push_refusal(line: &mut Line, fault: RecvFault)
-    requires room { length line.old + 23 ≤ 256 }
+    requires room { length line.old + 23 ≤ line_room }
     ensures text { line.new ≡ line.old ++ refusal_text fault }
     ensures short { length line.new ≤ length line.old + 23 }
 {
@@ -101,7 +102,7 @@ pub fn cost_refused_line(time: u64, fault: SetCostFault) -> Line
 
 /// Appends the code of the fault.
 fn push_cost_refusal(line: &mut Line, fault: SetCostFault)
-    requires room { length line.old + 2 ≤ 256 }
+    requires room { length line.old + 2 ≤ line_room }
     ensures text { line.new ≡ line.old ++ set_cost_code fault }
     ensures short { length line.new ≤ length line.old + 2 }
 {
@@ -127,7 +128,7 @@ pub fn out_line(time: u64, target: &Target, messages: usize) -> Line
 
 /// Appends an interface, and the address or `all`.
 fn push_target(line: &mut Line, target: &Target)
-    requires room { length line.old + 45 ≤ 256 }
+    requires room { length line.old + 45 ≤ line_room }
     ensures text { line.new ≡ line.old ++ target_text target.now }
     ensures short { length line.new ≤ length line.old + 45 }
 {

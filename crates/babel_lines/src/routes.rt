@@ -1,6 +1,7 @@
 //! The line of a route, and why it is used or not.
 
 ghost use Rattle.std.specs.Prelude.{◌≡◌, ◌+◌, ◌≤◌, ◌++◌, length};
+ghost use Rattle.babel_value.specs.Lines.{line_room};
 ghost use Rattle.babel_lines.specs.Texts.{advertised_distance_text, advertised_text, hop_text, line, link_text, route_text, source_text, status_text, usage_text};
 
 use crate::parts::{push_distance, push_peer};
@@ -60,7 +61,7 @@ pub fn route_line(route: &RouteLine) -> Line
 
 /// Appends the neighbour, and what it advertised.
 fn push_hop(line: &mut Line, peer: &Peer, router: RouterId, distance: &Distance)
-    requires room { length line.old + 102 ≤ 256 }
+    requires room { length line.old + 102 ≤ line_room }
     ensures text { line.new ≡ line.old ++ hop_text peer.now router distance.now }
     ensures short { length line.new ≤ length line.old + 102 }
 {
@@ -72,7 +73,7 @@ fn push_hop(line: &mut Line, peer: &Peer, router: RouterId, distance: &Distance)
 
 /// Appends what the neighbour advertised.
 fn push_advertised(line: &mut Line, router: RouterId, distance: &Distance)
-    requires room { length line.old + 52 ≤ 256 }
+    requires room { length line.old + 52 ≤ line_room }
     ensures text { line.new ≡ line.old ++ advertised_text router distance.now }
     ensures short { length line.new ≤ length line.old + 52 }
 {
@@ -84,7 +85,7 @@ fn push_advertised(line: &mut Line, router: RouterId, distance: &Distance)
 
 /// Appends the seqno and the metric that the neighbour advertised.
 fn push_advertised_distance(line: &mut Line, distance: &Distance)
-    requires room { length line.old + 28 ≤ 256 }
+    requires room { length line.old + 28 ≤ line_room }
     ensures text { line.new ≡ line.old ++ advertised_distance_text distance.now }
     ensures short { length line.new ≤ length line.old + 28 }
 {
@@ -98,7 +99,7 @@ fn push_advertised_distance(line: &mut Line, distance: &Distance)
 
 /// Appends the link, and whether the route is used.
 fn push_usage(line: &mut Line, route: &RouteLine)
-    requires room { length line.old + 54 ≤ 256 }
+    requires room { length line.old + 54 ≤ line_room }
     ensures text { line.new ≡ line.old ++ usage_text route.now.cost route.now.metric route.now.source route.now.status }
     ensures short { length line.new ≤ length line.old + 54 }
 {
@@ -109,7 +110,7 @@ fn push_usage(line: &mut Line, route: &RouteLine)
 
 /// Appends the cost of the link, the metric over it, and the feasibility distance.
 fn push_link(line: &mut Line, cost: Metric, metric: Metric, source: &Option<Distance>)
-    requires room { length line.old + 42 ≤ 256 }
+    requires room { length line.old + 42 ≤ line_room }
     ensures text { line.new ≡ line.old ++ link_text cost metric source.now }
     ensures short { length line.new ≤ length line.old + 42 }
 {
@@ -121,7 +122,7 @@ fn push_link(line: &mut Line, cost: Metric, metric: Metric, source: &Option<Dist
 
 /// Appends the feasibility distance of a source, or `none`.
 fn push_source(line: &mut Line, source: &Option<Distance>)
-    requires room { length line.old + 11 ≤ 256 }
+    requires room { length line.old + 11 ≤ line_room }
     ensures text { line.new ≡ line.old ++ source_text source.now }
     ensures short { length line.new ≤ length line.old + 11 }
 {

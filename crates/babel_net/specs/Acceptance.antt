@@ -2,6 +2,7 @@
 use Rattle.std.specs.Prelude.{◌≡◌, ◌<◌, ℕ, ◌+◌, Bool, false, ◌||◌, nat_lt, List, [], ◌∷◌, All, flat_map, length, Option, Some, None, if◌then◌else◌}
 use Rattle.std.specs.List.{list_any}
 use Rattle.babel_value.specs.declared.addresses.Addr.{Addr}
+use Rattle.babel_value.specs.Seqnos.{seqno_modulus}
 use Rattle.babel_state.specs.declared.configs.Config.{Config}
 use Rattle.babel_state.specs.declared.errors.ConfigFault.{ConfigFault}
 use Rattle.babel_state.specs.Sameness.{is_same_router}
@@ -54,4 +55,4 @@ net_fault configs =
 -- Configurations that are accepted are apart, as far as their first seqnos have 16 bits.
 abbrev pub AcceptedAreApart : Type 0
 AcceptedAreApart =
-    (configs : List Config) → net_fault configs ≡ None → All (λ (c : Config). c.seqno < 65536) configs → AreApart configs
+    (configs : List Config) → net_fault configs ≡ None → All (λ (c : Config). c.seqno < seqno_modulus) configs → AreApart configs

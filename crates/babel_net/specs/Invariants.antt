@@ -6,7 +6,7 @@ use Rattle.babel_value.specs.declared.distances.Distance.{Distance}
 use Rattle.babel_value.specs.declared.keys.Peer.{Peer}
 use Rattle.babel_value.specs.Distances.{is_better}
 use Rattle.babel_value.specs.Prefixes.{PrefixValue}
-use Rattle.babel_value.specs.Seqnos.{lift}
+use Rattle.babel_value.specs.Seqnos.{seqno_modulus, lift}
 use Rattle.babel_state.specs.declared.configs.Config.{Config}
 use Rattle.babel_state.specs.Seen.{Seen, UpdateValue, HeardValue, IsSelecting, is_of_source}
 use Rattle.babel_net.specs.declared.machine.pair.Pair.{Pair}
@@ -34,7 +34,7 @@ IsOrigin configs prefix router = (node : ℕ) × (c : Config) × (slice_get conf
 -- What is always known of an update that a node sent.
 pub record IsKnown (configs : List Config) (node : ℕ) (u : UpdateValue) : Type 0 where
   pub next_hop : owner_of configs u.next_hop ≡ Some node
-  pub seqno : u.distance.seqno < 65536
+  pub seqno : u.distance.seqno < seqno_modulus
   pub origin : IsOrigin configs u.prefix u.router
 
 -- What holds of every network, however often its nodes raised their seqnos.
@@ -47,7 +47,7 @@ pub record Holds (configs : List Config) (w : World) : Type 0 where
   pub transports : (node iface : ℕ) (addr : Addr) → (speaker_at w node).transport_at iface ≡ Some addr → owner_of configs addr ≡ Some node
   pub addresses : (node iface : ℕ) (family : Family) (addr : Addr) → (speaker_at w node).address_at iface family ≡ Some addr → owner_of configs addr ≡ Some node
   -- it announces listed prefixes alone
-  pub seqno : (node : ℕ) → (speaker_at w node).seqno < 65536
+  pub seqno : (node : ℕ) → (speaker_at w node).seqno < seqno_modulus
   pub announces : (node : ℕ) (prefix : PrefixValue) → (speaker_at w node).announces prefix ≡ true → Lists configs node prefix
   -- each of its finite routes is a recorded update
   pub heard : (node : ℕ) (prefix : PrefixValue) (peer : Peer) (h : HeardValue) → (speaker_at w node).heard_at prefix peer ≡ Some h → WasSent configs w.sent prefix peer h
@@ -60,11 +60,11 @@ pub record Holds (configs : List Config) (w : World) : Type 0 where
 abbrev pub Bounds : NetSource → ℕ → Option Distance → List Pair → Type 0
 Bounds s raises None sent = sent ≡ []
 Bounds s raises (Some d) sent =
-    (d.seqno < 65536) × (lift s.start d.seqno ≤ raises) × All (λ own. ¬ IsBetterPair own (lifted s d)) sent
+    (d.seqno < seqno_modulus) × (lift s.start d.seqno ≤ raises) × All (λ own. ¬ IsBetterPair own (lifted s d)) sent
 
 -- What holds for a source that was counted up to 32,767 at most.
 pub record HoldsFor (configs : List Config) (s : NetSource) (w : World) : Type 0 where
-  pub own_seqno : (speaker_at w s.owner).seqno ≡ (s.start + (speaker_at w s.owner).raises) % 65536
+  pub own_seqno : (speaker_at w s.owner).seqno ≡ (s.start + (speaker_at w s.owner).raises) % seqno_modulus
   pub bounds : (node : ℕ) → Bounds s (speaker_at w s.owner).raises ((speaker_at w node).source_at s.prefix s.router) (sent_by s w.sent node)
   pub sound : IsSound (view configs s w)
 

@@ -4,6 +4,7 @@ use Rattle.std.specs.List.{list_any}
 use Rattle.babel_value.specs.declared.addresses.Addr.{Addr}
 use Rattle.babel_value.specs.declared.addresses.Family.TheVariants.{Ipv4, Ipv6}
 use Rattle.babel_value.specs.Prefixes.{PrefixValue}
+use Rattle.babel_value.specs.Seqnos.{seqno_modulus}
 use Rattle.babel_state.specs.declared.configs.Config.{Config}
 use Rattle.babel_state.specs.declared.configs.Interface.{Interface}
 use Rattle.babel_state.specs.Sameness.{is_same_addr, has_prefix}
@@ -41,4 +42,4 @@ pub record AreApart (configs : List Config) : Type 0 where
   pub addresses : (node : ℕ) (c : Config) → slice_get configs node ≡ Some c → All (λ addr. owner_of configs addr ≡ Some node) (addresses_of c)
   pub routers : (one other : ℕ) (c d : Config) → slice_get configs one ≡ Some c → slice_get configs other ≡ Some d → c.router_id ≡ d.router_id → one ≡ other
   pub collection : (node : ℕ) (c : Config) → slice_get configs node ≡ Some c → c.collect ≡ false
-  pub seqnos : (node : ℕ) (c : Config) → slice_get configs node ≡ Some c → c.seqno < 65536
+  pub seqnos : (node : ℕ) (c : Config) → slice_get configs node ≡ Some c → c.seqno < seqno_modulus

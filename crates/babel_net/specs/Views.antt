@@ -4,6 +4,7 @@ use Rattle.std.specs.List.{range_with_len}
 use Rattle.babel_value.specs.Prefixes.{PrefixValue}
 use Rattle.babel_value.specs.Seqnos.{lift}
 use Rattle.babel_value.specs.declared.distances.Distance.{Distance}
+use Rattle.babel_value.specs.Lifts.{greatest_lift}
 use Rattle.babel_state.specs.declared.configs.Config.{Config}
 use Rattle.babel_state.specs.declared.selected.Selected.{Selected}
 use Rattle.babel_state.specs.Sameness.{is_same_router, has_prefix}
@@ -60,7 +61,7 @@ view configs s w = record {
 
 -- The greatest difference that the circular order of seqnos orders as whole numbers (RFC 8966, section 3.2.1).
 abbrev pub max_raises : ℕ
-max_raises = 32767
+max_raises = greatest_lift
 
 -- The source's router-id made at most so many raises (profile).
 abbrev pub IsCounted : NetSource → World → Type 0

@@ -1,5 +1,6 @@
 -- What is proved of the definitions of a network (profile).
 use Rattle.std.specs.Prelude.{◌≡◌, ◌<◌, List, All, None}
+use Rattle.babel_value.specs.Seqnos.{seqno_modulus}
 use Rattle.babel_state.specs.declared.configs.Config.{Config}
 use Rattle.babel_net.specs.declared.events.Event.{Event}
 use Rattle.babel_net.specs.Acceptance.{net_fault}
@@ -13,7 +14,7 @@ use Rattle.babel_network.specs.Promises.{first_network}
 -- Configurations without a fault make a network.
 abbrev pub FirstNetworksAreSound : Type 0
 FirstNetworksAreSound =
-    (configs : List Config) → net_fault configs ≡ None → All (λ (c : Config). c.seqno < 65536) configs → IsNetwork (first_network configs)
+    (configs : List Config) → net_fault configs ≡ None → All (λ (c : Config). c.seqno < seqno_modulus) configs → IsNetwork (first_network configs)
 
 -- An event that makes its step happens in what is seen of the network.
 abbrev pub EventsHappen : Type 0

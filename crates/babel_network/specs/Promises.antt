@@ -9,7 +9,7 @@ use Rattle.babel_net.specs.declared.errors.StepFault.{StepFault}
 use Rattle.babel_net.specs.Cycle.{NoCycle, next_hop_of}
 use Rattle.babel_net.specs.Owners.{owner_of}
 use Rattle.babel_net.specs.Worlds.{NoLoopNaming, NoLoop, speaker_at, router_in}
-use Rattle.babel_net.specs.Views.{NetSource, IsSource, IsCounted, IsRun, view}
+use Rattle.babel_net.specs.Views.{max_raises, NetSource, IsSource, IsCounted, IsRun, view}
 use Rattle.babel_net.specs.NetworkLaws.{ListsAlone, RunTogetherThrough, views}
 use Rattle.babel_network.specs.Networks.{NetworkState, world_of}
 use Rattle.babel_network.specs.Steps.{Makes}
@@ -30,7 +30,7 @@ HasNoLoop n =
 abbrev pub HasNoLoopWithOneOrigin : NetworkState → Type 0
 HasNoLoopWithOneOrigin n =
     (prefix : PrefixValue) (origin : ℕ) →
-    ListsAlone n.configs origin prefix → (speaker_at (world_of n) origin).raises ≤ 32767 → NoLoop n.configs (world_of n) prefix
+    ListsAlone n.configs origin prefix → (speaker_at (world_of n) origin).raises ≤ max_raises → NoLoop n.configs (world_of n) prefix
 
 -- For each such prefix and router-id, a list of machine steps leads from one view to the other, which has no cycle.
 abbrev pub Runs : NetworkState → NetworkState → Type 0

@@ -2,6 +2,7 @@
 
 ghost use Rattle.std.specs.Prelude.{◌≡◌, ◌<◌, ◌≤◌, All, None, length, slice_get, map, option_map, vec_len, vec_capacity, IfOk, IfErr, IfSome, IsNone, OnOk, OnErr};
 ghost use Rattle.std.specs.Option.{option_and_then};
+ghost use Rattle.babel_value.specs.Seqnos.{seqno_modulus};
 ghost use Rattle.babel_state.specs.declared.configs.Config.{Config};
 ghost use Rattle.babel_state.specs.State.{State};
 ghost use Rattle.babel_state.specs.Calls.{first_state, selected_route};
@@ -44,7 +45,7 @@ impl Nodes {
     pub fn new(alloc: Global, configs: Vec<Config>) -> Result<Nodes, NetFault>
         requires { first_bad_from 0 configs.items ≡ None }
         ensures ok { IfOk result (λ nodes. nodes ≡ first_network configs.items) }
-        ensures words { OnOk result (All (λ (c : Config). c.seqno < 65536) configs.items) }
+        ensures words { OnOk result (All (λ (c : Config). c.seqno < seqno_modulus) configs.items) }
         ensures refused { IfErr result IsOutOfMemory }
     {
         let speakers = speakers_of(alloc, &configs)?;
@@ -177,7 +178,7 @@ impl Nodes {
 fn speakers_of(alloc: Global, configs: &[Config]) -> Result<Vec<Speaker>, NetFault>
     requires { first_bad_from 0 configs.now ≡ None }
     ensures ok { IfOk result (λ speakers. speakers.items ≡ map first_state configs.now) }
-    ensures words { OnOk result (All (λ (c : Config). c.seqno < 65536) configs.now) }
+    ensures words { OnOk result (All (λ (c : Config). c.seqno < seqno_modulus) configs.now) }
     ensures refused { IfErr result IsOutOfMemory }
 {
     let mut speakers = match Vec::with_capacity(alloc, configs.len()) {
@@ -199,5 +200,5 @@ fn speakers_of(alloc: Global, configs: &[Config]) -> Result<Vec<Speaker>, NetFau
 
 /// A seqno has 16 bits.
 fn seqno_fits(seqno: u16)
-    ensures { seqno < 65536 }
+    ensures { seqno < seqno_modulus }
 {}

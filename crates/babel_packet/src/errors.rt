@@ -1,6 +1,7 @@
 //! Why a whole datagram is refused.
 
 ghost use Rattle.std.specs.Prelude.{◌≡◌, ◌+◌, ◌≤◌, ◌++◌, Some, length};
+ghost use Rattle.babel_value.specs.Lines.{line_room};
 ghost use Rattle.babel_packet.specs.Texts.{refusal_code};
 
 use babel_value::Line;
@@ -52,7 +53,7 @@ pub struct RefusalCode {
 impl RefusalCode {
     /// Appends the code, which is at most 23 octets.
     pub fn push_to(&self, line: &mut Line)
-        requires room { length line.old + 23 ≤ 256 }
+        requires room { length line.old + 23 ≤ line_room }
         ensures text { line.new ≡ line.old ++ refusal_code self.now.refusal }
         ensures short { length line.new ≤ length line.old + 23 }
     {

@@ -4,6 +4,7 @@
 ghost use Rattle.std.specs.Prelude.{◌≡◌, ◌+◌, ◌≤◌, ◌++◌, Some, codes, length};
 ghost use Rattle.std.specs.Fmt.{decimal};
 ghost use Rattle.babel_value.specs.Texts.{prefix_text, router_text};
+ghost use Rattle.babel_value.specs.Lines.{line_room};
 ghost use Rattle.babel_packet.specs.Texts.{content_text, message_text, placed_text, reason_text, receiver_text, route_text};
 
 use crate::{Content, Message, Placed, Reason};
@@ -58,7 +59,7 @@ impl fmt::Display for Placed {
 impl Placed {
     /// Appends the offset and the content, which are at most 186 octets.
     pub fn push_to(&self, line: &mut Line)
-        requires room { length line.old + 186 ≤ 256 }
+        requires room { length line.old + 186 ≤ line_room }
         ensures text { line.new ≡ line.old ++ placed_text self.now }
         ensures short { length line.new ≤ length line.old + 186 }
     {
@@ -71,7 +72,7 @@ impl Placed {
 impl Content {
     /// Appends the message, `state`, or `ignored` and the reason: at most 165 octets.
     pub fn push_to(&self, line: &mut Line)
-        requires room { length line.old + 165 ≤ 256 }
+        requires room { length line.old + 165 ≤ line_room }
         ensures text { line.new ≡ line.old ++ content_text self.now }
         ensures short { length line.new ≤ length line.old + 165 }
     {
@@ -89,7 +90,7 @@ impl Content {
 impl Reason {
     /// Appends the code, and the sub-TLV's type after `I5`: at most 8 octets.
     pub fn push_to(&self, line: &mut Line)
-        requires room { length line.old + 8 ≤ 256 }
+        requires room { length line.old + 8 ≤ line_room }
         ensures text { line.new ≡ line.old ++ reason_text self.now }
         ensures short { length line.new ≤ length line.old + 8 }
     {
@@ -114,7 +115,7 @@ impl Reason {
 impl Message {
     /// Appends the message's name and fields, which are at most 165 octets.
     pub fn push_to(&self, line: &mut Line)
-        requires room { length line.old + 165 ≤ 256 }
+        requires room { length line.old + 165 ≤ line_room }
         ensures text { line.new ≡ line.old ++ message_text self.now }
         ensures short { length line.new ≤ length line.old + 165 }
     {
@@ -171,7 +172,7 @@ impl Message {
 }
 
 fn push_ihu(line: &mut Line, to: &Option<Addr>, rxcost: Metric, interval: u16)
-    requires room { length line.old + 74 ≤ 256 }
+    requires room { length line.old + 74 ≤ line_room }
     ensures text { line.new ≡ line.old ++ message_text (Message.Ihu to.now rxcost interval) }
     ensures short { length line.new ≤ length line.old + 74 }
 {
@@ -182,7 +183,7 @@ fn push_ihu(line: &mut Line, to: &Option<Addr>, rxcost: Metric, interval: u16)
 
 /// Appends the receiver of an IHU.
 fn push_receiver(line: &mut Line, to: &Option<Addr>)
-    requires room { length line.old + 39 ≤ 256 }
+    requires room { length line.old + 39 ≤ line_room }
     ensures text { line.new ≡ line.old ++ receiver_text to.now }
     ensures short { length line.new ≤ length line.old + 39 }
 {
@@ -195,7 +196,7 @@ fn push_receiver(line: &mut Line, to: &Option<Addr>)
 /// Appends a name, and a prefix with its router-id.
 #[inline]
 fn push_source(line: &mut Line, name: &str, prefix: &Prefix, router: RouterId)
-    requires room { length line.old + length name.now + 69 ≤ 256 }
+    requires room { length line.old + length name.now + 69 ≤ line_room }
     ensures text { line.new ≡ line.old ++ (name.now ++ prefix_text prefix.now ++ codes " router " ++ router_text router) }
     ensures short { length line.new ≤ length line.old + length name.now + 69 }
 {
@@ -207,7 +208,7 @@ fn push_source(line: &mut Line, name: &str, prefix: &Prefix, router: RouterId)
 
 /// Appends the prefix, router-id and next hop of an Update, after its name.
 fn push_route(line: &mut Line, prefix: &Prefix, router: RouterId, next_hop: &Addr)
-    requires room { length line.old + 125 ≤ 256 }
+    requires room { length line.old + 125 ≤ line_room }
     ensures text { line.new ≡ line.old ++ (codes "update " ++ route_text prefix.now router next_hop.now) }
     ensures short { length line.new ≤ length line.old + 125 }
 {
@@ -218,7 +219,7 @@ fn push_route(line: &mut Line, prefix: &Prefix, router: RouterId, next_hop: &Add
 
 /// Appends the numbers of an Update.
 fn push_numbers(line: &mut Line, seqno: Seqno, metric: Metric, interval: u16)
-    requires room { length line.old + 40 ≤ 256 }
+    requires room { length line.old + 40 ≤ line_room }
     ensures text { line.new ≡ line.old ++ (codes " seqno " ++ decimal seqno ++ codes " metric " ++ decimal metric ++ codes " interval " ++ decimal interval) }
     ensures short { length line.new ≤ length line.old + 40 }
 {
@@ -228,7 +229,7 @@ fn push_numbers(line: &mut Line, seqno: Seqno, metric: Metric, interval: u16)
 }
 
 fn push_seqno_request(line: &mut Line, prefix: &Prefix, router: RouterId, seqno: u16, hops: u16)
-    requires room { length line.old + 106 ≤ 256 }
+    requires room { length line.old + 106 ≤ line_room }
     ensures text { line.new ≡ line.old ++ message_text (Message.SeqnoRequest prefix.now router seqno hops) }
     ensures short { length line.new ≤ length line.old + 106 }
 {

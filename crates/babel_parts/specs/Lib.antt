@@ -1,5 +1,5 @@
 pub mod Costs
-pub mod Limits
+pub mod Intervals
 pub mod LinkChanges
 pub mod Reaching
 pub mod ShortHellos

@@ -2,7 +2,7 @@
 use Rattle.std.specs.Prelude.{Bool, List, nat_le}
 use Rattle.std.specs.List.{list_all}
 use Rattle.babel_state.specs.declared.interfaces.InterfaceEntry.{InterfaceEntry}
-use Rattle.babel_parts.specs.Limits.{longest_hello}
+use Rattle.babel_state.specs.Limits.{longest_hello}
 
 -- A Hello interval is short enough if four of them have 16 bits.
 abbrev pub has_short_hello : InterfaceEntry → Bool

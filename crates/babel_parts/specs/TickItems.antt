@@ -16,7 +16,7 @@ use Rattle.babel_state.specs.declared.requests.Resend.TheVariants.{Unfeasible, N
 use Rattle.babel_state.specs.PendingRequests.{PendingRequests}
 use Rattle.babel_state.specs.Reselection.{request_items, is_unfeasible, update_to_all}
 use Rattle.babel_state.specs.Ticks.{is_due_request, is_last, is_due}
-use Rattle.babel_parts.specs.Limits.{request_hops}
+use Rattle.babel_state.specs.Limits.{request_hops}
 
 -- ---- requests that are repeated (RFC 8966, section 3.8.2.1)
 

@@ -22,7 +22,7 @@ pub struct Announced {
 impl Model for Announced {
     ghost use Rattle.std.specs.Prelude.{◌≡◌};
     ghost use Rattle.babel_state.specs.State.{PrefixSet};
-    ghost use Rattle.babel_parts.specs.Limits.{most_prefixes};
+    ghost use Rattle.babel_state.specs.Limits.{most_prefixes};
 
     ghost Value = { PrefixSet };
 

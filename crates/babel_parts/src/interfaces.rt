@@ -3,7 +3,7 @@
 ghost use Rattle.std.specs.Prelude.{◌≡◌, ◌≤◌, ◌<◌, length, slice_get, slice_set, IfOk, IfSome, true};
 ghost use Rattle.std.specs.Option.{option_map_or};
 ghost use Rattle.babel_value.specs.Metrics.{infinity};
-ghost use Rattle.babel_parts.specs.Limits.{longest_hello, most_interfaces};
+ghost use Rattle.babel_state.specs.Limits.{longest_hello, most_interfaces};
 ghost use Rattle.babel_parts.specs.ShortHellos.{have_short_hellos};
 
 use babel_state::{InterfaceEntry, MAX_INTERFACES};
@@ -19,7 +19,7 @@ pub struct Interfaces {
 impl Model for Interfaces {
     ghost use Rattle.std.specs.Prelude.{◌≡◌, ◌≤◌, List, length, true};
     ghost use Rattle.babel_state.specs.declared.interfaces.InterfaceEntry.{InterfaceEntry};
-    ghost use Rattle.babel_parts.specs.Limits.{most_interfaces};
+    ghost use Rattle.babel_state.specs.Limits.{most_interfaces};
     ghost use Rattle.babel_parts.specs.ShortHellos.{have_short_hellos};
 
     ghost Value = { List InterfaceEntry };

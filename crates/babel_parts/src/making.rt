@@ -6,7 +6,7 @@ ghost use Rattle.babel_value.specs.Orders.{prefix_cmp};
 ghost use Rattle.babel_state.specs.Calls.{new_interface};
 ghost use Rattle.babel_state.specs.Configs.{config_fault};
 ghost use Rattle.babel_state.specs.State.{gathered};
-ghost use Rattle.babel_parts.specs.Limits.{most_prefixes};
+ghost use Rattle.babel_state.specs.Limits.{most_prefixes};
 
 use crate::{Announced, Interfaces};
 use babel_state::{Config, Interface, InterfaceEntry};

@@ -4,7 +4,8 @@ ghost use Rattle.std.specs.Prelude.{◌≡◌, ◌≤◌, ◌*◌, Some};
 ghost use Rattle.babel_packet.specs.declared.messages.Message.TheVariants as messages;
 ghost use Rattle.babel_state.specs.declared.items.Outgoing.TheVariants as outgoings;
 ghost use Rattle.babel_state.specs.OutgoingMessages.{to_all, to_peer, outgoing_hello};
-ghost use Rattle.babel_parts.specs.Limits.{longest_hello, hellos_an_ihu, hellos_an_update};
+ghost use Rattle.babel_state.specs.Limits.{longest_hello};
+ghost use Rattle.babel_parts.specs.Intervals.{hellos_an_ihu, hellos_an_update};
 
 use babel_packet::Message;
 use babel_state::{InterfaceEntry, Outgoing, Target};

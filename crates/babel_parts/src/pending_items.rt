@@ -18,7 +18,7 @@ pub struct PendingItems {
 impl Model for PendingItems {
     ghost use Rattle.std.specs.Prelude.{◌≡◌};
     ghost use Rattle.babel_state.specs.Queueing.{Pending};
-    ghost use Rattle.babel_parts.specs.Limits.{most_pending};
+    ghost use Rattle.babel_state.specs.Limits.{most_pending};
 
     ghost Value = { Pending };
 

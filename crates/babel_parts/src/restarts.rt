@@ -3,7 +3,7 @@
 ghost use Rattle.std.specs.Prelude.{◌≡◌, ◌<◌, ◌+◌, [], length, take};
 ghost use Rattle.babel_route.specs.Sources.{lowered};
 ghost use Rattle.babel_state.specs.Restarts.{restored_sources, IsSnapshot};
-ghost use Rattle.babel_parts.specs.Limits.{most_sources};
+ghost use Rattle.babel_route.specs.Rooms.{most_sources};
 
 use babel_route::Sources;
 use babel_snapshot::SavedState;

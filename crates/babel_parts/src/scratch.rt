@@ -4,6 +4,7 @@ ghost use Rattle.std.specs.Prelude.{◌≡◌, ◌&&◌, ◌≤◌, ◌<◌, ◌
 ghost use Rattle.std.specs.FinMap.{put, is_sorted};
 ghost use Rattle.babel_value.specs.Orders.{prefix_cmp};
 ghost use Rattle.babel_value.specs.Prefixes.{PrefixValue};
+ghost use Rattle.babel_route.specs.Rooms.{most_listed_prefixes};
 ghost use Rattle.babel_route.specs.Routes.{is_from};
 ghost use Rattle.babel_state.specs.Sameness.{has_prefix};
 ghost use Rattle.babel_state.specs.State.{gathered, prefixes_in};
@@ -11,15 +12,14 @@ ghost use Rattle.babel_parts.specs.LinkChanges.{prefixes_from};
 ghost use Rattle.babel_parts.specs.StalePrefixes.{is_stale};
 
 use crate::{Announced, Prefixes};
-use babel_route::{Costs, Cursor, Memory, RouteKey, Routes, SortedTable, Sources, Table};
+use babel_route::{
+    Costs, Cursor, Memory, PREFIX_PLACES, RouteKey, Routes, SortedTable, Sources, Table,
+};
 use babel_value::{Peer, Prefix};
 use std::alloc::Global;
 use std::marker::Model;
 
-/// How many prefixes there is room for: one for each of 256 routes and 256 selections.
-const PREFIX_PLACES: usize = 512;
-
-/// Room for a set of at most 512 prefixes.
+/// Room for a set of at most `PREFIX_PLACES` prefixes.
 #[derive(Drop)]
 pub struct Scratch {
     table: SortedTable<Prefix, ()>,
@@ -29,13 +29,14 @@ pub struct Scratch {
 
 impl Model for Scratch {
     ghost use Rattle.std.specs.Prelude.{◌≡◌};
+    ghost use Rattle.babel_route.specs.Rooms.{most_listed_prefixes};
     ghost use Rattle.babel_state.specs.State.{PrefixSet};
 
     ghost Value = { PrefixSet };
 
     ghost view = { λ a. a.table.entries.items };
 
-    ghost invariant = { λ a. a.table.places ≡ 512 };
+    ghost invariant = { λ a. a.table.places ≡ most_listed_prefixes };
 }
 
 impl Scratch {
@@ -64,7 +65,7 @@ impl Scratch {
 
     /// Adds a prefix. Prefixes that come in ascending order are added in one pass.
     fn put(&mut self, prefix: Prefix)
-        requires room { length self.old < 512 }
+        requires room { length self.old < most_listed_prefixes }
         ensures { self.new ≡ put prefix_cmp prefix tt self.old }
     {
         if let Ok(near) = self.table.put_near(self.near, prefix, ()) {
@@ -74,7 +75,7 @@ impl Scratch {
 
     /// The same. There is at most one prefix more.
     fn insert(&mut self, prefix: Prefix)
-        requires room { length self.old < 512 }
+        requires room { length self.old < most_listed_prefixes }
         ensures prefixes { self.new ≡ put prefix_cmp prefix tt self.old }
         ensures few { length self.new ≤ length self.old + 1 }
     {
@@ -83,7 +84,7 @@ impl Scratch {
 
     /// Adds the prefix of each selection.
     fn insert_selections(&mut self, routes: &Routes)
-        requires room { length self.old + length routes.now.selections ≤ 512 }
+        requires room { length self.old + length routes.now.selections ≤ most_listed_prefixes }
         ensures prefixes { self.new ≡ gathered (map (λ e. e.0) routes.now.selections) self.old }
     {
         for selection in routes.selections() {
@@ -100,7 +101,7 @@ impl Scratch {
         sources: &Sources,
         costs: &C,
     )
-        requires room { length self.old + length routes.now.entries ≤ 512 }
+        requires room { length self.old + length routes.now.entries ≤ most_listed_prefixes }
         ensures { self.new ≡ gathered (filter (is_stale sources.now (C.cost_of costs.now) announced.now routes.now) (prefixes_from peer.now routes.now.entries)) self.old }
     {
         let mut cursor = Cursor::new();
@@ -121,7 +122,7 @@ impl Scratch {
 
     /// Adds the announced prefixes.
     fn insert_announced(&mut self, announced: &Announced)
-        requires room { length self.old + length announced.now ≤ 512 }
+        requires room { length self.old + length announced.now ≤ most_listed_prefixes }
         ensures prefixes { self.new ≡ gathered (prefixes_in announced.now) self.old }
         ensures few { length self.new ≤ length self.old + length announced.now }
     {
@@ -139,7 +140,7 @@ impl Scratch {
         costs: &C,
     )
         requires empty { self.old ≡ [] }
-        requires room { length routes.now.entries + length routes.now.selections ≤ 512 }
+        requires room { length routes.now.entries + length routes.now.selections ≤ most_listed_prefixes }
         ensures { (prefix : PrefixValue) → has_prefix prefix (prefixes_in self.new) ≡ is_stale sources.now (C.cost_of costs.now) announced.now routes.now prefix }
     {
         let mut walk = routes.prefixes();

@@ -29,7 +29,11 @@ SetsCost iface cost old new outcomes.Silent = IsNone (set_cost_fault iface cost 
 SetsCost iface cost old new (outcomes.CostRefused fault) = (set_cost_fault iface cost old ≡ Some fault) × (new ≡ old)
 SetsCost iface cost old new outcome = ⊥
 
--- There is no interface above 255.
+-- The number of an interface is below this one.
+abbrev pub iface_bound : ℕ
+iface_bound = 256
+
+-- No interface has another number.
 abbrev pub TakesAt : Bool → ℕ → ℕ → Addr → List ℕ → State → State → Outcome → Type 0
 TakesAt true time iface source octets old new outcome = TakesDatagram time iface source octets old new outcome
 TakesAt false time iface source octets old new outcome = (outcome ≡ outcomes.Refused refusals.NoInterface) × (new ≡ old)
@@ -40,6 +44,6 @@ SetsAt false iface cost old new outcome = (outcome ≡ outcomes.CostRefused cost
 
 -- What happened to the speaker is one of its steps, with this outcome.
 abbrev pub Steps : ℕ → Action → State → State → Outcome → Type 0
-Steps time (actions.Receive iface source octets) old new outcome = TakesAt (nat_lt iface 256) time iface source octets.now old new outcome
+Steps time (actions.Receive iface source octets) old new outcome = TakesAt (nat_lt iface iface_bound) time iface source octets.now old new outcome
 Steps time actions.Tick old new outcome = (outcome ≡ outcomes.Silent) × (new ≡ ticked time old)
-Steps time (actions.SetCost iface cost) old new outcome = SetsAt (nat_lt iface 256) iface cost old new outcome
+Steps time (actions.SetCost iface cost) old new outcome = SetsAt (nat_lt iface iface_bound) iface cost old new outcome

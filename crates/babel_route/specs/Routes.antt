@@ -7,6 +7,7 @@ use Rattle.std.specs.FinMap.{find, put}
 use Rattle.babel_value.specs.declared.addresses.Addr.{Addr}
 use Rattle.babel_value.specs.declared.distances.Distance.{Distance}
 use Rattle.babel_value.specs.declared.keys.Peer.{Peer}
+use Rattle.babel_value.specs.Metrics.{infinity}
 use Rattle.babel_value.specs.Moments.{later, hold_time}
 use Rattle.babel_value.specs.Orders.{peer_cmp}
 use Rattle.babel_value.specs.Prefixes.{PrefixValue}
@@ -48,7 +49,7 @@ updated now prefix peer router distance next_hop interval es =
 -- A retracted entry has an infinite metric. All else stays, and its hold time begins again (profile).
 abbrev pub retracted_entry : ℕ → Entry → Entry
 retracted_entry now e =
-    record e { distance = record e.distance { metric = 65535 }; deadline = later now (hold_time e.interval) }
+    record e { distance = record e.distance { metric = infinity }; deadline = later now (hold_time e.interval) }
 
 -- The entries after a neighbour's retraction of a prefix.
 abbrev pub retracted : ℕ → PrefixValue → Peer → RouteEntries → RouteEntries
@@ -83,7 +84,7 @@ forgotten peer = revised_entries (kept_without peer)
 abbrev pub expired_entry : ℕ → RouteKey → Entry → Option Entry
 expired_entry now key e =
     if nat_le e.deadline now
-    then (if nat_lt e.distance.metric 65535 then Some (retracted_entry now e) else None)
+    then (if nat_lt e.distance.metric infinity then Some (retracted_entry now e) else None)
     else Some e
 
 abbrev pub expired : ℕ → RouteEntries → RouteEntries

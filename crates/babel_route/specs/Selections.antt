@@ -7,7 +7,7 @@ use Rattle.std.specs.Ordering.{nat_cmp, bool_cmp, ordering_then, eq_by_cmp, is_l
 use Rattle.std.specs.FinMap.{find}
 use Rattle.babel_value.specs.declared.keys.Peer.{Peer}
 use Rattle.babel_value.specs.declared.keys.Source.{Source}
-use Rattle.babel_value.specs.Metrics.{metric_sum}
+use Rattle.babel_value.specs.Metrics.{infinity, metric_sum}
 use Rattle.babel_value.specs.Orders.{prefix_cmp, peer_cmp}
 use Rattle.babel_value.specs.Prefixes.{PrefixValue}
 use Rattle.babel_route.specs.declared.routes.choices.Rank.{Rank}
@@ -41,7 +41,7 @@ route_metric cost route = metric_sum route.1.distance.metric (cost route.0.peer)
 
 -- A route that may be selected: feasible, with a finite metric (RFC 8966, section 3.6).
 abbrev pub is_candidate : Sources → (Peer → ℕ) → Route → Bool
-is_candidate sources cost route = is_feasible_route sources route && nat_lt (route_metric cost route) 65535
+is_candidate sources cost route = is_feasible_route sources route && nat_lt (route_metric cost route) infinity
 
 -- The candidates of a prefix: none, if the prefix is the speaker's own (profile).
 abbrev pub candidates : Sources → (Peer → ℕ) → PrefixValue → Bool → RouteEntries → RouteEntries

@@ -7,6 +7,7 @@ use Rattle.babel_value.specs.Moments.{later}
 use Rattle.babel_value.specs.Orders.{source_cmp}
 use Rattle.babel_route.specs.declared.sources.SourceEntry.{SourceEntry}
 use Rattle.babel_table.specs.Entries.{revised_entries}
+use Rattle.babel_route.specs.Rooms.{collection_time}
 use Rattle.babel_route.specs.Distances.{better_pair}
 
 -- The entries, in the order of their sources.
@@ -18,9 +19,9 @@ abbrev pub pair_of : Source → Sources → Option Distance
 pair_of source sources = option_map (λ source_entry. source_entry.distance) (find source_cmp source sources)
 
 -- The entry that a distance sent now leaves at its source (RFC 8966, section 3.7.3): the better pair, and its time of
--- collection set again, 18,000 centiseconds from now (RFC 8966, appendix B: 3 minutes).
+-- collection set again.
 abbrev pub source_entry_after : ℕ → Option Distance → Distance → SourceEntry
-source_entry_after now pair sent = record { distance = better_pair pair sent; due = later now 18000 }
+source_entry_after now pair sent = record { distance = better_pair pair sent; due = later now collection_time }
 
 -- The table after a distance was sent for a source.
 abbrev pub lowered : ℕ → Source → Distance → Sources → Sources

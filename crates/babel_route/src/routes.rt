@@ -4,6 +4,7 @@ ghost use Rattle.std.specs.Prelude.{◌≡◌, ◌↔◌, ◌≤◌, ◌<◌, []
 ghost use Rattle.std.specs.List.{filter};
 ghost use Rattle.std.specs.FinMap.{find, is_sorted};
 ghost use Rattle.babel_value.specs.Orders.{prefix_cmp};
+ghost use Rattle.babel_route.specs.Rooms.{most_routes};
 ghost use Rattle.babel_route.specs.RouteKeys.{route_cmp};
 ghost use Rattle.babel_route.specs.Routes.{key_of, updated, retracted, retracted_all, has_routes_from, forgotten, expired};
 ghost use Rattle.babel_route.specs.Selections.{routes_of, choice, choice_at, reselected, selection_at, SelectsTheFirst, places_taken, prefixes_of, prefix_after, is_beyond};
@@ -63,13 +64,14 @@ pub type Routes = RoutesOver<RouteTable, SelectionTable>;
 impl<E: Table<RouteKey, Entry>, S: Table<Prefix, Selection>> Model for RoutesOver<E, S> {
     ghost use Rattle.std.specs.Prelude.{◌≡◌, ◌≤◌};
     ghost use Rattle.babel_table.specs.Dues.{AreDueFrom};
+    ghost use Rattle.babel_route.specs.Rooms.{most_routes};
     ghost use Rattle.babel_route.specs.Selections.{RoutesValue, places_taken};
 
     ghost Value = { RoutesValue };
 
     ghost view = { λ r. record { entries = E.entries r.entries; selections = S.entries r.selections } };
 
-    ghost invariant = { λ r. (E.room r.entries ≡ 256) × (S.room r.selections ≡ 256) × (places_taken (record { entries = E.entries r.entries; selections = S.entries r.selections }) ≤ 256) × AreDueFrom (λ e. e.deadline) r.due (E.entries r.entries) };
+    ghost invariant = { λ r. (E.room r.entries ≡ most_routes) × (S.room r.selections ≡ most_routes) × (places_taken (record { entries = E.entries r.entries; selections = S.entries r.selections }) ≤ most_routes) × AreDueFrom (λ e. e.deadline) r.due (E.entries r.entries) };
 }
 
 impl<E: Table<RouteKey, Entry>, S: Table<Prefix, Selection>> RoutesOver<E, S> {
@@ -101,7 +103,7 @@ impl<E: Table<RouteKey, Entry>, S: Table<Prefix, Selection>> RoutesOver<E, S> {
         next_hop: Addr,
         interval: u16,
     ) -> Result<(), Full>
-        ensures full { IsErr result ↔ (IsNone (find route_cmp (key_of prefix peer) self.old.entries) × (places_taken self.old ≡ 256)) }
+        ensures full { IsErr result ↔ (IsNone (find route_cmp (key_of prefix peer) self.old.entries) × (places_taken self.old ≡ most_routes)) }
         ensures ok { OnOk result (self.new ≡ record self.old { entries = updated now prefix peer router distance next_hop interval self.old.entries }) }
         ensures err { OnErr result (self.new ≡ self.old) }
     {
@@ -130,7 +132,7 @@ impl<E: Table<RouteKey, Entry>, S: Table<Prefix, Selection>> RoutesOver<E, S> {
         interval: u16,
         cursor: &mut Cursor,
     ) -> Result<(), Full>
-        ensures full { IsErr result ↔ (IsNone (find route_cmp (key_of prefix peer) self.old.entries) × (places_taken self.old ≡ 256)) }
+        ensures full { IsErr result ↔ (IsNone (find route_cmp (key_of prefix peer) self.old.entries) × (places_taken self.old ≡ most_routes)) }
         ensures ok { OnOk result (self.new ≡ record self.old { entries = updated now prefix peer router distance next_hop interval self.old.entries }) }
         ensures err { OnErr result (self.new ≡ self.old) }
     {

@@ -59,13 +59,14 @@ pub type Sources = SourcesOver<SourceTable>;
 impl<T: Table<Source, SourceEntry>> Model for SourcesOver<T> {
     ghost use Rattle.std.specs.Prelude.{◌≡◌};
     ghost use Rattle.babel_table.specs.Dues.{AreDueFrom};
+    ghost use Rattle.babel_route.specs.Rooms.{most_sources};
     ghost use Rattle.babel_route.specs.Sources.{Sources};
 
     ghost Value = { Sources };
 
     ghost view = { λ s. T.entries s.table };
 
-    ghost invariant = { λ s. (T.room s.table ≡ 512) × AreDueFrom (λ e. e.due) s.due (T.entries s.table) };
+    ghost invariant = { λ s. (T.room s.table ≡ most_sources) × AreDueFrom (λ e. e.due) s.due (T.entries s.table) };
 }
 
 impl<T: Table<Source, SourceEntry>> SourcesOver<T> {

@@ -9,7 +9,8 @@
 --                                           2  metric
 --
 -- The first 26 octets of a record name the source. They rise from record to record.
-use Rattle.std.specs.Prelude.{ℕ, List, [], ◌∷◌}
+use Rattle.std.specs.Prelude.{ℕ, ◌+◌, ◌*◌, List, [], ◌∷◌}
+use Rattle.babel_route.specs.Rooms.{most_sources}
 
 -- ---- the head
 
@@ -37,7 +38,7 @@ head_len = 24
 
 -- A source table has room for so many sources.
 abbrev pub most_records : ℕ
-most_records = 512
+most_records = most_sources
 
 -- ---- a record
 
@@ -83,3 +84,13 @@ record_len = 30
 
 abbrev pub router_id_len : ℕ
 router_id_len = 8
+
+-- The octets that name the source.
+abbrev pub source_len : ℕ
+source_len = record_seqno
+
+-- ---- the whole
+
+-- The most octets of a snapshot.
+abbrev pub max_snapshot_len : ℕ
+max_snapshot_len = head_len + record_len * most_records

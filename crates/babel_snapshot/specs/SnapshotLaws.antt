@@ -8,6 +8,7 @@ use Rattle.babel_value.specs.Addresses.{width_of}
 use Rattle.babel_value.specs.Orders.{source_cmp, octets_cmp}
 use Rattle.babel_value.specs.Prefixes.{cleared_addr}
 use Rattle.babel_value.specs.RouterIds.{is_reserved}
+use Rattle.babel_value.specs.Seqnos.{seqno_modulus}
 use Rattle.babel_state.specs.Restarts.{Snapshot, IsSnapshot}
 use Rattle.babel_snapshot.specs.Layout as layout
 use Rattle.babel_snapshot.specs.Octets.{source_octets, snapshot_octets}
@@ -34,7 +35,7 @@ pub record IsSource (source : Source) : Type 0 where
 -- A source with a seqno of 16 bits.
 pub record IsRecord (e : Source × Distance) : Type 0 where
   pub source : IsSource e.0
-  pub seqno : e.1.seqno < 65536
+  pub seqno : e.1.seqno < seqno_modulus
 
 -- A snapshot whose router-id is 8 octets, and whose sources are whole.
 pub record IsWhole (snapshot : Snapshot) : Type 0 where

@@ -1,7 +1,8 @@
 //! Snapshots are tested, and read without an allocation.
 
-ghost use Rattle.std.specs.Prelude.{◌≡◌, ◌↔◌, ◌+◌, ◌*◌, ◌≤◌, ◌<◌, length, slice_get, Some, None, IsOk, IsNone, IfOk, IfErr};
+ghost use Rattle.std.specs.Prelude.{◌≡◌, ◌↔◌, ◌+◌, ◌*◌, ◌^◌, ◌≤◌, ◌<◌, length, slice_get, Some, None, IsOk, IsNone, IfOk, IfErr};
 ghost use Rattle.babel_state.specs.Restarts.{IsSnapshot};
+ghost use Rattle.babel_snapshot.specs.Layout as layout;
 ghost use Rattle.babel_snapshot.specs.Reading.{snapshot_in, router_in, seqno_in, raises_in, count_in, record_at, record_fault, records_fault, restore_fault, is_in_order};
 
 use crate::layout::head::{COUNT, RAISES, ROUTER_ID, SEQNO};
@@ -14,10 +15,10 @@ use std::marker::Model;
 
 /// The record with this index.
 fn record_at(octets: &[u8], index: usize) -> &[u8]
-    requires whole { 24 + 30 * (index + 1) ≤ length octets.now }
-    requires short { length octets.now ≤ 15384 }
+    requires whole { layout.head_len + layout.record_len * (index + 1) ≤ length octets.now }
+    requires short { length octets.now ≤ layout.max_snapshot_len }
     ensures octets { result.now ≡ record_at index octets.now }
-    ensures len { length result.now ≡ 30 }
+    ensures len { length result.now ≡ layout.record_len }
 {
     let from = HEAD_LEN + RECORD_LEN * index;
     &octets[from..from + RECORD_LEN]
@@ -26,8 +27,8 @@ fn record_at(octets: &[u8], index: usize) -> &[u8]
 /// Whether the record is the first one, or greater than the one before it.
 #[tactic(auto, using(crate::proofs::SnapshotsRead::first_in_order, crate::proofs::SnapshotsRead::next_in_order))]
 fn is_in_order(octets: &[u8], index: usize) -> bool
-    requires whole { 24 + 30 * (index + 1) ≤ length octets.now }
-    requires short { length octets.now ≤ 15384 }
+    requires whole { layout.head_len + layout.record_len * (index + 1) ≤ length octets.now }
+    requires short { length octets.now ≤ layout.max_snapshot_len }
     ensures { result ≡ is_in_order index octets.now }
 {
     if index == 0 {
@@ -39,8 +40,8 @@ fn is_in_order(octets: &[u8], index: usize) -> bool
 /// The fault of a record.
 #[tactic(auto, unfolding(crate::specs::Reading::record_fault))]
 fn record_fault(octets: &[u8], index: usize) -> Option<RestoreFault>
-    requires whole { 24 + 30 * (index + 1) ≤ length octets.now }
-    requires short { length octets.now ≤ 15384 }
+    requires whole { layout.head_len + layout.record_len * (index + 1) ≤ length octets.now }
+    requires short { length octets.now ≤ layout.max_snapshot_len }
     ensures { result ≡ record_fault index octets.now }
 {
     if record_in(record_at(octets, index)).is_none() {
@@ -55,8 +56,8 @@ fn record_fault(octets: &[u8], index: usize) -> Option<RestoreFault>
 /// The first fault of the records.
 #[tactic(auto, using(crate::proofs::SnapshotsRead::no_more, crate::proofs::SnapshotsRead::first_fault))]
 fn records_fault(octets: &[u8], count: usize) -> Option<RestoreFault>
-    requires whole { 24 + 30 * count ≡ length octets.now }
-    requires few { count ≤ 512 }
+    requires whole { layout.head_len + layout.record_len * count ≡ length octets.now }
+    requires few { count ≤ layout.most_records }
     ensures { result ≡ records_fault count octets.now }
 {
     for index in 0..count {
@@ -69,9 +70,9 @@ fn records_fault(octets: &[u8], count: usize) -> Option<RestoreFault>
 
 /// The number of records.
 fn count_in(octets: &[u8]) -> usize
-    requires { 24 ≤ length octets.now }
+    requires { layout.head_len ≤ length octets.now }
     ensures count { result ≡ count_in octets.now }
-    ensures small { result < 65536 }
+    ensures small { result < 2 ^ 16 }
 {
     usize::from(BigEndian::read_u16(&octets[COUNT..]))
 }

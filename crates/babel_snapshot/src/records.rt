@@ -5,6 +5,7 @@ ghost use Rattle.std.specs.Ordering.{is_lt};
 ghost use Rattle.std.specs.Str.{bytes_eq};
 ghost use Rattle.babel_value.specs.Orders.{octets_cmp};
 ghost use Rattle.babel_value.specs.RouterIds.{router_id_of};
+ghost use Rattle.babel_snapshot.specs.Layout as layout;
 ghost use Rattle.babel_snapshot.specs.Reading.{addr_in, prefix_with, prefix_in, source_in, distance_in, record_in};
 
 use crate::layout::source_record::{ADDR, FILLING, IPV4, IPV6, LENGTH, METRIC, ROUTER_ID, SEQNO};
@@ -14,8 +15,8 @@ use byteorder::{BigEndian, ByteOrder};
 
 /// The IPv4 address.
 fn ipv4_in(octets: &[u8]) -> Addr
-    requires { length octets.now ≡ 30 }
-    ensures { result ≡ Addr.V4 (take 4 (drop 1 octets.now)) }
+    requires { length octets.now ≡ layout.record_len }
+    ensures { result ≡ Addr.V4 (take layout.ipv4_len (drop layout.record_addr octets.now)) }
 {
     let mut addr = [0; IPV4_LEN];
     addr.copy_from_slice(&octets[ADDR..ADDR + IPV4_LEN]);
@@ -24,8 +25,8 @@ fn ipv4_in(octets: &[u8]) -> Addr
 
 /// The IPv6 address.
 fn ipv6_in(octets: &[u8]) -> Addr
-    requires { length octets.now ≡ 30 }
-    ensures { result ≡ Addr.V6 (take 16 (drop 1 octets.now)) }
+    requires { length octets.now ≡ layout.record_len }
+    ensures { result ≡ Addr.V6 (take layout.ipv6_len (drop layout.record_addr octets.now)) }
 {
     let mut addr = [0; IPV6_LEN];
     addr.copy_from_slice(&octets[ADDR..ADDR + IPV6_LEN]);
@@ -34,15 +35,15 @@ fn ipv6_in(octets: &[u8]) -> Addr
 
 /// Whether the octets after an IPv4 address are zeros.
 fn is_filled(octets: &[u8]) -> bool
-    requires { length octets.now ≡ 30 }
-    ensures { result ≡ bytes_eq (take 12 (drop 5 octets.now)) (replicate 12 0) }
+    requires { length octets.now ≡ layout.record_len }
+    ensures { result ≡ bytes_eq (take layout.filling_len (drop layout.record_filling octets.now)) (replicate layout.filling_len 0) }
 {
     octets[FILLING..FILLING + FILLING_LEN] == ZEROS[..]
 }
 
 /// The address, if the octets encode one.
 fn addr_in(octets: &[u8]) -> Option<Addr>
-    requires { length octets.now ≡ 30 }
+    requires { length octets.now ≡ layout.record_len }
     ensures { result ≡ addr_in octets.now }
 {
     match octets[0] {
@@ -64,7 +65,7 @@ fn prefix_with(length: u8, addr: Addr) -> Option<Prefix>
 /// The prefix, if the octets encode one.
 #[tactic(auto, unfolding(crate::specs::Reading::prefix_in))]
 fn prefix_in(octets: &[u8]) -> Option<Prefix>
-    requires { length octets.now ≡ 30 }
+    requires { length octets.now ≡ layout.record_len }
     ensures { result ≡ prefix_in octets.now }
 {
     let addr = addr_in(octets)?;
@@ -73,8 +74,8 @@ fn prefix_in(octets: &[u8]) -> Option<Prefix>
 
 /// The router-id, unless it is reserved.
 fn router_in(octets: &[u8]) -> Option<RouterId>
-    requires { length octets.now ≡ 30 }
-    ensures { result ≡ router_id_of (take 8 (drop 18 octets.now)) }
+    requires { length octets.now ≡ layout.record_len }
+    ensures { result ≡ router_id_of (take layout.router_id_len (drop layout.record_router octets.now)) }
 {
     let mut router = [0; ROUTER_ID_LEN];
     router.copy_from_slice(&octets[ROUTER_ID..ROUTER_ID + ROUTER_ID_LEN]);
@@ -84,7 +85,7 @@ fn router_in(octets: &[u8]) -> Option<RouterId>
 /// The source, if the octets encode one.
 #[tactic(auto, unfolding(crate::specs::Reading::source_in))]
 fn source_in(octets: &[u8]) -> Option<Source>
-    requires { length octets.now ≡ 30 }
+    requires { length octets.now ≡ layout.record_len }
     ensures { result ≡ source_in octets.now }
 {
     let prefix = prefix_in(octets)?;
@@ -95,7 +96,7 @@ fn source_in(octets: &[u8]) -> Option<Source>
 /// The seqno and the metric.
 #[tactic(auto, unfolding(crate::specs::Reading::distance_in))]
 fn distance_in(octets: &[u8]) -> Distance
-    requires { length octets.now ≡ 30 }
+    requires { length octets.now ≡ layout.record_len }
     ensures { result ≡ distance_in octets.now }
 {
     Distance {
@@ -107,7 +108,7 @@ fn distance_in(octets: &[u8]) -> Distance
 /// The source and its distance, if the octets encode one that is finite.
 #[tactic(auto, unfolding(crate::specs::Reading::record_in))]
 pub(crate) fn record_in(octets: &[u8]) -> Option<(Source, Distance)>
-    requires { length octets.now ≡ 30 }
+    requires { length octets.now ≡ layout.record_len }
     ensures { result ≡ record_in octets.now }
 {
     let source = source_in(octets)?;
@@ -121,9 +122,9 @@ pub(crate) fn record_in(octets: &[u8]) -> Option<(Source, Distance)>
 
 /// Whether the source of the first record comes before that of the second one.
 pub(crate) fn is_less(first: &[u8], second: &[u8]) -> bool
-    requires first { length first.now ≡ 30 }
-    requires second { length second.now ≡ 30 }
-    ensures { result ≡ is_lt (octets_cmp (take 26 first.now) (take 26 second.now)) }
+    requires first { length first.now ≡ layout.record_len }
+    requires second { length second.now ≡ layout.record_len }
+    ensures { result ≡ is_lt (octets_cmp (take layout.source_len first.now) (take layout.source_len second.now)) }
 {
     let first = &first[..SEQNO];
     let second = &second[..SEQNO];

@@ -1,9 +1,10 @@
 //! The octets of a source table.
 
-ghost use Rattle.std.specs.Prelude.{◌≡◌, ◌<◌, ◌++◌, map, length, IfOk, OnOk};
+ghost use Rattle.std.specs.Prelude.{◌≡◌, ◌^◌, ◌<◌, ◌++◌, map, length, IfOk, OnOk};
 ghost use Rattle.std.specs.List.{All};
 ghost use Rattle.byteorder.specs.Endian.{big_bytes};
 ghost use Rattle.babel_state.specs.Restarts.{kept_source};
+ghost use Rattle.babel_snapshot.specs.Layout as layout;
 ghost use Rattle.babel_snapshot.specs.Octets.{addr_octets, source_octets, record_octets, records_octets, head_octets, snapshot_octets};
 ghost use Rattle.babel_snapshot.specs.SnapshotLaws.{addr_len, wanted_len, IsSource, IsRecord};
 
@@ -17,7 +18,7 @@ use std::alloc::{AllocError, Global};
 /// The two octets of a number.
 fn two(number: u16) -> [u8; 2]
     ensures octets { result ≡ big_bytes 2 number }
-    ensures small { number < 65536 }
+    ensures small { number < 2 ^ 16 }
 {
     let mut octets = [0; 2];
     BigEndian::write_u16(&mut octets, number);
@@ -98,7 +99,7 @@ fn write_head(
     count: u16,
 ) -> Result<(), AllocError>
     ensures octets { OnOk result (out.new.items ≡ out.old.items ++ head_octets router seqno raises count) }
-    ensures router { OnOk result (length router ≡ 8) }
+    ensures router { OnOk result (length router ≡ layout.router_id_len) }
 {
     let octets = router.octets();
     out.extend_from_slice(&BEGINNING)?;
@@ -119,7 +120,7 @@ pub fn save(
     sources: &Sources,
 ) -> Result<Vec<u8>, Memory>
     ensures ok { IfOk result (λ octets. octets.items ≡ snapshot_octets (record { router = router; seqno = seqno; raises = raises; sources = map kept_source sources.now })) }
-    ensures router { IfOk result (λ octets. length router ≡ 8) }
+    ensures router { IfOk result (λ octets. length router ≡ layout.router_id_len) }
     ensures whole { IfOk result (λ octets. All IsRecord (map kept_source sources.now)) }
 {
     let count = sources.len();

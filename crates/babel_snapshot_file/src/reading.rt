@@ -1,7 +1,7 @@
 //! The octets of a snapshot's file.
 
 ghost use Rattle.std.specs.Prelude.{◌≡◌, ◌≢◌, ◌<◌, ◌≤◌, length, IsErr, IfOk, IfErr, IfSome};
-ghost use Rattle.babel_snapshot_file.specs.Files.{max_snapshot_len};
+ghost use Rattle.babel_snapshot.specs.Layout.{max_snapshot_len};
 ghost use Rattle.babel_snapshot_file.specs.declared.errors.SnapshotFileFault.TheVariants.{Unwritable};
 
 use crate::SnapshotFileFault;

@@ -3,7 +3,8 @@ pub mod Sending
 pub use Rattle.babel_core.specs.Making
 pub use Rattle.babel_core.specs.SentMessages
 pub use Rattle.babel_parts.specs.Costs
-pub use Rattle.babel_parts.specs.Limits
+pub use Rattle.babel_state.specs.Limits
+pub use Rattle.babel_parts.specs.Intervals
 pub use Rattle.babel_parts.specs.LinkChanges
 pub use Rattle.babel_parts.specs.Reaching
 pub use Rattle.babel_parts.specs.ShortHellos

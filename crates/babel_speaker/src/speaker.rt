@@ -7,6 +7,7 @@ ghost use Rattle.babel_route.specs.Selections.{prefix_after};
 ghost use Rattle.babel_state.specs.Addresses.{source_fault, transport_at};
 ghost use Rattle.babel_state.specs.Calls.{set_cost_fault, cost_set, first_state, is_prefix_too_many, announced_also, withdrawn, selected_route, reported_entries};
 ghost use Rattle.babel_state.specs.Configs.{config_fault};
+ghost use Rattle.babel_state.specs.Limits.{most_pending};
 ghost use Rattle.babel_state.specs.Messages.{Receives, IsRecvFault};
 ghost use Rattle.babel_state.specs.CurrentSelections.{AreCurrent, AreInHalf, IsCurrentAt, KeepsCurrent, KeepsSelections};
 ghost use Rattle.babel_state.specs.NextDatagram.{next_datagram};
@@ -17,6 +18,7 @@ ghost use Rattle.babel_state.specs.SeqnoRequests.{raised};
 ghost use Rattle.babel_state.specs.State.{announces, cost_at, pair_at};
 ghost use Rattle.babel_state.specs.Ticks.{ticked};
 ghost use Rattle.babel_value.specs.Prefixes.{PrefixValue};
+ghost use Rattle.babel_value.specs.Seqnos.{seqno_modulus};
 ghost use Rattle.babel_state.specs.Restarts.{snapshot_of, restored, IsRestartedFrom};
 ghost use Rattle.babel_snapshot.specs.Octets.{snapshot_octets};
 ghost use Rattle.babel_snapshot.specs.Reading.{restore_fault, snapshot_in};
@@ -395,7 +397,7 @@ impl Speaker {
     /// How many items are pending, at most 4,096.
     pub fn pending_count(&self) -> usize
         ensures count { result ≡ length self.now.pending.items }
-        ensures few { result ≤ 4096 }
+        ensures few { result ≤ most_pending }
     {
         self.core.core.pending_count()
     }
@@ -424,5 +426,5 @@ impl Speaker {
 
 /// A seqno has 16 bits.
 fn seqno_fits(seqno: u16)
-    ensures { seqno < 65536 }
+    ensures { seqno < seqno_modulus }
 {}

@@ -16,6 +16,7 @@ use Rattle.babel_state.specs.declared.errors.SetCostFault.{SetCostFault}
 use Rattle.babel_state.specs.declared.errors.SetCostFault.TheVariants.{NoInterface, CostOutOfRange}
 use Rattle.babel_state.specs.declared.interfaces.InterfaceEntry.{InterfaceEntry}
 use Rattle.babel_state.specs.declared.selected.Selected.{Selected}
+use Rattle.babel_state.specs.Limits.{greatest_cost, most_prefixes}
 use Rattle.babel_state.specs.Configs.{is_up_to}
 use Rattle.babel_state.specs.State.{State, interface_at, with_interface, announces, cost_at, selected_at, gathered}
 use Rattle.babel_state.specs.Reselection.{queue, updates_to_all, select}
@@ -58,7 +59,7 @@ first_state c = record {
 -- Why a nominal cost isn't set: the first cause that holds.
 abbrev pub set_cost_fault_on : ℕ → Option InterfaceEntry → Option SetCostFault
 set_cost_fault_on cost None = Some NoInterface
-set_cost_fault_on cost (Some i) = if is_up_to 65534 cost then None else Some CostOutOfRange
+set_cost_fault_on cost (Some i) = if is_up_to greatest_cost cost then None else Some CostOutOfRange
 
 abbrev pub set_cost_fault : ℕ → ℕ → State → Option SetCostFault
 set_cost_fault iface cost s = set_cost_fault_on cost (interface_at iface s)
@@ -75,7 +76,7 @@ select_and_advertise prefix s = queue (updates_to_all prefix s) (select prefix s
 
 -- The prefix is new, and 64 others are announced.
 abbrev pub is_prefix_too_many : PrefixValue → State → Bool
-is_prefix_too_many prefix s = if announces prefix s then false else length s.announced == 64
+is_prefix_too_many prefix s = if announces prefix s then false else length s.announced == most_prefixes
 
 unfoldable pub announced_also : PrefixValue → State → State
 announced_also prefix s =

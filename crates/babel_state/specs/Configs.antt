@@ -6,6 +6,7 @@ use Rattle.babel_value.specs.declared.addresses.Family.TheVariants.{Ipv4}
 use Rattle.babel_value.specs.Addresses.{family_of}
 use Rattle.babel_value.specs.RouterIds.{is_reserved}
 use Rattle.babel_value.specs.Prefixes.{PrefixValue}
+use Rattle.babel_state.specs.Limits.{most_interfaces, most_peers, most_prefixes, greatest_cost, longest_hello}
 use Rattle.babel_state.specs.Sameness.{is_same_family, has_prefix}
 use Rattle.babel_state.specs.declared.configs.Config.{Config}
 use Rattle.babel_state.specs.declared.configs.Interface.{Interface}
@@ -43,21 +44,21 @@ has_foreign_peer i = list_any (λ peer. not (is_same_family (family_of peer) i.t
 
 unfoldable pub has_bad_addresses : Interface → Bool
 has_bad_addresses i =
-    lacks_transport i || has_global_address i || has_long_network i || nat_lt 16 (length i.peers.items) || has_foreign_peer i
+    lacks_transport i || has_global_address i || has_long_network i || nat_lt most_peers (length i.peers.items) || has_foreign_peer i
 
 unfoldable pub has_bad_cost : Interface → Bool
-has_bad_cost i = not (is_up_to 65534 i.cost)
+has_bad_cost i = not (is_up_to greatest_cost i.cost)
 
 unfoldable pub has_bad_hello : Interface → Bool
-has_bad_hello i = not (is_up_to 4000 i.hello)
+has_bad_hello i = not (is_up_to longest_hello i.hello)
 
 -- The cause of each fault; memory is none of the configuration's own.
 abbrev pub has_cause : Config → ConfigFault → Bool
 has_cause c ReservedRouterId = is_reserved c.router_id
-has_cause c InterfaceCount = not (is_up_to 8 (length c.interfaces.items))
+has_cause c InterfaceCount = not (is_up_to most_interfaces (length c.interfaces.items))
 has_cause c NominalCost = list_any has_bad_cost c.interfaces.items
 has_cause c HelloInterval = list_any has_bad_hello c.interfaces.items
-has_cause c Prefixes = nat_lt 64 (length c.prefixes.items) || repeats c.prefixes.items
+has_cause c Prefixes = nat_lt most_prefixes (length c.prefixes.items) || repeats c.prefixes.items
 has_cause c InterfaceAddresses = list_any has_bad_addresses c.interfaces.items
 has_cause c Memory = false
 

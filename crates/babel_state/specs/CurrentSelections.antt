@@ -4,7 +4,8 @@ use Rattle.std.specs.List.{list_any}
 use Rattle.babel_value.specs.declared.distances.Distance.{Distance}
 use Rattle.babel_value.specs.declared.keys.Peer.{Peer}
 use Rattle.babel_value.specs.Prefixes.{PrefixValue}
-use Rattle.babel_value.specs.Seqnos.{lift}
+use Rattle.babel_value.specs.Lifts.{greatest_lift}
+use Rattle.babel_value.specs.Seqnos.{seqno_modulus, lift}
 use Rattle.babel_packet.specs.declared.messages.Message.{Message}
 use Rattle.babel_packet.specs.declared.placements.Placed.{Placed}
 use Rattle.babel_route.specs.declared.routes.entries.Entry.{Entry}
@@ -56,11 +57,11 @@ pub record KeepsSelections (old new : State) : Type 0 where
 
 -- The seqno is at most 32,767 ahead of the first one.
 abbrev pub IsInHalf : ℕ → ℕ → Type 0
-IsInHalf first seqno = (seqno < 65536) × (lift first seqno ≤ 32767)
+IsInHalf first seqno = (seqno < seqno_modulus) × (lift first seqno ≤ greatest_lift)
 
 -- The seqnos of the prefix's routes and sources lie in one half of the circle. There the order of seqnos is transitive.
 pub record AreInHalf (first : ℕ) (prefix : PrefixValue) (s : State) : Type 0 where
-  pub begins : first < 65536
+  pub begins : first < seqno_modulus
   pub routes : (peer : Peer) (e : Entry) → entry_at prefix peer s ≡ Some e → IsInHalf first e.distance.seqno
   pub sources : (router : List ℕ) (d : Distance) → pair_at prefix router s ≡ Some d → IsInHalf first d.seqno
 

@@ -5,7 +5,7 @@ use Rattle.babel_value.specs.declared.addresses.Addr.{Addr}
 use Rattle.babel_value.specs.declared.keys.Peer.{Peer}
 use Rattle.babel_link.specs.declared.marks.Heard.{Heard}
 use Rattle.babel_link.specs.declared.marks.Heard.TheVariants.{Kept, Flush}
-use Rattle.babel_link.specs.Neighbours.{hello_of, hello_verdict, ihu_of}
+use Rattle.babel_link.specs.Neighbours.{max_neighbours, hello_of, hello_verdict, ihu_of}
 use Rattle.babel_route.specs.Routes.{forgotten}
 use Rattle.babel_state.specs.declared.notes.Verdict.{Verdict}
 use Rattle.babel_state.specs.declared.notes.Verdict.TheVariants.{Taken, TableFull, OtherAddress}
@@ -33,7 +33,7 @@ hears now peer unicast seqno interval s =
 
 -- There is no room for the sender (profile).
 abbrev pub is_neighbour_too_many : Peer → State → Bool
-is_neighbour_too_many peer s = not (is_neighbour peer s) && (length s.neighbours == 64)
+is_neighbour_too_many peer s = not (is_neighbour peer s) && (length s.neighbours == max_neighbours)
 
 -- A Hello. Costs may change by it, so that all routes are selected again (RFC 8966, section 3.4.1).
 unfoldable pub handle_hello : ℕ → Peer → Bool → ℕ → ℕ → State → Step

@@ -1,12 +1,14 @@
 -- What holds of a speaker's state after every call (profile).
-use Rattle.std.specs.Prelude.{◌≡◌, ℕ, ◌<◌, ◌≤◌, ◌^◌, true, false, List, All, length, IsSome, None, Some, ⊤}
+use Rattle.std.specs.Prelude.{◌≡◌, ℕ, ◌<◌, ◌≤◌, ◌*◌, ◌^◌, true, false, List, All, length, IsSome, None, Some, ⊤}
 use Rattle.std.specs.FinMap.{is_sorted}
 use Rattle.babel_value.specs.declared.keys.Peer.{Peer}
 use Rattle.babel_value.specs.declared.keys.Source.{Source}
 use Rattle.babel_value.specs.Orders.{prefix_cmp, peer_cmp, source_cmp}
 use Rattle.babel_value.specs.Prefixes.{PrefixValue}
+use Rattle.babel_value.specs.Metrics.{infinity}
+use Rattle.babel_value.specs.Seqnos.{seqno_modulus}
 use Rattle.babel_link.specs.declared.links.Link.{Link}
-use Rattle.babel_link.specs.Neighbours.{Links}
+use Rattle.babel_link.specs.Neighbours.{max_neighbours, Links}
 use Rattle.babel_packet.specs.declared.messages.Message.{Message}
 use Rattle.babel_packet.specs.Encodable.{is_encodable}
 use Rattle.babel_route.specs.declared.routes.entries.Selection.{Selection}
@@ -14,11 +16,13 @@ use Rattle.babel_route.specs.declared.sources.SourceEntry.{SourceEntry}
 use Rattle.babel_route.specs.RouteKeys.{route_cmp}
 use Rattle.babel_route.specs.Selections.{RoutesValue}
 use Rattle.babel_route.specs.Sources.{Sources}
+use Rattle.babel_route.specs.Rooms.{most_sources}
 use Rattle.babel_state.specs.declared.configs.Config.{Config}
 use Rattle.babel_state.specs.declared.interfaces.InterfaceEntry.{InterfaceEntry}
 use Rattle.babel_state.specs.declared.items.Item.{Item}
 use Rattle.babel_state.specs.declared.items.Item.TheVariants as items
 use Rattle.babel_state.specs.declared.requests.PendingRequest.{PendingRequest}
+use Rattle.babel_state.specs.Limits.{most_interfaces, most_prefixes, most_requests, most_pending, greatest_cost, longest_hello, last_wait}
 use Rattle.babel_state.specs.Configs.{config_fault}
 use Rattle.babel_state.specs.Queueing.{Pending}
 use Rattle.babel_state.specs.PendingRequests.{PendingRequests}
@@ -35,12 +39,12 @@ use Rattle.babel_state.specs.CurrentSelections.{is_selection_candidate, IsCurren
 
 -- An interface's cost is finite and positive, its Hello interval is at most 40 seconds, and it has an address of its transport's family.
 pub record IsUsable (i : InterfaceEntry) : Type 0 where
-  pub cost : (1 ≤ i.cost) × (i.cost ≤ 65534)
-  pub hello : (1 ≤ i.hello) × (i.hello ≤ 4000)
+  pub cost : (1 ≤ i.cost) × (i.cost ≤ greatest_cost)
+  pub hello : (1 ≤ i.hello) × (i.hello ≤ longest_hello)
   pub transport : IsSome (transport_of i)
 
 pub record AreInterfaces (interfaces : List InterfaceEntry) : Type 0 where
-  pub few : length interfaces ≤ 8
+  pub few : length interfaces ≤ most_interfaces
   pub usable : All IsUsable interfaces
 
 -- A link costs at least 1 (RFC 8966, section 3.5.2: costs are positive).
@@ -48,20 +52,20 @@ abbrev pub HasCost : Peer × Link → Type 0
 HasCost e = 1 ≤ e.1.txcost
 
 pub record AreNeighbours (neighbours : Links) : Type 0 where
-  pub few : length neighbours ≤ 64
+  pub few : length neighbours ≤ max_neighbours
   pub costs : All HasCost neighbours
   pub in_order : is_sorted peer_cmp neighbours ≡ true
 
 pub record AreAnnounced (announced : PrefixSet) : Type 0 where
-  pub few : length announced ≤ 64
+  pub few : length announced ≤ most_prefixes
   pub in_order : is_sorted prefix_cmp announced ≡ true
 
 -- A feasibility distance is finite (RFC 8966, section 3.2.5).
 abbrev pub IsFinite : Source × SourceEntry → Type 0
-IsFinite e = e.1.distance.metric < 65535
+IsFinite e = e.1.distance.metric < infinity
 
 pub record AreSources (sources : Sources) : Type 0 where
-  pub few : length sources ≤ 512
+  pub few : length sources ≤ most_sources
   pub finite : All IsFinite sources
   pub in_order : is_sorted source_cmp sources ≡ true
 
@@ -71,10 +75,10 @@ pub record AreRoutes (routes : RoutesValue) : Type 0 where
 
 -- A wait doubles as long as it is below 1,600 centiseconds.
 abbrev pub HasShortWait : Source × PendingRequest → Type 0
-HasShortWait e = e.1.wait < 3200
+HasShortWait e = e.1.wait < 2 * last_wait
 
 pub record AreRequests (requests : PendingRequests) : Type 0 where
-  pub few : length requests ≤ 64
+  pub few : length requests ≤ most_requests
   pub waits : All HasShortWait requests
   pub in_order : is_sorted source_cmp requests ≡ true
 
@@ -84,7 +88,7 @@ HasHops (items.Request peer source seqno hops) = 1 ≤ hops
 HasHops item = ⊤
 
 pub record IsQueue (pending : Pending) : Type 0 where
-  pub few : length pending.items ≤ 4096
+  pub few : length pending.items ≤ most_pending
   pub hops : All HasHops pending.items
   pub dropped : pending.dropped < 2 ^ 64
 
@@ -99,7 +103,7 @@ pub record AreTables (s : State) : Type 0 where
   pub routes : AreRoutes s.routes
   pub requests : AreRequests s.requests
   pub pending : IsQueue s.pending
-  pub seqno : s.seqno < 65536
+  pub seqno : s.seqno < seqno_modulus
   pub raises : s.raises < 2 ^ 64
   pub left_out : s.left_out < 2 ^ 64
 
@@ -117,7 +121,7 @@ pub record IsWellFormed (s : State) : Type 0 where
 -- ---- a new speaker has it, and each step keeps it
 
 abbrev pub NewSpeakersAreWellFormed : Type 0
-NewSpeakersAreWellFormed = (c : Config) → c.seqno < 65536 → config_fault c ≡ None → IsWellFormed (first_state c)
+NewSpeakersAreWellFormed = (c : Config) → c.seqno < seqno_modulus → config_fault c ≡ None → IsWellFormed (first_state c)
 
 abbrev pub MessagesKeepTables : Type 0
 MessagesKeepTables =

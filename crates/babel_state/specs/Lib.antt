@@ -1,3 +1,4 @@
+pub mod Limits
 pub mod Sameness
 pub mod Configs
 pub mod Codes

@@ -14,6 +14,7 @@ use Rattle.babel_route.specs.declared.routes.entries.Selection.{Selection}
 use Rattle.babel_route.specs.Routes.{key_of}
 use Rattle.babel_route.specs.Selections.{route_metric}
 use Rattle.babel_route.specs.Sources.{Sources}
+use Rattle.babel_route.specs.Rooms.{most_sources}
 use Rattle.babel_state.specs.declared.interfaces.InterfaceEntry.{InterfaceEntry}
 use Rattle.babel_state.specs.declared.items.Item.{Item}
 use Rattle.babel_state.specs.declared.items.Item.TheVariants as items
@@ -63,9 +64,9 @@ advertisement prefix s =
     if announces prefix s then Some (own_advertisement s)
     else option_map_or (λ route. Some (route_advertisement prefix s route)) (selected_at prefix s) None
 
--- The source is new to the source table, and 512 others are there.
+-- The source is new to the source table, and the table has no room.
 abbrev pub is_source_too_many : Source → Sources → Bool
-is_source_too_many source sources = is_none (find source_cmp source sources) && (length sources == 512)
+is_source_too_many source sources = is_none (find source_cmp source sources) && (length sources == most_sources)
 
 -- An Update names the interface's own address of the prefix's family as next hop. It needs a place in the source table (RFC 8966, section 3.7.3).
 abbrev pub outgoing_finite : Target → PrefixValue → Advertisement → InterfaceEntry → State → Option Addr → Outgoing

@@ -8,6 +8,7 @@ use Rattle.babel_value.specs.Moments.{later}
 use Rattle.babel_value.specs.Orders.{source_cmp}
 use Rattle.babel_state.specs.declared.requests.Resend.{Resend}
 use Rattle.babel_state.specs.declared.requests.PendingRequest.{PendingRequest}
+use Rattle.babel_state.specs.Limits.{most_requests, first_wait}
 
 -- At most one for each source, in the order of the sources (RFC 8966, section 3.2.7).
 abbrev pub PendingRequests : Type 0
@@ -20,11 +21,11 @@ is_redundant source seqno requests =
 
 -- A new one waits 200 centiseconds (RFC 8966, section 3.8.2.1; the time is the profile's).
 abbrev pub new_request : ℕ → ℕ → Resend → PendingRequest
-new_request now seqno resend = record { seqno = seqno; resend = resend; wait = 200; due = later now 200 }
+new_request now seqno resend = record { seqno = seqno; resend = resend; wait = first_wait; due = later now first_wait }
 
 -- The source is new, and 64 others are there.
 abbrev pub has_no_room : Source → PendingRequests → Bool
-has_no_room source requests = is_none (find source_cmp source requests) && (length requests == 64)
+has_no_room source requests = is_none (find source_cmp source requests) && (length requests == most_requests)
 
 -- The table after a request was made. It replaces one that was pending; it isn't recorded where there is no room (profile).
 abbrev pub recorded : ℕ → Source → ℕ → Resend → PendingRequests → PendingRequests

@@ -1,6 +1,7 @@
 -- Queued items wait in a list of at most 4,096 items, the oldest first (profile).
 use Rattle.std.specs.Prelude.{ℕ, ◌+◌, ◌-◌, min, List, [], ◌∷◌, ◌++◌, length, drop}
 use Rattle.babel_state.specs.declared.items.Item.{Item}
+use Rattle.babel_state.specs.Limits.{most_pending}
 
 -- The pending items, and how many were dropped since there was no room.
 pub record Pending : Type 0 where
@@ -18,8 +19,8 @@ last_ones n xs = drop (length xs - n) xs
 -- All at once: the last 4,096 of the old items followed by the new ones, and what is cut is counted.
 abbrev pub queued_at_once : List Item → Pending → Pending
 queued_at_once xs old = record {
-  items = last_ones 4096 (old.items ++ xs);
-  dropped = counted old.dropped (length (old.items ++ xs) - 4096);
+  items = last_ones most_pending (old.items ++ xs);
+  dropped = counted old.dropped (length (old.items ++ xs) - most_pending);
 }
 
 -- The same one after the other. `queueing_keeps_the_last` says that it comes to the same.

@@ -15,6 +15,7 @@ use Rattle.babel_state.specs.declared.items.Item.{Item}
 use Rattle.babel_state.specs.declared.items.Item.TheVariants as items
 use Rattle.babel_state.specs.declared.requests.Resend.{Resend}
 use Rattle.babel_state.specs.declared.requests.Resend.TheVariants.{Unfeasible, Neighbour}
+use Rattle.babel_state.specs.Limits.{request_hops}
 use Rattle.babel_state.specs.Sameness.{is_same_router, is_same_peer}
 use Rattle.babel_state.specs.Queueing.{queued}
 use Rattle.babel_state.specs.PendingRequests.{is_redundant, recorded}
@@ -83,7 +84,7 @@ seqno_after pair lost = next_seqno (option_map_or (λ d. d.seqno) pair lost)
 abbrev pub request_for_lost : ℕ → PrefixValue → Selection → State → State
 request_for_lost now prefix lost s =
     let source : Source = record { prefix = prefix; router = lost.entry.router } in
-    request_seqno now source (seqno_after (pair_at prefix lost.entry.router s) lost.entry.distance.seqno) Unfeasible 64 (unfeasible_peers prefix s) s
+    request_seqno now source (seqno_after (pair_at prefix lost.entry.router s) lost.entry.distance.seqno) Unfeasible request_hops (unfeasible_peers prefix s) s
 
 -- C. Otherwise, where the update of the selected route was unfeasible, its neighbour is asked (RFC 8966, section 3.8.2.2).
 abbrev pub is_selected_peer : Peer → Option Selection → Bool
@@ -92,7 +93,7 @@ is_selected_peer peer old = option_map_or (λ c. is_same_peer c.peer peer) old f
 abbrev pub request_for_update : ℕ → PrefixValue → UnfeasibleUpdate → State → State
 request_for_update now prefix update s =
     option_map_or
-    (λ pair. request_seqno now (record { prefix = prefix; router = update.router }) (next_seqno pair.seqno) (Neighbour update.peer) 64 (update.peer ∷ []) s)
+    (λ pair. request_seqno now (record { prefix = prefix; router = update.router }) (next_seqno pair.seqno) (Neighbour update.peer) request_hops (update.peer ∷ []) s)
     (pair_at prefix update.router s) s
 
 abbrev pub request_from_sender : ℕ → Option UnfeasibleUpdate → PrefixValue → Option Selection → State → State

@@ -9,8 +9,11 @@ use Rattle.babel_value.specs.declared.keys.Source.{Source}
 use Rattle.babel_value.specs.Moments.{later}
 use Rattle.babel_value.specs.Orders.{source_cmp}
 use Rattle.babel_value.specs.Prefixes.{PrefixValue}
+use Rattle.babel_value.specs.Metrics.{infinity}
+use Rattle.babel_value.specs.Seqnos.{seqno_modulus}
 use Rattle.babel_route.specs.declared.sources.SourceEntry.{SourceEntry}
 use Rattle.babel_route.specs.Sources.{Sources}
+use Rattle.babel_route.specs.Rooms.{most_sources, collection_time}
 use Rattle.babel_state.specs.declared.configs.Config.{Config}
 use Rattle.babel_state.specs.Addresses.{address_of, transport_of}
 use Rattle.babel_state.specs.Calls.{new_interface, first_state}
@@ -39,13 +42,13 @@ snapshot_of s = record { router = s.router; seqno = s.seqno; raises = s.raises; 
 
 -- A feasibility distance is finite (RFC 8966, section 3.2.5).
 abbrev pub IsFinitePair : Source × Distance → Type 0
-IsFinitePair e = e.1.metric < 65535
+IsFinitePair e = e.1.metric < infinity
 
 -- What holds of each snapshot: its numbers fit, and its sources are in order and find room in a source table.
 pub record IsSnapshot (snapshot : Snapshot) : Type 0 where
-  pub seqno : snapshot.seqno < 65536
+  pub seqno : snapshot.seqno < seqno_modulus
   pub raises : snapshot.raises < 2 ^ 64
-  pub few : length snapshot.sources ≤ 512
+  pub few : length snapshot.sources ≤ most_sources
   pub finite : All IsFinitePair snapshot.sources
   pub in_order : is_sorted source_cmp snapshot.sources ≡ true
 
@@ -53,7 +56,7 @@ pub record IsSnapshot (snapshot : Snapshot) : Type 0 where
 
 -- A source as if an update for it were sent now: it is collected 18,000 centiseconds from now (RFC 8966, appendix B: 3 minutes).
 abbrev pub restored_source : ℕ → Source × Distance → Source × SourceEntry
-restored_source now e = (e.0, record { distance = e.1; due = later now 18000 })
+restored_source now e = (e.0, record { distance = e.1; due = later now collection_time })
 
 abbrev pub restored_sources : ℕ → List (Source × Distance) → Sources
 restored_sources now = map (restored_source now)

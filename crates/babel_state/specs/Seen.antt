@@ -9,6 +9,8 @@ use Rattle.babel_value.specs.declared.keys.Peer.{Peer}
 use Rattle.babel_value.specs.Addresses.{family_of}
 use Rattle.babel_value.specs.Orders.{source_cmp}
 use Rattle.babel_value.specs.Prefixes.{PrefixValue}
+use Rattle.babel_value.specs.Metrics.{infinity}
+use Rattle.babel_value.specs.Seqnos.{seqno_modulus}
 use Rattle.babel_packet.specs.declared.messages.Message.{Message}
 use Rattle.babel_packet.specs.declared.messages.Message.TheVariants as messages
 use Rattle.babel_route.specs.declared.routes.entries.Entry.{Entry}
@@ -50,7 +52,7 @@ pub record HeardValue : Type 0 where
 
 abbrev pub heard_if_finite : Entry → Option HeardValue
 heard_if_finite e =
-    if nat_lt e.distance.metric 65535 then Some (record { router = e.router; distance = e.distance; next_hop = e.next_hop })
+    if nat_lt e.distance.metric infinity then Some (record { router = e.router; distance = e.distance; next_hop = e.next_hop })
     else None
 
 -- A neighbour's finite route to the prefix.
@@ -97,7 +99,7 @@ heard_of c = record { router = c.router; distance = c.distance; next_hop = c.nex
 pub record IsSelecting (s : Seen) : Type 0 where
   pub entry : (prefix : PrefixValue) (c : Selected) → s.selected_at prefix ≡ Some c → s.heard_at prefix c.peer ≡ Some (heard_of c)
   pub feasible : (prefix : PrefixValue) (c : Selected) → s.selected_at prefix ≡ Some c → is_feasible (s.source_at prefix c.router) c.distance ≡ true
-  pub above : (prefix : PrefixValue) (c : Selected) → s.selected_at prefix ≡ Some c → (c.distance.metric < c.metric) × (c.metric < 65535)
+  pub above : (prefix : PrefixValue) (c : Selected) → s.selected_at prefix ≡ Some c → (c.distance.metric < c.metric) × (c.metric < infinity)
 
 -- ---- every call but `next_datagram`
 
@@ -119,7 +121,7 @@ pub record Moves (peer : Peer) (updates : List UpdateValue) (growths : ℕ) (ann
   pub collects : new.collects ≡ old.collects
   pub transports : (iface : ℕ) → new.transport_at iface ≡ old.transport_at iface
   pub addresses : (iface : ℕ) (family : Family) → new.address_at iface family ≡ old.address_at iface family
-  pub seqno : new.seqno ≡ (old.seqno + growths) % 65536
+  pub seqno : new.seqno ≡ (old.seqno + growths) % seqno_modulus
   pub raises : new.raises ≡ counted old.raises growths
   pub announces : (prefix : PrefixValue) → new.announces prefix ≡ announced prefix
   pub sources : old.collects ≡ false → (prefix : PrefixValue) (router : List ℕ) → new.source_at prefix router ≡ old.source_at prefix router

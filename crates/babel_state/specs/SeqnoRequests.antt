@@ -5,6 +5,7 @@ use Rattle.babel_value.specs.declared.keys.Peer.{Peer}
 use Rattle.babel_value.specs.declared.keys.Source.{Source}
 use Rattle.babel_value.specs.Prefixes.{PrefixValue}
 use Rattle.babel_value.specs.Seqnos.{next_seqno, is_before}
+use Rattle.babel_value.specs.Metrics.{infinity}
 use Rattle.babel_route.specs.declared.routes.entries.Selection.{Selection}
 use Rattle.babel_route.specs.Routes.{Route, RouteEntries}
 use Rattle.babel_route.specs.Selections.{routes_of, is_feasible_route}
@@ -45,7 +46,7 @@ requested_of_own peer source seqno s =
 
 -- Whom the request may be passed to: who has a finite route to the prefix, and isn't the one who asks.
 abbrev pub is_passable : Peer → Route → Bool
-is_passable asker route = nat_lt route.1.distance.metric 65535 && not (is_same_peer route.0.peer asker)
+is_passable asker route = nat_lt route.1.distance.metric infinity && not (is_same_peer route.0.peer asker)
 
 abbrev pub first_peer : RouteEntries → Option Peer
 first_peer routes = option_map (λ r. r.0.peer) (slice_get routes 0)

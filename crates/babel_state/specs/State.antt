@@ -6,6 +6,7 @@ use Rattle.babel_value.specs.declared.distances.Distance.{Distance}
 use Rattle.babel_value.specs.declared.keys.Peer.{Peer}
 use Rattle.babel_value.specs.Orders.{prefix_cmp, peer_cmp}
 use Rattle.babel_value.specs.Prefixes.{PrefixValue}
+use Rattle.babel_value.specs.Metrics.{infinity}
 use Rattle.babel_link.specs.Neighbours.{Links, cost_of, rxcost_of}
 use Rattle.babel_route.specs.declared.routes.entries.Entry.{Entry}
 use Rattle.babel_route.specs.declared.routes.entries.Selection.{Selection}
@@ -61,7 +62,7 @@ is_neighbour peer s = is_some (find peer_cmp peer s.neighbours)
 
 -- The nominal cost of an interface (RFC 8966, appendix A.2.1).
 abbrev pub nominal_cost : ℕ → State → ℕ
-nominal_cost iface s = option_map_or (λ i. i.cost) (interface_at iface s) 65535
+nominal_cost iface s = option_map_or (λ i. i.cost) (interface_at iface s) infinity
 
 -- The costs of the link to a neighbour now (RFC 8966, section 3.4.3).
 abbrev pub rxcost_at : State → Peer → ℕ

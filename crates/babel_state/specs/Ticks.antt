@@ -15,6 +15,7 @@ use Rattle.babel_state.specs.declared.items.Item.TheVariants as items
 use Rattle.babel_state.specs.declared.requests.PendingRequest.{PendingRequest}
 use Rattle.babel_state.specs.declared.requests.Resend.{Resend}
 use Rattle.babel_state.specs.declared.requests.Resend.TheVariants.{Unfeasible, Neighbour, Never}
+use Rattle.babel_state.specs.Limits.{last_wait, request_hops}
 use Rattle.babel_state.specs.PendingRequests.{PendingRequests}
 use Rattle.babel_state.specs.State.{State, with_entries, reachable_prefixes}
 use Rattle.babel_state.specs.Reselection.{queue, request_items, unfeasible_peers, update_to_all, reselect_all}
@@ -44,7 +45,7 @@ is_due_request now r = nat_le r.due now
 -- The wait is over for the last time: after three repeats, at once for one that is another router's.
 abbrev pub is_last : Resend → ℕ → Bool
 is_last Never wait = true
-is_last resend wait = nat_le 1600 wait
+is_last resend wait = nat_le last_wait wait
 
 -- It is repeated, and waits twice as long.
 abbrev pub repeated : ℕ → PendingRequest → PendingRequest
@@ -63,7 +64,7 @@ requested_again Never prefix s = []
 abbrev pub repeated_items : ℕ → State → Source × PendingRequest → List Item
 repeated_items now s e =
     if is_due_request now e.1 && not (is_last e.1.resend e.1.wait)
-    then request_items e.0 e.1.seqno 64 (requested_again e.1.resend e.0.prefix s) else []
+    then request_items e.0 e.1.seqno request_hops (requested_again e.1.resend e.0.prefix s) else []
 
 abbrev pub all_repeated_items : ℕ → State → PendingRequests → List Item
 all_repeated_items now s [] = []

@@ -13,6 +13,7 @@ use Rattle.babel_route.specs.Distances.{is_feasible}
 use Rattle.babel_table.specs.Entries.{without}
 use Rattle.babel_route.specs.Routes.{updated, retracted, retracted_all, has_routes_from}
 use Rattle.babel_route.specs.Selections.{places_taken}
+use Rattle.babel_route.specs.Rooms.{most_routes}
 use Rattle.babel_state.specs.declared.notes.Verdict.TheVariants as verdicts
 use Rattle.babel_state.specs.Sameness.{is_same_router}
 use Rattle.babel_state.specs.State.{State, pair_at, entry_at, selected_at, with_entries}
@@ -57,9 +58,9 @@ judge now peer prefix router distance (Some pair) s =
     if is_feasible (Some pair) distance then handle_feasible now prefix router distance.seqno s
     else handle_unfeasible now peer prefix router pair s
 
--- The route is new, and all 256 places are taken. A place is an entry's here: no selection is without an entry when an update comes.
+-- The route is new, and all places are taken. A place is an entry's here: no selection is without an entry when an update comes.
 abbrev pub is_route_too_many : PrefixValue → Peer → State → Bool
-is_route_too_many prefix peer s = is_none (entry_at prefix peer s) && (places_taken s.routes == 256)
+is_route_too_many prefix peer s = is_none (entry_at prefix peer s) && (places_taken s.routes == most_routes)
 
 -- An update with a finite metric. The speaker's own comes back to it (profile).
 unfoldable pub handle_update : ℕ → Peer → PrefixValue → List ℕ → Addr → Distance → ℕ → State → Step

@@ -2,6 +2,7 @@
 
 ghost use Rattle.std.specs.Prelude.{◌≡◌, ◌<◌, ◌≤◌, ◌^◌, List, length};
 ghost use Rattle.babel_state.specs.declared.items.Item.{Item};
+ghost use Rattle.babel_state.specs.Limits.{most_pending};
 ghost use Rattle.babel_state.specs.Invariants.{CostsKeepCurrent, SendingKeepsSelected, SendingKeepsSelections, SendingKeepsCurrentInHalf, NewSpeakersAreWellFormed, MessagesKeepWellFormed, TicksKeepWellFormed, SendingKeepsWellFormed, CostsKeepWellFormed, AnnouncingKeepsWellFormed, WithdrawingKeepsWellFormed, RaisingKeepsWellFormed};
 ghost use Rattle.babel_state.specs.Queueing.{Pending, queued, queued_at_once};
 ghost use Rattle.babel_state.specs.QueueLaws.{QueueingAppends, NothingIsSkipped, NoneIfNothingPending, ItemsAreEncodable, DatagramsAreEncodable, ItemsHaveInterfaces};
@@ -14,7 +15,7 @@ ghost use Rattle.babel_state.specs.StepLaws.{ReselectionKeepsBase, ReselectionOf
 /// Items that are queued one after the other leave what they leave all at once: the last 4,096 of the
 /// old items followed by the new ones, and a count of what was cut.
 pub fn queueing_keeps_the_last()
-    ensures all { (xs : List Item) (old : Pending) → length old.items ≤ 4096 → old.dropped < 2 ^ 64 → queued xs old ≡ queued_at_once xs old }
+    ensures all { (xs : List Item) (old : Pending) → length old.items ≤ most_pending → old.dropped < 2 ^ 64 → queued xs old ≡ queued_at_once xs old }
     ensures append { QueueingAppends }
 {}
 

@@ -7,7 +7,7 @@ use Rattle.hex.specs.declared.error.FromHexError.TheVariants as hex_errors
 use Rattle.babel_text.specs.declared.lines.LineFault.{LineFault}
 use Rattle.babel_text.specs.declared.lines.LineFault.TheVariants.{Form, Number, Address, Hex, TooLong, Read, Write, Memory}
 
--- The most octets of a line, its line feed not counted. The law `line_limit_is_that_of_the_code` ties it to the code's.
+-- The most octets of a line, its line feed not counted. The law `limits_are_those_of_the_code` ties it to the code's.
 abbrev pub max_line_len : ℕ
 max_line_len = 131200
 

@@ -5,6 +5,6 @@ ghost use Rattle.babel_text.specs.declared.lines.TheConstants.{MAX_LINE_LEN};
 ghost use Rattle.babel_text.specs.Lines.{max_line_len};
 
 /// The constant of the code is the number of the definitions.
-pub fn line_limit_is_that_of_the_code()
+pub fn limits_are_those_of_the_code()
     ensures { MAX_LINE_LEN ≡ max_line_len }
 {}

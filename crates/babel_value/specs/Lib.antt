@@ -9,3 +9,4 @@ pub mod Orders
 pub mod OrderLaws
 pub mod Moments
 pub mod Texts
+pub mod Lines

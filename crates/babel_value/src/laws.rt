@@ -1,15 +1,24 @@
-//! Laws of the orders, each the contract of a function.
+//! Laws of the orders and of the code's limits, each the contract of a function.
 
 ghost use Rattle.std.specs.Prelude.{◌≡◌, ◌≤◌, ◌↔◌, IsTrue};
 ghost use Rattle.std.specs.Cmp.{IsTotalOrder};
 ghost use Rattle.std.specs.FinMap.{IsAntisymmetric};
-ghost use Rattle.babel_value.specs.Seqnos.{lift};
+ghost use Rattle.babel_value.specs.Seqnos.{half_circle, lift};
 ghost use Rattle.babel_value.specs.Distances.{is_better, IsBetter};
-ghost use Rattle.babel_value.specs.Lifts.{AgreesOnLifts, LiftsBack};
+ghost use Rattle.babel_value.specs.declared.lines.TheConstants.{LINE_ROOM};
+ghost use Rattle.babel_value.specs.declared.seqnos.TheConstants.{HALF_CIRCLE};
+ghost use Rattle.babel_value.specs.Lines.{line_room};
+ghost use Rattle.babel_value.specs.Lifts.{greatest_lift, AgreesOnLifts, LiftsBack};
 ghost use Rattle.babel_value.specs.Orders.{family_cmp, addr_cmp, prefix_cmp, octets_cmp, source_cmp, peer_cmp};
 
 use crate::{Addr, Distance, Family, Peer, Prefix, RouterId, Seqno, Source};
 use std::cmp::Ordering;
+
+/// The constants of the code are the numbers of the definitions.
+pub fn limits_are_those_of_the_code()
+    ensures line { LINE_ROOM ≡ line_room }
+    ensures half { HALF_CIRCLE ≡ half_circle }
+{}
 
 /// Two sequence numbers that are at most 32,767 ahead of a common first one are ordered as the whole
 /// numbers that they represent. A count of at most 65,535 from any number is lifted to the count.
@@ -21,8 +30,8 @@ pub fn seqnos_agree_on_lifts()
 /// Among such sequence numbers the better distance has the greater whole number, or the same number
 /// and the smaller metric.
 pub fn distances_agree_on_lifts(start: Seqno, one: Distance, other: Distance)
-    requires one { lift start one.seqno ≤ 32767 }
-    requires other { lift start other.seqno ≤ 32767 }
+    requires one { lift start one.seqno ≤ greatest_lift }
+    requires other { lift start other.seqno ≤ greatest_lift }
     ensures { IsTrue (is_better one other) ↔ IsBetter (lift start one.seqno) one.metric (lift start other.seqno) other.metric }
 {}
 

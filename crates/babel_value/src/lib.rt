@@ -21,7 +21,7 @@ pub use addresses::{Addr, Family};
 pub use distances::Distance;
 pub use errors::{AddrTextFault, Memory};
 pub use keys::{Peer, Source};
-pub use lines::Line;
+pub use lines::{LINE_ROOM, Line};
 pub use metrics::Metric;
 pub use moments::hold_time;
 pub use prefixes::{Prefix, keep_bits};

@@ -3,6 +3,7 @@
 ghost use Rattle.std.specs.Prelude.{◌≡◌, ◌+◌, ◌*◌, ◌/◌, ◌%◌, ◌<◌, ◌≤◌, [], ◌∷◌, ◌++◌, false, Some, codes, length, slice_index};
 ghost use Rattle.std.specs.Fmt.{decimal, digits, digit_glyph};
 ghost use Rattle.babel_value.specs.Texts.{addr_text, ipv4_text, groups_text, group_text, prefix_text, router_text};
+ghost use Rattle.babel_value.specs.Lines.{line_room};
 
 use crate::{Addr, Prefix, RouterId};
 use arrayvec::ArrayVec;
@@ -10,11 +11,14 @@ use itoa::Buffer;
 use std::fmt;
 use std::marker::Model;
 
-/// A line of text of at most 256 octets. What is printed often is put together here and written by
+/// How many octets a line has room for.
+pub const LINE_ROOM: usize = 256;
+
+/// A line of text of at most `LINE_ROOM` octets. What is printed often is put together here and written by
 /// one call.
 #[derive(Drop)]
 pub struct Line {
-    octets: ArrayVec<u8, 256>,
+    octets: ArrayVec<u8, LINE_ROOM>,
 }
 
 impl Model for Line {
@@ -41,7 +45,7 @@ impl Line {
     /// Appends a text, for which there must be room.
     #[inline(always)]
     pub fn push_str(&mut self, text: &str)
-        requires room { length self.old + length text.now ≤ 256 }
+        requires room { length self.old + length text.now ≤ line_room }
         ensures text { self.new ≡ self.old ++ text.now }
     {
         self.push_octets(text.as_bytes());
@@ -49,7 +53,7 @@ impl Line {
 
     #[inline(always)]
     fn push_octets(&mut self, octets: &[u8])
-        requires room { length self.old + length octets.now ≤ 256 }
+        requires room { length self.old + length octets.now ≤ line_room }
         ensures text { self.new ≡ self.old ++ octets.now }
     {
         // It is pushed, since there is room.
@@ -67,7 +71,7 @@ impl Line {
     /// Appends a number in decimal.
     #[inline]
     pub fn push_usize(&mut self, number: usize)
-        requires room { length self.old + 20 ≤ 256 }
+        requires room { length self.old + 20 ≤ line_room }
         ensures text { self.new ≡ self.old ++ decimal number }
         ensures short { length self.new ≤ length self.old + 20 }
     {
@@ -76,7 +80,7 @@ impl Line {
 
     /// Appends a number in decimal.
     pub fn push_u64(&mut self, number: u64)
-        requires room { length self.old + 20 ≤ 256 }
+        requires room { length self.old + 20 ≤ line_room }
         ensures text { self.new ≡ self.old ++ decimal number }
         ensures short { length self.new ≤ length self.old + 20 }
     {
@@ -88,7 +92,7 @@ impl Line {
 
     /// Appends a number in decimal.
     pub fn push_u16(&mut self, number: u16)
-        requires room { length self.old + 5 ≤ 256 }
+        requires room { length self.old + 5 ≤ line_room }
         ensures text { self.new ≡ self.old ++ decimal number }
         ensures short { length self.new ≤ length self.old + 5 }
     {
@@ -107,7 +111,7 @@ impl Line {
     /// Appends a text, such as the name of a field, and a number in decimal.
     #[inline(always)]
     pub fn push_field(&mut self, name: &str, number: u16)
-        requires room { length self.old + length name.now + 5 ≤ 256 }
+        requires room { length self.old + length name.now + 5 ≤ line_room }
         ensures text { self.new ≡ self.old ++ name.now ++ decimal number }
         ensures short { length self.new ≤ length self.old + length name.now + 5 }
     {
@@ -118,7 +122,7 @@ impl Line {
     /// Appends two texts, such as the names of fields, each with a number in decimal.
     #[inline]
     pub fn push_fields(&mut self, first: &str, one: u16, second: &str, other: u16)
-        requires room { length self.old + length first.now + length second.now + 10 ≤ 256 }
+        requires room { length self.old + length first.now + length second.now + 10 ≤ line_room }
         ensures text { self.new ≡ self.old ++ (first.now ++ decimal one ++ second.now ++ decimal other) }
         ensures short { length self.new ≤ length self.old + length first.now + length second.now + 10 }
     {
@@ -130,7 +134,7 @@ impl Line {
     #[inline(always)]
     fn push_first(&mut self, number: u16)
         requires small { number < 100 }
-        requires room { length self.old + 2 ≤ 256 }
+        requires room { length self.old + 2 ≤ line_room }
         ensures text { self.new ≡ self.old ++ decimal number }
         ensures short { length self.new ≤ length self.old + 2 }
     {
@@ -145,7 +149,7 @@ impl Line {
     #[inline(always)]
     fn push_pair(&mut self, number: u16)
         requires small { number < 100 }
-        requires room { length self.old + 2 ≤ 256 }
+        requires room { length self.old + 2 ≤ line_room }
         ensures text { self.new ≡ self.old ++ (48 + number / 10) ∷ (48 + number % 10) ∷ [] }
     {
         let tens = b'0' + (number / 10) as u8;
@@ -155,7 +159,7 @@ impl Line {
 
     /// Appends a number in hexadecimal, in lower case.
     fn push_hex(&mut self, number: u16)
-        requires room { length self.old + 4 ≤ 256 }
+        requires room { length self.old + 4 ≤ line_room }
         ensures text { self.new ≡ self.old ++ digits 16 false number }
         ensures short { length self.new ≤ length self.old + 4 }
     {
@@ -177,7 +181,7 @@ impl Line {
     /// Appends four groups of an IPv6 address, from this octet on.
     fn push_groups(&mut self, octets: &[u8; 16], from: usize)
         requires index { from ≤ 8 }
-        requires room { length self.old + 19 ≤ 256 }
+        requires room { length self.old + 19 ≤ line_room }
         ensures text { self.new ≡ self.old ++ groups_text octets.now from }
         ensures short { length self.new ≤ length self.old + 19 }
     {
@@ -192,7 +196,7 @@ impl Line {
 
     /// Appends four decimal numbers with points.
     fn push_ipv4(&mut self, octets: [u8; 4])
-        requires room { length self.old + 23 ≤ 256 }
+        requires room { length self.old + 23 ≤ line_room }
         ensures text { self.new ≡ self.old ++ ipv4_text octets }
         ensures short { length self.new ≤ length self.old + 23 }
     {
@@ -208,7 +212,7 @@ impl Line {
 
     /// Appends an address.
     pub fn push_addr(&mut self, addr: &Addr)
-        requires room { length self.old + 39 ≤ 256 }
+        requires room { length self.old + 39 ≤ line_room }
         ensures text { self.new ≡ self.old ++ addr_text addr.now }
         ensures short { length self.new ≤ length self.old + 39 }
     {
@@ -224,7 +228,7 @@ impl Line {
 
     /// Appends a prefix.
     pub fn push_prefix(&mut self, prefix: &Prefix)
-        requires room { length self.old + 45 ≤ 256 }
+        requires room { length self.old + 45 ≤ line_room }
         ensures text { self.new ≡ self.old ++ prefix_text prefix.now }
         ensures short { length self.new ≤ length self.old + 45 }
     {
@@ -235,7 +239,7 @@ impl Line {
 
     /// Appends a router-id.
     pub fn push_router_id(&mut self, router: RouterId)
-        requires room { length self.old + 16 ≤ 256 }
+        requires room { length self.old + 16 ≤ line_room }
         ensures text { self.new ≡ self.old ++ router_text router }
         ensures short { length self.new ≤ length self.old + 16 }
     {

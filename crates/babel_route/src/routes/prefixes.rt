@@ -3,6 +3,7 @@
 ghost use Rattle.std.specs.Prelude.{◌≡◌, ◌+◌, ◌≤◌, ◌<◌, true, [], length, slice_get, option_map, map, IfOk};
 ghost use Rattle.std.specs.FinMap.{put};
 ghost use Rattle.babel_value.specs.Orders.{prefix_cmp};
+ghost use Rattle.babel_route.specs.Rooms.{most_listed_prefixes};
 ghost use Rattle.babel_route.specs.PrefixLists.{gathered};
 
 use super::walks::{AllRoutes, AllSelections};
@@ -30,12 +31,13 @@ pub type PrefixList = PrefixListOver<SortedTable<Prefix, bool>>;
 impl<T: Table<Prefix, bool>> Model for PrefixListOver<T> {
     ghost use Rattle.std.specs.Prelude.{◌≡◌, Bool, List};
     ghost use Rattle.babel_value.specs.Prefixes.{PrefixValue};
+    ghost use Rattle.babel_route.specs.Rooms.{most_listed_prefixes};
 
     ghost Value = { List (PrefixValue × Bool) };
 
     ghost view = { λ l. T.entries l.table };
 
-    ghost invariant = { λ l. T.room l.table ≡ 512 };
+    ghost invariant = { λ l. T.room l.table ≡ most_listed_prefixes };
 }
 
 impl<T: Table<Prefix, bool>> PrefixListOver<T> {
@@ -59,7 +61,7 @@ impl<T: Table<Prefix, bool>> PrefixListOver<T> {
     /// Adds the prefix, unless it is in the list. Prefixes that come in ascending order are added in one
     /// pass.
     pub fn add(&mut self, prefix: Prefix)
-        requires room { length self.old < 512 }
+        requires room { length self.old < most_listed_prefixes }
         ensures list { self.new ≡ put prefix_cmp prefix true self.old }
         ensures room { length self.new ≤ length self.old + 1 }
     {
@@ -89,7 +91,7 @@ pub(crate) fn add_routes<T: Table<Prefix, bool>, E: Table<RouteKey, Entry>>(
     list: &mut PrefixListOver<T>,
     entries: &E,
 )
-    requires room { length list.old + length (E.entries entries.now) ≤ 512 }
+    requires room { length list.old + length (E.entries entries.now) ≤ most_listed_prefixes }
     ensures list { list.new ≡ gathered (map (λ e. e.0.prefix) (E.entries entries.now)) list.old }
     ensures room { length list.new ≤ length list.old + length (E.entries entries.now) }
 {
@@ -103,7 +105,7 @@ pub(crate) fn add_selections<T: Table<Prefix, bool>, S: Table<Prefix, Selection>
     list: &mut PrefixListOver<T>,
     selections: &S,
 )
-    requires room { length list.old + length (S.entries selections.now) ≤ 512 }
+    requires room { length list.old + length (S.entries selections.now) ≤ most_listed_prefixes }
     ensures list { list.new ≡ gathered (map (λ s. s.0) (S.entries selections.now)) list.old }
 {
     for selection in AllSelections::new(selections) {

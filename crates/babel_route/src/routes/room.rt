@@ -2,6 +2,7 @@
 
 ghost use Rattle.std.specs.Prelude.{◌≡◌, ◌+◌, ◌≤◌, false, not, length, slice_get, nat_le};
 ghost use Rattle.std.specs.Option.{option_map_or};
+ghost use Rattle.babel_route.specs.Rooms.{most_routes};
 ghost use Rattle.babel_route.specs.Selections.{has_entry, orphans};
 
 use super::ROUTE_PLACES;
@@ -16,9 +17,9 @@ pub(crate) fn is_crowded<E: Table<RouteKey, Entry>, S: Table<Prefix, Selection>>
     entries: &E,
     selections: &S,
 ) -> bool
-    requires entries { E.room entries.now ≡ 256 }
-    requires selections { S.room selections.now ≡ 256 }
-    ensures { result ≡ nat_le 256 (length (E.entries entries.now) + orphans (E.entries entries.now) (S.entries selections.now)) }
+    requires entries { E.room entries.now ≡ most_routes }
+    requires selections { S.room selections.now ≡ most_routes }
+    ensures { result ≡ nat_le most_routes (length (E.entries entries.now) + orphans (E.entries entries.now) (S.entries selections.now)) }
 {
     if entries.len() + selections.len() < ROUTE_PLACES {
         return false;
@@ -31,9 +32,9 @@ fn count_orphans<E: Table<RouteKey, Entry>, S: Table<Prefix, Selection>>(
     entries: &E,
     selections: &S,
 ) -> usize
-    requires { S.room selections.now ≡ 256 }
+    requires { S.room selections.now ≡ most_routes }
     ensures count { result ≡ orphans (E.entries entries.now) (S.entries selections.now) }
-    ensures within { result ≤ 256 }
+    ensures within { result ≤ most_routes }
 {
     let mut count = 0;
     for place in 0..selections.len() {
