@@ -1,5 +1,5 @@
 -- A datagram that is being built.
-use Rattle.std.specs.Prelude.{◌≡◌, ◌≤◌, ℕ, ◌+◌, List, [], ◌∷◌, Bool, ◌++◌, None, length, take, drop, nat_le}
+use Rattle.std.specs.Prelude.{◌≡◌, ◌≤◌, ℕ, ◌+◌, List, [], ◌∷◌, Bool, ◌++◌, None, length, take, nat_le}
 use Rattle.babel_value.specs.declared.addresses.Addr.{Addr}
 use Rattle.babel_tlv.specs.Layout.{datagram_len}
 use Rattle.babel_tlv.specs.Spelling.{spelled}

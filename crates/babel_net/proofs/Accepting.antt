@@ -1,5 +1,5 @@
 -- Configurations that a network accepts are apart.
-use Rattle.std.proofs.Common.{◌≡◌, ◌⊎◌, ◌<◌, ℕ, zero, suc, ◌+◌, Bool, true, false, ◌||◌, cond, List, [], ◌∷◌, ◌++◌, Option, Some, None, option_map, length, nat_lt, flat_map, Contains, All, slice_get, refl, sym, ap, ◌∙◌, subst, inl, inr, arith}
+use Rattle.std.proofs.Common.{◌≡◌, ◌<◌, ℕ, zero, suc, ◌+◌, Bool, true, false, ◌||◌, cond, List, [], ◌∷◌, ◌++◌, Option, Some, None, option_map, length, nat_lt, flat_map, Contains, slice_get, refl, sym, ap, ◌∙◌, subst, arith}
 use Rattle.std.specs.List.{list_any}
 use Rattle.std.proofs.lemmas.Bool.{false≢true, false_from_ne_true}
 use Rattle.std.proofs.lemmas.Option.{same_Some, none-some, slice_get_within, get_or_from_slice_get}
@@ -13,8 +13,8 @@ use Rattle.babel_state.specs.declared.configs.Config.{Config}
 use Rattle.babel_state.specs.Sameness.{is_same_addr, is_same_router}
 use Rattle.babel_net.specs.declared.errors.NetFault.{NetFault}
 use Rattle.babel_net.specs.declared.errors.NetFault.TheVariants.{TooManyNodes, CollectsSources, AddressTwice, RouterIdTwice}
-use Rattle.babel_net.specs.Owners.{owner_of, addresses_of, has_addr, AreApart}
-use Rattle.babel_net.specs.Acceptance.{first_bad_from, fault_or, fault_together, net_fault, has_addr_twice, has_router_twice, AcceptedAreApart}
+use Rattle.babel_net.specs.Owners.{owner_of, addresses_of, has_addr}
+use Rattle.babel_net.specs.Acceptance.{first_bad_from, fault_or, net_fault, has_addr_twice, has_router_twice, AcceptedAreApart}
 use Rattle.babel_net.proofs.Membership.{All-from_Contains}
 use Rattle.babel_net.proofs.Picking.{same_router_itself}
 use Rattle.babel_net.proofs.Beginning.{contains_slice_get}

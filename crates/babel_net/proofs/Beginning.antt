@@ -1,9 +1,8 @@
 -- A network at first.
-use Rattle.std.proofs.Common.{◌≡◌, ◌<◌, ◌≤◌, ℕ, ◌+◌, ◌%◌, Bool, true, false, List, [], ◌∷◌, ◌++◌, Option, Some, None, option_map, length, map, flat_map, replicate, Contains, All, slice_get, get_or, refl, sym, ap, ◌∙◌, subst, inl, inr, arith}
-use Rattle.std.specs.List.{range_with_len}
+use Rattle.std.proofs.Common.{◌≡◌, ◌<◌, ◌≤◌, ℕ, true, false, List, [], ◌∷◌, Option, Some, None, length, replicate, Contains, All, slice_get, get_or, refl, sym, ap, ◌∙◌, subst, inl, inr, arith}
 use Rattle.std.specs.Option.{option_and_then}
 use Rattle.std.proofs.lemmas.Bool.{cases_lt, false≢true}
-use Rattle.std.proofs.lemmas.Option.{same_Some, none-some, slice_get_within, slice_get-get_or, get_or_from_slice_get, slice_get_past}
+use Rattle.std.proofs.lemmas.Option.{none-some, slice_get_within, slice_get-get_or, get_or_from_slice_get}
 use Rattle.std.proofs.lemmas.List.{get_or-replicate, length-replicate}
 use Rattle.std.proofs.lemmas.List.Elements.{All-nil, All-contains}
 use Rattle.std.proofs.lemmas.List.FromFn.{fill_by_all}
@@ -14,16 +13,15 @@ use Rattle.babel_value.specs.declared.keys.Peer.{Peer}
 use Rattle.babel_value.specs.Prefixes.{PrefixValue}
 use Rattle.babel_state.specs.declared.configs.Config.{Config}
 use Rattle.babel_state.specs.declared.configs.Interface.{Interface}
-use Rattle.babel_state.specs.declared.selected.Selected.{Selected}
 use Rattle.babel_state.specs.Addresses.{address_of, transport_of}
 use Rattle.babel_state.specs.Calls.{new_interface}
-use Rattle.babel_state.specs.Seen.{Seen, UpdateValue, HeardValue, IsSelecting, IsNew}
-use Rattle.babel_net.specs.Machine.{SourceState, NodeState, quiet, first_state}
+use Rattle.babel_state.specs.Seen.{Seen, HeardValue, IsSelecting, IsNew}
+use Rattle.babel_net.specs.Machine.{quiet, first_state}
 use Rattle.babel_net.specs.Sound.{IsSound}
 use Rattle.babel_net.specs.Owners.{owner_of, addresses_of, interface_addresses, listed, Lists, AreApart}
 use Rattle.babel_net.specs.Worlds.{World, SentDatagram, speaker_at, nothing, updates_of, IsFirst}
-use Rattle.babel_net.specs.Views.{NetSource, IsSource, IsCounted, lifted, sent_by, pick_of, node_view, view}
-use Rattle.babel_net.specs.Invariants.{WasSent, IsKnown, Holds, HoldsFor, Bounds, IsInvariant}
+use Rattle.babel_net.specs.Views.{NetSource, IsSource, sent_by, pick_of, node_view, view}
+use Rattle.babel_net.specs.Invariants.{WasSent, Holds, HoldsFor, Bounds, IsInvariant}
 use Rattle.babel_net.proofs.Membership.{Contains-nil, Contains-here, Contains-flat_map}
 use Rattle.std.proofs.lemmas.List.Elements.{Contains-append_left, Contains-append_right}
 use Rattle.babel_net.proofs.MachineSound.{IsSound-first_state}

@@ -1,18 +1,13 @@
 -- The circular order on lifted seqnos, and what it makes of source entries.
-use Rattle.std.proofs.Common.{◌≡◌, ◌⊎◌, ◌<◌, ◌≤◌, ℕ, ◌+◌, ◌%◌, Bool, true, false, List, [], ◌∷◌, ◌++◌, map, All, Option, Some, None, nat_lt, refl, sym, ap, ◌∙◌, subst, inl, inr, arith, cond}
-use Rattle.std.proofs.lemmas.Bool.{false≢true, cases_lt, cases_eq}
+use Rattle.std.proofs.Common.{◌≡◌, ◌⊎◌, ◌<◌, ◌≤◌, ℕ, ◌+◌, ◌%◌, true, nat_lt, inl, inr, arith}
+use Rattle.std.proofs.lemmas.Bool.{cases_lt}
 use Rattle.std.proofs.lemmas.Bool.Decides.{nat_tests}
-use Rattle.std.proofs.lemmas.List.{append-nil, append_assoc}
-use Rattle.std.proofs.lemmas.List.Elements.{All-weaker, All-append, All-push, All-nil}
 use Rattle.babel_value.specs.declared.distances.Distance.{Distance}
-use Rattle.babel_value.specs.Distances.{is_better, IsBetter}
-use Rattle.babel_value.specs.Seqnos.{lift, ahead, is_before}
-use Rattle.babel_route.specs.Distances.{is_feasible, improves_on, better_pair}
-use Rattle.babel_state.specs.Seen.{UpdateValue, all_lowered}
+use Rattle.babel_value.specs.Distances.{is_better}
+use Rattle.babel_value.specs.Seqnos.{lift, is_before}
 use Rattle.babel_net.specs.declared.machine.pair.Pair.{Pair}
 use Rattle.babel_net.specs.Machine.{IsBetterPair}
 use Rattle.babel_net.specs.Views.{NetSource, lifted}
-use Rattle.babel_net.specs.Invariants.{Bounds}
 
 -- two seqnos that are at most 32,767 ahead of a first one are ordered as the numbers that they stand for
 order_lifted : (start a b : ℕ) → start < 65536 → a < 65536 → b < 65536 → lift start a ≤ 32767 → lift start b ≤ 32767 → is_before a b ≡ nat_lt (lift start a) (lift start b)

@@ -1,5 +1,5 @@
 -- Sending a datagram is a list of machine steps: an announcement for each of its updates for the source.
-use Rattle.std.proofs.Common.{◌≡◌, ◌≢◌, ◌⊎◌, ◌<◌, ◌≤◌, ℕ, ◌+◌, ◌%◌, List, [], ◌∷◌, ◌++◌, Option, Some, None, length, map, filter, set, Contains, All, slice_get, true, refl, sym, ap, ◌∙◌, subst, inl, inr, arith}
+use Rattle.std.proofs.Common.{◌≡◌, ◌≢◌, ◌⊎◌, ◌<◌, ℕ, List, [], ◌∷◌, ◌++◌, Some, length, map, filter, Contains, All, true, refl, sym, ap, ◌∙◌, subst, inl, inr, arith}
 use Rattle.std.proofs.lemmas.Bool.{cases_eq}
 use Rattle.std.proofs.lemmas.List.{length-set, map-append}
 use Rattle.std.proofs.lemmas.List.Elements.{filter-append, All-contains, All-map}
@@ -7,15 +7,13 @@ use Rattle.babel_value.specs.declared.distances.Distance.{Distance}
 use Rattle.babel_value.specs.Prefixes.{PrefixValue}
 use Rattle.babel_value.specs.Seqnos.{lift}
 use Rattle.babel_state.specs.declared.configs.Config.{Config}
-use Rattle.babel_state.specs.declared.selected.Selected.{Selected}
-use Rattle.babel_state.specs.Seen.{Seen, UpdateValue, Sends, Advertises, IsOwnUpdate, IsRouteUpdate, is_of_source, heard_of, all_lowered}
+use Rattle.babel_state.specs.Seen.{Seen, UpdateValue, Advertises, IsOwnUpdate, IsRouteUpdate, is_of_source, heard_of}
 use Rattle.babel_net.specs.declared.machine.pair.Pair.{Pair}
 use Rattle.babel_net.specs.declared.machine.pick.Pick.{Pick}
-use Rattle.babel_net.specs.declared.machine.step.Step.{Step}
 use Rattle.babel_net.specs.declared.machine.step.Step.TheVariants.{Announce}
-use Rattle.babel_net.specs.Machine.{SourceState, NodeState, node_at, with_sent, HasPicked, MaySend, PassesOn, Run, beginning}
-use Rattle.babel_net.specs.Owners.{owner_of, Lists, AreApart}
-use Rattle.babel_net.specs.Worlds.{World, SentDatagram, speaker_at, with_speaker, updates_of}
+use Rattle.babel_net.specs.Machine.{NodeState, node_at, with_sent, HasPicked, MaySend, PassesOn, Run, beginning}
+use Rattle.babel_net.specs.Owners.{AreApart}
+use Rattle.babel_net.specs.Worlds.{World, SentDatagram, speaker_at, updates_of}
 use Rattle.babel_net.specs.Happenings.{Emits}
 use Rattle.babel_net.specs.Views.{NetSource, IsSource, IsCounted, lifted, sent_by, pick_of, node_view, view}
 use Rattle.babel_net.specs.Invariants.{WasSent, Holds, HoldsFor, Bounds}

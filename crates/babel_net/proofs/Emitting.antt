@@ -1,5 +1,5 @@
 -- What sending a datagram keeps.
-use Rattle.std.proofs.Common.{◌≡◌, ◌≢◌, ◌⊎◌, ◌<◌, ◌≤◌, ℕ, ◌+◌, ◌%◌, Bool, true, false, List, [], ◌∷◌, ◌++◌, Option, Some, None, length, flat_map, cond, Contains, All, slice_get, refl, sym, ap, ◌∙◌, subst, inl, inr, arith}
+use Rattle.std.proofs.Common.{◌≡◌, ◌≢◌, ◌⊎◌, ◌<◌, ℕ, true, false, List, [], ◌∷◌, ◌++◌, Some, Contains, slice_get, sym, ap, ◌∙◌, subst, inl, inr, arith}
 use Rattle.std.proofs.lemmas.Bool.{cases_eq}
 use Rattle.std.proofs.lemmas.Grind.{flat_map-append}
 use Rattle.std.proofs.lemmas.List.{append-nil, length-set}
@@ -12,12 +12,11 @@ use Rattle.babel_value.specs.Addresses.{family_of}
 use Rattle.babel_value.specs.Prefixes.{PrefixValue}
 use Rattle.babel_state.specs.declared.configs.Config.{Config}
 use Rattle.babel_state.specs.declared.selected.Selected.{Selected}
-use Rattle.babel_state.specs.Seen.{Seen, UpdateValue, HeardValue, Sends, IsSelecting, Advertises, IsOwnUpdate, IsRouteUpdate, NamesOwnAddress, heard_of}
+use Rattle.babel_state.specs.Seen.{UpdateValue, HeardValue, IsSelecting, Advertises, IsOwnUpdate, IsRouteUpdate, NamesOwnAddress, heard_of}
 use Rattle.babel_net.specs.Owners.{owner_of, Lists}
 use Rattle.babel_net.specs.Worlds.{World, SentDatagram, speaker_at, with_speaker, with_datagram, updates_if, updates_of}
 use Rattle.babel_net.specs.Happenings.{Emits}
 use Rattle.babel_net.specs.Invariants.{WasSent, IsKnown, IsOrigin, Holds, update_heard}
-use Rattle.babel_net.proofs.Membership.{Contains-nil}
 use Rattle.babel_net.proofs.Speakers.{each_speaker}
 
 abbrev pub datagram_of : (node : ℕ) (old new : World) → Emits node old new → SentDatagram

@@ -1,28 +1,26 @@
 -- From the views of worlds to next hops, and from single events to lists of them.
-use Rattle.std.proofs.Common.{◌≡◌, ◌⊎◌, ◌<◌, ◌≤◌, ◌↔◌, ℕ, true, List, [], ◌∷◌, Option, Some, None, option_map, length, cond, Contains, slice_get, refl, sym, ap, ◌∙◌, subst, inl, inr, arith}
+use Rattle.std.proofs.Common.{◌≡◌, ◌⊎◌, ◌<◌, ◌≤◌, ℕ, true, List, [], ◌∷◌, Option, Some, None, option_map, length, cond, Contains, slice_get, refl, sym, ap, ◌∙◌, subst, inl, inr, arith}
 use Rattle.std.specs.Option.{option_and_then}
 use Rattle.std.proofs.lemmas.Bool.{cases_lt}
 use Rattle.std.proofs.lemmas.Option.{same_Some, none-some}
 use Rattle.babel_value.specs.Prefixes.{PrefixValue}
-use Rattle.babel_value.specs.Distances.{is_better}
 use Rattle.babel_state.specs.declared.configs.Config.{Config}
 use Rattle.babel_state.specs.declared.selected.Selected.{Selected}
 use Rattle.babel_state.specs.Seen.{Seen, UpdateValue, is_of_source, heard_of}
 use Rattle.babel_net.specs.declared.events.Event.{Event}
-use Rattle.babel_net.specs.declared.machine.pair.Pair.{Pair}
 use Rattle.babel_net.specs.declared.machine.pick.Pick.{Pick}
-use Rattle.babel_net.specs.Machine.{SourceState, NodeState, node_at, IsBetterPair}
+use Rattle.babel_net.specs.Machine.{NodeState}
 use Rattle.babel_net.specs.Cycle.{NoCycle, LeadsThrough, next_hop_of}
 use Rattle.babel_net.specs.Owners.{owner_of, Lists, AreApart}
-use Rattle.babel_net.specs.Worlds.{World, speaker_at, nothing, updates_of, IsFirst, next_hop_in, router_in, Follows, FollowsThrough, IsLoop, NoLoopNaming, NoLoop}
-use Rattle.babel_net.specs.Happenings.{Happens, HappenAll, last_world}
-use Rattle.babel_net.specs.Views.{NetSource, IsSource, IsCounted, IsRun, RunsThrough, lifted, sent_by, pick_of, node_view, view}
-use Rattle.babel_net.specs.Invariants.{Holds, HoldsFor, IsInvariant, WasSent, IsOrigin, update_heard}
-use Rattle.babel_net.specs.NetworkLaws.{OrdersAgree, NextHopsArePicks, NoLoopAfterAnyEvents, NoLoopWithOneOrigin, SoundHasNoLoop, SoundHasNoLoopWithOneOrigin, ListsAlone}
+use Rattle.babel_net.specs.Worlds.{World, speaker_at, updates_of, IsFirst, next_hop_in, router_in, Follows, FollowsThrough, IsLoop, NoLoopNaming}
+use Rattle.babel_net.specs.Happenings.{HappenAll, last_world}
+use Rattle.babel_net.specs.Views.{NetSource, IsSource, IsCounted, RunsThrough, lifted, pick_of, view}
+use Rattle.babel_net.specs.Invariants.{Holds, IsInvariant, IsOrigin, update_heard}
+use Rattle.babel_net.specs.NetworkLaws.{OrdersAgree, NextHopsArePicks, NoLoopAfterAnyEvents, NoLoopWithOneOrigin, SoundHasNoLoop, SoundHasNoLoopWithOneOrigin}
 use Rattle.babel_net.proofs.MachineCycle.{no_cycle}
 use Rattle.babel_net.proofs.Circular.{IsReached, better_lifted, lifted_better}
 use Rattle.babel_net.proofs.Speakers.{speaker_past, node_at-view}
-use Rattle.babel_net.proofs.Picking.{owner_within, of_source, sent_by-update, pick_of-route, same_router_itself}
+use Rattle.babel_net.proofs.Picking.{owner_within, of_source, sent_by-update, same_router_itself}
 use Rattle.babel_net.proofs.MovedRuns.{start_word}
 use Rattle.babel_net.proofs.Emitting.{route_sent}
 use Rattle.babel_net.proofs.Beginning.{IsInvariant-first}

@@ -1,18 +1,18 @@
 -- Runs of several sources are one run of the machine.
-use Rattle.std.proofs.Common.{◌≡◌, ◌<◌, ◌≤◌, ℕ, zero, suc, ◌+◌, List, [], ◌∷◌, ◌++◌, Option, Some, None, length, map, set, slice_get, All, refl, sym, ap, ◌∙◌, subst, inl, inr, arith}
-use Rattle.std.proofs.lemmas.List.{append-nil, append_assoc, length-append}
+use Rattle.std.proofs.Common.{◌≡◌, ℕ, List, [], ◌∷◌, ◌++◌, Some, length, map, set, slice_get, All, refl, sym, ap, subst}
+use Rattle.std.proofs.lemmas.List.{append_assoc}
 use Rattle.std.proofs.lemmas.List.Elements.{All-weaker, All-head, All-tail, All-map}
 use Rattle.babel_state.specs.declared.configs.Config.{Config}
 use Rattle.babel_net.specs.declared.events.Event.{Event}
 use Rattle.babel_net.specs.declared.machine.step.Step.{Step}
-use Rattle.babel_net.specs.Machine.{SourceState, Steps, StepsAt, Run, MachineRun}
+use Rattle.babel_net.specs.Machine.{SourceState, Run, MachineRun}
 use Rattle.babel_net.specs.Cycle.{NoCycle}
 use Rattle.babel_net.specs.Owners.{AreApart}
-use Rattle.babel_net.specs.Worlds.{World, IsFirst}
+use Rattle.babel_net.specs.Worlds.{World}
 use Rattle.babel_net.specs.Happenings.{Happens, HappenAll, last_world}
 use Rattle.babel_net.specs.Views.{NetSource, IsSource, IsCounted, view}
 use Rattle.babel_net.specs.Invariants.{IsInvariant}
-use Rattle.babel_net.specs.NetworkLaws.{views, RunTogether, RunTogetherThrough, SourcesRunTogether, SoundRunsTogether}
+use Rattle.babel_net.specs.NetworkLaws.{RunTogether, RunTogetherThrough, SourcesRunTogether, SoundRunsTogether}
 use Rattle.babel_net.proofs.Beginning.{IsInvariant-first}
 use Rattle.babel_net.proofs.EventsKept.{event_invariant, event_run}
 use Rattle.babel_net.proofs.Following.{counted_before, invariant_after}

@@ -8,7 +8,7 @@ use Rattle.babel_net.specs.declared.machine.pair.Pair.{Pair}
 use Rattle.babel_net.specs.declared.machine.pick.Pick.{Pick}
 use Rattle.babel_net.specs.declared.machine.step.Step.{Step}
 use Rattle.babel_net.specs.declared.machine.step.Step.TheVariants.{Raise, Announce, Choose, Drop}
-use Rattle.babel_net.specs.Machine.{SourceState, NodeState, node_at, quiet, HasSent, HasPicked, beginning, first_state, first_states, with_sent, with_pick, IsBetterPair, MaySend, MayPick, Adds, Announces, Steps, StepsAt, Run, MachineRun}
+use Rattle.babel_net.specs.Machine.{SourceState, NodeState, node_at, quiet, HasSent, HasPicked, beginning, first_state, first_states, with_sent, with_pick, IsBetterPair, MaySend, MayPick, Adds, Steps, StepsAt, Run, MachineRun}
 use Rattle.babel_net.specs.Sound.{IsSound}
 use Rattle.babel_net.proofs.MachineNodes.{sent-with_pick, pick-with_sent, each_pick, sent_stays, sent_now, each_sent}
 

@@ -1,5 +1,5 @@
 -- Owners of addresses, and which pick a selected route is.
-use Rattle.std.proofs.Common.{◌≡◌, ◌<◌, ◌≤◌, ℕ, ◌+◌, Bool, true, false, List, [], ◌∷◌, Option, Some, None, option_map, length, map, filter, Contains, All, get_or, refl, sym, ap, ◌∙◌, subst, inl, inr, arith, cond}
+use Rattle.std.proofs.Common.{◌≡◌, ◌<◌, ℕ, ◌+◌, Bool, true, false, List, [], ◌∷◌, Option, Some, None, option_map, length, filter, Contains, refl, ap, ◌∙◌, subst, arith, cond}
 use Rattle.std.specs.Ordering.{eq_by_cmp}
 use Rattle.std.proofs.lemmas.Option.{same_Some, none-some}
 use Rattle.std.proofs.lemmas.Cmp.{eq_by_cmp_equiv}
@@ -8,14 +8,13 @@ use Rattle.std.proofs.lemmas.Map.Lookups.{exact_bytes}
 use Rattle.std.specs.Cmp.Lexicographic.{nat_list_cmp_total}
 use Rattle.babel_value.specs.declared.addresses.Addr.{Addr}
 use Rattle.babel_value.specs.declared.keys.Source.{Source}
-use Rattle.babel_value.specs.Orders.{octets_cmp, source_cmp}
+use Rattle.babel_value.specs.Orders.{source_cmp}
 use Rattle.babel_value.proofs.OrderLaws.{source_exact, source_total}
 use Rattle.babel_value.specs.Prefixes.{PrefixValue}
 use Rattle.babel_state.specs.declared.configs.Config.{Config}
 use Rattle.babel_state.specs.declared.selected.Selected.{Selected}
 use Rattle.babel_state.specs.Sameness.{is_same_router}
 use Rattle.babel_state.specs.Seen.{UpdateValue, is_of_source}
-use Rattle.babel_net.specs.declared.machine.pair.Pair.{Pair}
 use Rattle.babel_net.specs.declared.machine.pick.Pick.{Pick}
 use Rattle.babel_net.specs.Owners.{owner_of, has_addr, addresses_of}
 use Rattle.babel_net.specs.Worlds.{SentDatagram, updates_of}

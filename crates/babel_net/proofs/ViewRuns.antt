@@ -1,11 +1,11 @@
 -- Runs of the machine that raise, and that send some pairs one after the other.
-use Rattle.std.proofs.Common.{◌≡◌, ◌<◌, ℕ, zero, suc, ◌+◌, List, [], ◌∷◌, ◌++◌, map, All, length, set, get_or, refl, sym, ap, ◌∙◌, subst, inl, inr, arith}
+use Rattle.std.proofs.Common.{◌≡◌, ◌<◌, ℕ, zero, suc, ◌+◌, List, [], ◌∷◌, ◌++◌, map, All, length, set, refl, sym, ap, ◌∙◌, subst, inl, inr, arith}
 use Rattle.std.proofs.lemmas.List.{append-nil, append_assoc, get_or-set_same, length-set, set-get_or}
 use Rattle.std.proofs.lemmas.List.Elements.{All-head, All-tail}
 use Rattle.babel_net.specs.declared.machine.pair.Pair.{Pair}
 use Rattle.babel_net.specs.declared.machine.step.Step.{Step}
 use Rattle.babel_net.specs.declared.machine.step.Step.TheVariants.{Raise, Announce}
-use Rattle.babel_net.specs.Machine.{SourceState, NodeState, node_at, quiet, with_node, with_sent, MaySend, PassesOn, Adds, Announces, Steps, Run}
+use Rattle.babel_net.specs.Machine.{SourceState, NodeState, node_at, quiet, with_sent, MaySend, Adds, Announces, Run}
 use Rattle.babel_net.proofs.MachineNodes.{Adds-push, pick-with_sent}
 
 abbrev pub raised : SourceState → ℕ → SourceState

@@ -1,14 +1,13 @@
 -- What every event of a network keeps (profile).
-use Rattle.std.specs.Prelude.{◌≡◌, ◌<◌, ◌≤◌, ◌↔◌, ℕ, ◌+◌, ◌%◌, Bool, true, false, List, [], length, slice_get, All, Contains, Option, Some, None, IsTrue}
+use Rattle.std.specs.Prelude.{◌≡◌, ◌<◌, ◌≤◌, ℕ, ◌+◌, ◌%◌, true, false, List, [], length, slice_get, All, Contains, Option, Some, None}
 use Rattle.babel_value.specs.declared.addresses.Addr.{Addr}
 use Rattle.babel_value.specs.declared.addresses.Family.{Family}
 use Rattle.babel_value.specs.declared.distances.Distance.{Distance}
 use Rattle.babel_value.specs.declared.keys.Peer.{Peer}
-use Rattle.babel_value.specs.Distances.{is_better}
 use Rattle.babel_value.specs.Prefixes.{PrefixValue}
 use Rattle.babel_value.specs.Seqnos.{seqno_modulus, lift}
 use Rattle.babel_state.specs.declared.configs.Config.{Config}
-use Rattle.babel_state.specs.Seen.{Seen, UpdateValue, HeardValue, IsSelecting, is_of_source}
+use Rattle.babel_state.specs.Seen.{UpdateValue, HeardValue, IsSelecting}
 use Rattle.babel_net.specs.declared.machine.pair.Pair.{Pair}
 use Rattle.babel_net.specs.Machine.{IsBetterPair}
 use Rattle.babel_net.specs.Sound.{IsSound}

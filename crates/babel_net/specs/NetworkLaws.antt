@@ -1,7 +1,6 @@
 -- What is proved of networks (profile). The speakers are known only by what the network sees of them.
-use Rattle.std.specs.Prelude.{◌≡◌, ◌<◌, ◌≤◌, ◌↔◌, ℕ, List, [], ◌∷◌, length, map, Contains, All, Option, Some, None, slice_get, true}
+use Rattle.std.specs.Prelude.{◌≡◌, ◌<◌, ◌≤◌, ◌↔◌, ℕ, List, [], ◌∷◌, length, map, Contains, All, Some, true}
 use Rattle.babel_value.specs.Prefixes.{PrefixValue}
-use Rattle.babel_value.specs.Seqnos.{lift}
 use Rattle.babel_value.specs.Distances.{is_better}
 use Rattle.babel_state.specs.declared.configs.Config.{Config}
 use Rattle.babel_state.specs.Seen.{UpdateValue, is_of_source}

@@ -6,10 +6,9 @@ use Rattle.std.specs.Ordering.{nat_cmp, ordering_then}
 use Rattle.std.proofs.Common.{refl, sym, ap, ◌∙◌, arith}
 use Rattle.babel_value.specs.declared.addresses.Addr.{Addr}
 use Rattle.babel_value.specs.declared.addresses.Addr.TheVariants.{V4, V6}
-use Rattle.babel_value.specs.declared.keys.Source.{Source}
 use Rattle.babel_value.specs.Orders.{octets_cmp, addr_cmp}
-use Rattle.babel_snapshot.specs.Octets.{addr_octets, source_octets}
-use Rattle.babel_snapshot.specs.SnapshotLaws.{addr_len, wanted_len, IsSource, OctetsAreInOrder}
+use Rattle.babel_snapshot.specs.Octets.{addr_octets}
+use Rattle.babel_snapshot.specs.SnapshotLaws.{addr_len, wanted_len, OctetsAreInOrder}
 use Rattle.babel_snapshot.proofs.RecordsWritten.{addr_octets_len}
 
 then_assoc : (a b c : Ordering) → ordering_then a (ordering_then b c) ≡ ordering_then (ordering_then a b) c

@@ -1,5 +1,5 @@
 -- A record that is read has the octets of its source.
-use Rattle.std.specs.Prelude.{◌≡◌, ℕ, ◌+◌, ◌<◌, ◌≤◌, Bool, true, false, List, [], ◌∷◌, ◌++◌, take, drop, length, replicate, slice_index, nat_le, nat_lt, ◌==◌, Option, Some, None, option_and_then, option_map, if◌then◌else◌}
+use Rattle.std.specs.Prelude.{◌≡◌, ℕ, ◌<◌, ◌≤◌, Bool, true, false, List, [], ◌∷◌, ◌++◌, take, drop, length, replicate, slice_index, nat_le, nat_lt, ◌==◌, Option, Some, None, option_and_then, option_map, if◌then◌else◌}
 use Rattle.std.specs.declared.cmp.Ordering.{Ordering}
 use Rattle.std.specs.declared.cmp.Ordering.TheVariants.{Less, Equal, Greater}
 use Rattle.std.specs.Ordering.{is_eq}
@@ -8,7 +8,7 @@ use Rattle.std.specs.Cmp.Lexicographic.{bytes_decides}
 use Rattle.std.proofs.Common.{refl, sym, ap, subst, ◌∙◌, arith, drop-drop}
 use Rattle.std.proofs.Math.Seq.{take-add}
 use Rattle.std.proofs.lemmas.List.{length-drop, length-take-le, get_or-drop}
-use Rattle.std.proofs.lemmas.Bool.{and_parts, eqb-true, leb-true, ltb-true, true≢false}
+use Rattle.std.proofs.lemmas.Bool.{and_parts, eqb-true, leb-true, ltb-true}
 use Rattle.std.proofs.lemmas.Option.{none-some, same_Some}
 use Rattle.babel_value.specs.declared.addresses.Addr.{Addr}
 use Rattle.babel_value.specs.declared.addresses.Addr.TheVariants.{V4, V6}
@@ -20,7 +20,7 @@ use Rattle.babel_value.specs.Prefixes.{PrefixValue, cleared_addr, prefix_of}
 use Rattle.babel_value.specs.RouterIds.{is_reserved, router_id_of}
 use Rattle.babel_value.proofs.OrderLaws.{addr_exact}
 use Rattle.babel_state.specs.Sameness.{is_same_addr}
-use Rattle.babel_snapshot.specs.Octets.{addr_octets, source_octets, record_octets}
+use Rattle.babel_snapshot.specs.Octets.{addr_octets, source_octets}
 use Rattle.babel_snapshot.specs.Reading.{addr_in, is_prefix, prefix_with, prefix_in, source_with, source_in, distance_in, with_distance, record_in}
 use Rattle.babel_snapshot.specs.SnapshotLaws.{addr_len, wanted_len, IsSource}
 

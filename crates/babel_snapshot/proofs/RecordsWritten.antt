@@ -1,10 +1,9 @@
 -- A record that is written is read as its source and distance.
-use Rattle.std.specs.Prelude.{◌≡◌, ℕ, ◌+◌, ◌<◌, ◌≤◌, ◌^◌, Bool, true, false, List, [], ◌∷◌, ◌++◌, take, drop, length, replicate, slice_index, nat_le, nat_lt, Option, Some, None, option_and_then, option_map, if◌then◌else◌}
-use Rattle.std.specs.Int.{bytes_high_first}
-use Rattle.std.specs.Ordering.{eq_by_cmp, is_eq}
+use Rattle.std.specs.Prelude.{◌≡◌, ℕ, ◌<◌, ◌≤◌, true, List, [], ◌∷◌, ◌++◌, take, drop, length, replicate, slice_index, nat_le, Some, None, option_and_then, option_map, if◌then◌else◌}
+use Rattle.std.specs.Ordering.{is_eq}
 use Rattle.std.specs.Cmp.{tied_itself}
 use Rattle.std.specs.Str.{bytes_eq}
-use Rattle.std.proofs.Common.{refl, sym, ap, subst, ◌∙◌, arith, append_assoc, take_at, drop_at, drop-drop}
+use Rattle.std.proofs.Common.{sym, ap, ◌∙◌, arith, append_assoc, take_at, drop_at, drop-drop}
 use Rattle.std.proofs.lemmas.List.{get_or_at, length-append}
 use Rattle.std.proofs.lemmas.Bool.{and_from, le-leb, lt-ltb}
 use Rattle.byteorder.specs.Endian.{big_bytes, big_number}
@@ -14,9 +13,7 @@ use Rattle.babel_value.specs.declared.addresses.Addr.TheVariants.{V4, V6}
 use Rattle.babel_value.specs.declared.distances.Distance.{Distance}
 use Rattle.babel_value.specs.declared.keys.Source.{Source}
 use Rattle.babel_value.specs.Addresses.{width_of}
-use Rattle.babel_value.specs.Orders.{addr_cmp}
 use Rattle.babel_value.specs.Prefixes.{PrefixValue, cleared_addr, prefix_of}
-use Rattle.babel_value.specs.RouterIds.{is_reserved, router_id_of}
 use Rattle.babel_value.proofs.OrderLaws.{addr_total}
 use Rattle.babel_state.specs.Sameness.{is_same_addr}
 use Rattle.babel_snapshot.specs.Octets.{addr_octets, source_octets, record_octets}

@@ -1,5 +1,5 @@
 -- The octets of a snapshot have no fault, and are read as the snapshot.
-use Rattle.std.specs.Prelude.{◌≡◌, ℕ, zero, suc, ◌+◌, ◌*◌, ◌<◌, ◌≤◌, ◌^◌, Bool, true, false, not, nat_lt, ◌==◌, List, [], ◌∷◌, ◌++◌, All, take, drop, length, slice_get, Option, Some, None, is_some, option_to_list, if◌then◌else◌}
+use Rattle.std.specs.Prelude.{◌≡◌, ℕ, zero, suc, ◌+◌, ◌*◌, ◌<◌, ◌≤◌, Bool, true, false, not, nat_lt, ◌==◌, List, [], ◌∷◌, ◌++◌, All, take, drop, length, slice_get, Option, Some, None, is_some, option_to_list, if◌then◌else◌}
 use Rattle.std.specs.Option.{option_or}
 use Rattle.std.specs.Ordering.{is_lt}
 use Rattle.std.specs.FinMap.{is_sorted}
@@ -16,13 +16,13 @@ use Rattle.babel_value.specs.declared.distances.Distance.{Distance}
 use Rattle.babel_value.specs.declared.keys.Source.{Source}
 use Rattle.babel_value.specs.Orders.{octets_cmp, source_cmp}
 use Rattle.babel_table.proofs.PlaceLemmas.{greater_at, others_greater, tail_sorted}
-use Rattle.babel_state.specs.Restarts.{Snapshot, IsFinitePair, IsSnapshot}
+use Rattle.babel_state.specs.Restarts.{Snapshot, IsFinitePair}
 use Rattle.babel_state.specs.declared.errors.RestoreFault.{RestoreFault}
 use Rattle.babel_state.specs.declared.errors.RestoreFault.TheVariants as faults
 use Rattle.babel_snapshot.specs.Layout as layout
-use Rattle.babel_snapshot.specs.Octets.{source_octets, record_octets, records_octets, head_octets, snapshot_octets}
+use Rattle.babel_snapshot.specs.Octets.{source_octets, record_octets, records_octets, snapshot_octets}
 use Rattle.babel_snapshot.specs.Reading.{record_in, router_in, seqno_in, raises_in, count_in, record_at, key_at, sources_in, snapshot_in, is_in_order, record_fault, records_fault, restore_fault}
-use Rattle.babel_snapshot.specs.SnapshotLaws.{IsRecord, IsWhole, IsRead, WrittenIsRead, OctetsAreExact}
+use Rattle.babel_snapshot.specs.SnapshotLaws.{IsRecord, IsWhole, WrittenIsRead, OctetsAreExact}
 use Rattle.babel_snapshot.proofs.RecordsWritten.{record_octets_len, record_back, key_back}
 use Rattle.babel_snapshot.proofs.Orders.{sources_in_order}
 

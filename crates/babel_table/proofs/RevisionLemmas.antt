@@ -1,5 +1,5 @@
 -- What a revision leaves of the order of the keys, and a step of its pass.
-use Rattle.std.proofs.Common.{◌≡◌, ℕ, zero, suc, ◌+◌, ◌<◌, ◌≤◌, Bool, true, false, cond, ◌&&◌, List, [], ◌∷◌, ◌++◌, length, get_or, set, take, drop, slice_get, option_map, option_and_then, is_none, Option, Some, None, refl, sym, ap, subst, ◌∙◌, arith, add-one, append_assoc}
+use Rattle.std.proofs.Common.{◌≡◌, ℕ, zero, suc, ◌+◌, ◌<◌, ◌≤◌, true, cond, List, [], ◌∷◌, ◌++◌, length, get_or, set, take, drop, slice_get, option_map, option_and_then, is_none, Option, Some, None, refl, sym, ap, subst, ◌∙◌, arith, add-one, append_assoc}
 use Rattle.std.specs.List.{cons_option}
 use Rattle.std.proofs.Math.Seq.{drop-cons}
 use Rattle.std.proofs.lemmas.List.{drop-set-lt, take_more_set, drop_all, append-nil}
@@ -7,13 +7,13 @@ use Rattle.std.proofs.lemmas.Bool.{and_parts, and_from, true≢false}
 use Rattle.std.proofs.lemmas.Option.{same_Some, none-some}
 use Rattle.std.specs.declared.cmp.Ordering.{Ordering}
 use Rattle.std.specs.declared.cmp.Ordering.TheVariants.{Less, Equal, Greater}
-use Rattle.std.specs.Ordering.{is_lt, is_eq, eq_by_cmp}
+use Rattle.std.specs.Ordering.{is_lt, is_eq}
 use Rattle.std.specs.Cmp.{IsTotalOrder}
-use Rattle.std.specs.FinMap.{find, put, is_sorted, IsAntisymmetric}
+use Rattle.std.specs.FinMap.{find, is_sorted, IsAntisymmetric}
 use Rattle.std.specs.FinMap.Entries.{below_all, same_entries}
 use Rattle.babel_table.specs.Entries.{revised_entries}
 use Rattle.babel_table.specs.Insertions.{in_order, are_distinct, sorted_in_order}
-use Rattle.babel_table.proofs.PlaceLemmas.{holds, so, find_revised}
+use Rattle.babel_table.proofs.PlaceLemmas.{holds, find_revised}
 use Rattle.babel_table.proofs.InsertionLemmas.{find_in_order}
 
 -- Writing an item over itself changes nothing.

@@ -1,5 +1,5 @@
 -- The last 8 of 16 octets are what is left after the first 8.
-use Rattle.std.proofs.Common.{◌≡◌, ◌&&◌, true, take, drop, length, refl, ap, sym, ◌∙◌, arith, length-drop}
+use Rattle.std.proofs.Common.{◌≡◌, true, take, drop, ◌∙◌, arith, length-drop}
 use Rattle.std.specs.Str.{bytes_eq}
 use Rattle.std.proofs.lemmas.List.{take_all}
 use Rattle.babel_build.proofs.Numbers.{equal_parts}

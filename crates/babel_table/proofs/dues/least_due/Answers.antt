@@ -1,5 +1,5 @@
 -- One more entry is due no earlier than the least moment so far and its own; the walk takes all.
-use Rattle.std.proofs.Common.{◌≡◌, ◌+◌, ◌<◌, ◌≤◌, length, take, sym, subst, ◌∙◌, arith}
+use Rattle.std.proofs.Common.{◌+◌, ◌<◌, length, take, sym, subst, ◌∙◌, arith}
 use Rattle.std.proofs.lemmas.List.{take_all}
 use Rattle.babel_table.specs.Dues.{AreDueFrom}
 use Rattle.babel_table.proofs.DueLemmas.{due_earlier, due_more}

@@ -1,5 +1,5 @@
 -- What a comparison means for all entries on its side, since the keys rise.
-use Rattle.std.proofs.Common.{◌≡◌, true, ◌<◌, ◌≤◌, length, Some, refl, sym, ap, subst, ◌∙◌, arith, add-one, take, drop}
+use Rattle.std.proofs.Common.{◌≡◌, true, ◌<◌, length, Some, refl, sym, ap, subst, ◌∙◌, arith, add-one, take}
 use Rattle.std.proofs.lemmas.Option.{slice_get_read}
 use Rattle.std.proofs.lemmas.List.{drop_all}
 use Rattle.babel_table.specs.Places.{are_lesser, are_greater}

@@ -2,7 +2,6 @@
 use Rattle.std.proofs.Common.{◌≡◌, ◌++◌, ◌+◌, ◌≤◌, length, drop, take, ap, sym, ◌∙◌, arith, length-append, length-drop}
 use Rattle.std.proofs.lemmas.List.{drop-append-le, take-append-le, length-take}
 use Rattle.std.proofs.lemmas.Bool.{le-leb, leb-true}
-use Rattle.babel_packet.specs.BodyMeanings.{state_after}
 use Rattle.babel_packet.specs.Compressed.{compressed, state_with}
 use Rattle.babel_build.specs.Built.{Built}
 use Rattle.babel_build.proofs.builders.Builder.add.Goals as goal
