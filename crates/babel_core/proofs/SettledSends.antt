@@ -18,10 +18,10 @@ use Rattle.babel_packet.specs.declared.messages.Message.TheVariants as messages
 use Rattle.babel_table.proofs.LookupLemmas.{equal}
 use Rattle.babel_table.specs.Firsts.{first_of}
 use Rattle.babel_route.specs.Currency.{is_current}
-use Rattle.babel_route.specs.Distances.{improves_on, better_pair, is_feasible}
+use Rattle.babel_sources.specs.Distances.{improves_on, better_pair, is_feasible}
 use Rattle.babel_route.specs.Routes.{Route, RouteEntries}
 use Rattle.babel_route.specs.Selections.{RoutesValue, IsCurrent, is_of, routes_of, source_of, is_candidate, route_metric, preference, peer_before, selection_of, selection_at, choice_at}
-use Rattle.babel_route.specs.Sources.{Sources, pair_of, lowered}
+use Rattle.babel_sources.specs.Sources.{Sources, pair_of, lowered}
 use Rattle.babel_route.proofs.CurrencyLemmas.{same_selection}
 use Rattle.babel_state.specs.declared.interfaces.InterfaceEntry.{InterfaceEntry}
 use Rattle.babel_state.specs.declared.items.Outgoing.TheVariants as outgoings

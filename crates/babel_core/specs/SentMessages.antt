@@ -5,7 +5,7 @@ use Rattle.babel_value.specs.Prefixes.{PrefixValue}
 use Rattle.babel_packet.specs.declared.messages.Message.{Message}
 use Rattle.babel_packet.specs.declared.messages.Message.TheVariants as messages
 use Rattle.babel_route.specs.Currency.{is_current}
-use Rattle.babel_route.specs.Distances.{improves_on}
+use Rattle.babel_sources.specs.Distances.{improves_on}
 use Rattle.babel_state.specs.declared.items.Outgoing.{Outgoing}
 use Rattle.babel_state.specs.declared.items.Outgoing.TheVariants as outgoings
 use Rattle.babel_state.specs.State.{State, announces, cost_at, pair_at}

@@ -17,7 +17,8 @@ use babel_parts::outgoing::{
     hello_message, ihu_message, retraction_message, to_peer, update_message,
 };
 use babel_parts::sources::address_of;
-use babel_route::{Cursor, SOURCE_PLACES, Selection};
+use babel_route::{Cursor, Selection};
+use babel_sources::SOURCE_PLACES;
 use babel_state::{InterfaceEntry, Item, Outgoing, Target};
 use babel_value::{Distance, Metric, Peer, Prefix, RouterId, Seqno, Source};
 
@@ -34,7 +35,8 @@ impl Core {
     fn is_source_too_many(&self, source: &Source, cursor: &mut Cursor) -> bool
         ensures { result ≡ is_source_too_many source.now self.now.sources }
     {
-        self.sources.len() == SOURCE_PLACES && self.sources.pair_near(source, cursor).is_none()
+        self.sources.len() == SOURCE_PLACES
+            && self.sources.pair_near(source, &mut cursor.source).is_none()
     }
 
     /// An Update with a finite metric, if the interface has an address of the prefix's family.

@@ -11,9 +11,11 @@ ghost use Rattle.babel_core.specs.Making.{IsRestoreFault};
 
 use crate::Core;
 use babel_parts::restarts::restore_sources;
-use babel_route::Memory;
-use babel_snapshot::{SavedState, save, written_is_read};
-use babel_state::{Config, RestoreFault, restarts_are_seen};
+use babel_snapshot::laws::written_is_read;
+use babel_snapshot::{SavedState, save};
+use babel_state::laws::restarts_are_seen;
+use babel_state::{Config, RestoreFault};
+use babel_value::Memory;
 use std::alloc::Global;
 
 impl Core {

@@ -50,7 +50,7 @@ impl Core {
             } => {
                 let source = Source { prefix, router };
                 let sent = Distance { seqno, metric };
-                match self.sources.pair_near(&source, cursor) {
+                match self.sources.pair_near(&source, &mut cursor.source) {
                     Some(pair) => sent.better(pair),
                     None => true,
                 }
@@ -78,7 +78,9 @@ impl Core {
             } => {
                 let source = Source { prefix, router };
                 let sent = Distance { seqno, metric };
-                let _ = self.sources.lower_near(now, source, sent, cursor);
+                let _ = self
+                    .sources
+                    .lower_near(now, source, sent, &mut cursor.source);
             }
             _ => {}
         }

@@ -4,7 +4,8 @@ ghost use Rattle.std.specs.Prelude.{◌≡◌};
 
 use babel_link::Neighbours;
 use babel_parts::{Announced, Interfaces, PendingItems, RequestTable};
-use babel_route::{Entry, Routes, Selection, Sources};
+use babel_route::{Entry, Routes, Selection};
+use babel_sources::Sources;
 use babel_state::InterfaceEntry;
 use babel_value::{Distance, Metric, Peer, Prefix, RouterId, Seqno, Source};
 use std::marker::Model;

@@ -1,7 +1,7 @@
 //! Updates and retractions of a neighbour (RFC 8966, section 3.5.3).
 
 ghost use Rattle.std.specs.Prelude.{◌≡◌, Some};
-ghost use Rattle.babel_route.specs.Distances.{is_feasible};
+ghost use Rattle.babel_sources.specs.Distances.{is_feasible};
 ghost use Rattle.babel_state.specs.Updates.{is_satisfied, advertise_if_selected, satisfy_request, judge, handle_update, handle_retraction, handle_retract_all};
 
 use crate::Core;
@@ -102,7 +102,7 @@ impl Core {
             prefix: *prefix,
             router,
         };
-        let pair = self.sources.pair_near(&source, cursor);
+        let pair = self.sources.pair_near(&source, &mut cursor.source);
         let received = distance;
         let stored = self.routes.update_near(
             now, *prefix, *peer, router, distance, next_hop, interval, cursor,

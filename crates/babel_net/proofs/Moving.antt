@@ -6,7 +6,7 @@ use Rattle.babel_value.specs.declared.addresses.Addr.{Addr}
 use Rattle.babel_value.specs.declared.addresses.Family.{Family}
 use Rattle.babel_value.specs.declared.keys.Peer.{Peer}
 use Rattle.babel_value.specs.Prefixes.{PrefixValue}
-use Rattle.babel_route.specs.Distances.{is_feasible}
+use Rattle.babel_sources.specs.Distances.{is_feasible}
 use Rattle.babel_state.specs.declared.configs.Config.{Config}
 use Rattle.babel_state.specs.Seen.{Seen, HeardValue, IsSelecting, heard_of}
 use Rattle.babel_net.specs.declared.machine.pair.Pair.{Pair}

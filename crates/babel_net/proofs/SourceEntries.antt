@@ -7,7 +7,7 @@ use Rattle.std.proofs.lemmas.List.{append-nil, append_assoc}
 use Rattle.std.proofs.lemmas.List.Elements.{All-weaker, All-append, All-nil, All-cons, All-head, All-tail}
 use Rattle.babel_value.specs.declared.distances.Distance.{Distance}
 use Rattle.babel_value.specs.Distances.{is_better}
-use Rattle.babel_route.specs.Distances.{is_feasible, better_pair}
+use Rattle.babel_sources.specs.Distances.{is_feasible, better_pair}
 use Rattle.babel_state.specs.Seen.{UpdateValue, all_lowered}
 use Rattle.babel_net.specs.declared.machine.pair.Pair.{Pair}
 use Rattle.babel_net.specs.Machine.{IsBetterPair}

@@ -17,9 +17,8 @@ use crate::sent::Sent;
 use arrayvec::ArrayVec;
 use babel_net::{Event, StepFault};
 use babel_speaker::Speaker;
-use babel_state::{
-    Config, ConfigFault, RecvFault, RestoreFault, SetCostFault, datagrams_send, items_mean_messages,
-};
+use babel_state::laws::{datagrams_send, items_mean_messages};
+use babel_state::{Config, ConfigFault, RecvFault, RestoreFault, SetCostFault};
 use babel_tlv::DATAGRAM_LEN;
 use babel_value::{Addr, Prefix};
 use std::alloc::Global;

@@ -6,7 +6,7 @@ ghost use Rattle.babel_network.specs.Laws.{FirstNetworksAreSound, EventsHappen, 
 use babel_net::laws::{
     accepted_configs_are_apart, events_keep_the_invariant, networks_begin_sound,
 };
-use babel_state::{
+use babel_state::laws::{
     calls_move, datagrams_send, items_mean_messages, restarts_are_seen, selected_routes_are_good,
     states_are_well_formed,
 };

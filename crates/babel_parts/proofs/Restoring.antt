@@ -16,9 +16,9 @@ use Rattle.babel_value.specs.Orders.{source_cmp}
 use Rattle.babel_value.proofs.OrderLaws.{source_total}
 use Rattle.babel_table.specs.Places.{are_lesser}
 use Rattle.babel_table.proofs.PlaceLemmas.{greater, turned, greater_at, others_greater, tail_sorted}
-use Rattle.babel_route.specs.declared.sources.SourceEntry.{SourceEntry}
-use Rattle.babel_route.specs.Distances.{better_pair}
-use Rattle.babel_route.specs.Sources.{Sources, pair_of, lowered, source_entry_after}
+use Rattle.babel_sources.specs.declared.sources.SourceEntry.{SourceEntry}
+use Rattle.babel_sources.specs.Distances.{better_pair}
+use Rattle.babel_sources.specs.Sources.{Sources, pair_of, lowered, source_entry_after}
 use Rattle.babel_state.specs.Restarts.{restored_source, restored_sources}
 
 -- ---- entries after lesser ones

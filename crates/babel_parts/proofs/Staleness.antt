@@ -20,7 +20,7 @@ use Rattle.babel_route.specs.PrefixWalks.{others_of, without_prefix}
 use Rattle.babel_route.specs.RouteLaws.{is_among}
 use Rattle.babel_route.specs.Routes.{RouteEntries}
 use Rattle.babel_route.specs.Selections.{RoutesValue, Selections, is_of, routes_of, prefixes_of, selection_at, is_candidate, preference, peer_before, selection_of, choice}
-use Rattle.babel_route.specs.Sources.{Sources}
+use Rattle.babel_sources.specs.Sources.{Sources}
 use Rattle.babel_state.specs.Sameness.{has_prefix}
 use Rattle.babel_state.specs.State.{PrefixSet, prefixes_in}
 use Rattle.babel_state.proofs.CurrentLaws.{has_put}

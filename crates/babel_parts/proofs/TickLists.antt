@@ -4,7 +4,7 @@ use Rattle.std.specs.Option.{unwrap_or}
 use Rattle.babel_value.specs.declared.keys.Source.{Source}
 use Rattle.babel_link.specs.Neighbours.{Links}
 use Rattle.babel_route.specs.Routes.{RouteEntries}
-use Rattle.babel_route.specs.Sources.{Sources}
+use Rattle.babel_sources.specs.Sources.{Sources}
 use Rattle.babel_state.specs.declared.requests.PendingRequest.{PendingRequest}
 use Rattle.babel_state.specs.declared.interfaces.InterfaceEntry.{InterfaceEntry}
 use Rattle.babel_state.specs.declared.items.Item.{Item}

@@ -6,7 +6,7 @@ use Rattle.babel_value.specs.Orders.{prefix_cmp}
 use Rattle.babel_value.specs.Prefixes.{PrefixValue}
 use Rattle.babel_route.specs.Currency.{is_current}
 use Rattle.babel_route.specs.Selections.{RoutesValue}
-use Rattle.babel_route.specs.Sources.{Sources}
+use Rattle.babel_sources.specs.Sources.{Sources}
 use Rattle.babel_state.specs.State.{PrefixSet}
 
 -- The selection of the prefix isn't the one that a reselection would leave.

@@ -7,9 +7,9 @@ ghost use Rattle.babel_table.specs.Entries.{without};
 ghost use Rattle.babel_state.specs.State.{prefixes_in};
 
 use crate::Prefixes;
-use babel_route::{Full, Memory, SortedTable, Table, find_in};
 use babel_state::MAX_PREFIXES;
-use babel_value::Prefix;
+use babel_table::{Full, SortedTable, Table, find_in};
+use babel_value::{Memory, Prefix};
 use std::alloc::Global;
 use std::marker::Model;
 

@@ -4,7 +4,7 @@
 
 mod announced;
 mod interfaces;
-mod laws;
+pub mod laws;
 mod link_costs;
 pub mod making;
 pub mod outgoing;
@@ -22,7 +22,6 @@ pub mod ticks;
 
 pub use announced::Announced;
 pub use interfaces::Interfaces;
-pub use laws::limits_are_those_of_the_code;
 pub use link_costs::{LinkChange, LinkCosts};
 pub use pending_items::PendingItems;
 pub use prefixes::Prefixes;

@@ -3,7 +3,7 @@
 ghost use Rattle.std.specs.Prelude.{◌≡◌};
 ghost use Rattle.babel_state.specs.State.{prefixes_in};
 
-use babel_route::{SortedTable, Table};
+use babel_table::{SortedTable, Table};
 use babel_value::Prefix;
 use std::marker::Model;
 

@@ -8,7 +8,8 @@ ghost use Rattle.babel_state.specs.Reselection.{update_to_all, update_to, reques
 ghost use Rattle.babel_parts.specs.Reaching.{reachable_of};
 
 use crate::{Announced, PendingItems, Reachable};
-use babel_route::{Entry, RouteKey, Routes, Sources};
+use babel_route::{Entry, RouteKey, Routes};
+use babel_sources::Sources;
 use babel_state::{Item, Target};
 use babel_value::{Peer, Prefix, Seqno, Source};
 

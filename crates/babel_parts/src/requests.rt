@@ -8,9 +8,9 @@ ghost use Rattle.babel_table.specs.Entries.{without, revised_entries};
 ghost use Rattle.babel_state.specs.PendingRequests.{is_redundant, recorded};
 ghost use Rattle.babel_state.specs.Ticks.{is_due_request};
 
-use babel_route::{Memory, SortedTable, Table, find_in};
 use babel_state::{MAX_REQUESTS, PendingRequest, REQUEST_WAIT, Resend};
-use babel_value::{Seqno, Source};
+use babel_table::{SortedTable, Table, find_in};
+use babel_value::{Memory, Seqno, Source};
 use std::alloc::Global;
 use std::marker::Model;
 

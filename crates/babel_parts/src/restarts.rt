@@ -1,12 +1,12 @@
 //! The source table of a speaker after a restart.
 
 ghost use Rattle.std.specs.Prelude.{◌≡◌, ◌<◌, ◌+◌, [], length, take};
-ghost use Rattle.babel_route.specs.Sources.{lowered};
+ghost use Rattle.babel_sources.specs.Sources.{lowered};
 ghost use Rattle.babel_state.specs.Restarts.{restored_sources, IsSnapshot};
-ghost use Rattle.babel_route.specs.Rooms.{most_sources};
+ghost use Rattle.babel_sources.specs.Rooms.{most_sources};
 
-use babel_route::Sources;
 use babel_snapshot::SavedState;
+use babel_sources::Sources;
 use babel_value::{Distance, Source};
 
 /// Adds a source, which the table has room for.

@@ -12,10 +12,10 @@ ghost use Rattle.babel_parts.specs.LinkChanges.{prefixes_from};
 ghost use Rattle.babel_parts.specs.StalePrefixes.{is_stale};
 
 use crate::{Announced, Prefixes};
-use babel_route::{
-    Costs, Cursor, Memory, PREFIX_PLACES, RouteKey, Routes, SortedTable, Sources, Table,
-};
-use babel_value::{Peer, Prefix};
+use babel_route::{Costs, Cursor, PREFIX_PLACES, RouteKey, Routes};
+use babel_sources::Sources;
+use babel_table::{SortedTable, Table};
+use babel_value::{Memory, Peer, Prefix};
 use std::alloc::Global;
 use std::marker::Model;
 

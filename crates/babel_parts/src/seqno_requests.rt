@@ -6,7 +6,8 @@ ghost use Rattle.babel_route.specs.Selections.{routes_of, is_feasible_route};
 ghost use Rattle.babel_state.specs.SeqnoRequests.{outcomes, is_passable, first_peer, receiver};
 
 use crate::queueing::is_unfeasible;
-use babel_route::{Entry, RouteKey, Routes, Sources};
+use babel_route::{Entry, RouteKey, Routes};
+use babel_sources::Sources;
 use babel_value::{Peer, Prefix, RouterId, Seqno};
 
 /// Whether a route of this router-id and seqno is as good as the requested one: it is of another

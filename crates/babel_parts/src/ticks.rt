@@ -12,11 +12,12 @@ ghost use Rattle.babel_state.specs.Ticks.{is_last, waited, is_due, next_due, fir
 use crate::queueing::queue_requests_to_unfeasible;
 use crate::{Interfaces, PendingItems, RequestTable, Scratch};
 use babel_link::Neighbours;
-use babel_route::{Revised, Revision, Routes, Sources, Table};
+use babel_route::Routes;
+use babel_sources::Sources;
 use babel_state::{
     InterfaceEntry, Item, LAST_REQUEST_WAIT, PendingRequest, REQUEST_HOPS, Resend, Target,
 };
-use babel_table::least_due;
+use babel_table::{Revised, Revision, Table, least_due};
 use babel_value::Source;
 
 /// Whether the wait of a pending request is over for the last time.

@@ -4,7 +4,7 @@ ghost use Rattle.std.specs.Prelude.{◌≡◌, ◌≢◌, ◌⊎◌, [], length,
 ghost use Rattle.std.specs.Io.KnownBytes.{Appends};
 ghost use Rattle.std.specs.Option.{option_map_or};
 ghost use Rattle.babel_value.specs.Metrics.{infinity, metric_sum};
-ghost use Rattle.babel_route.specs.Distances.{improves_on};
+ghost use Rattle.babel_sources.specs.Distances.{improves_on};
 ghost use Rattle.babel_state.specs.Calls.{first_state, reported_entries};
 ghost use Rattle.babel_state.specs.Configs.{config_fault};
 ghost use Rattle.babel_state.specs.State.{announces};
@@ -21,7 +21,8 @@ use crate::{Event, LineFault, ReplayFault, parse_line};
 use arrayvec::ArrayVec;
 use babel_lines::{RouteLine, RouteStatus, route_line};
 use babel_route::Entry;
-use babel_speaker::{Speaker, datagrams_take_items};
+use babel_speaker::Speaker;
+use babel_speaker::laws::datagrams_take_items;
 use babel_state::Config;
 use babel_value::{Distance, Metric, Peer, Prefix, Source};
 use std::alloc::Global;

@@ -24,7 +24,8 @@ use babel_lines::{
     Choice, cost_refused_line, note_line, out_line, refused_line, select_line, table_line,
 };
 use babel_packet::{Placed, Refusal, decode};
-use babel_speaker::{Speaker, datagrams_take_items};
+use babel_speaker::Speaker;
+use babel_speaker::laws::datagrams_take_items;
 use babel_state::{Config, ConfigFault, Note};
 use babel_value::{Line, Prefix};
 use std::alloc::{AllocError, Global};

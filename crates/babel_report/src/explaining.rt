@@ -1,9 +1,9 @@
 //! `babel explain CONFIG LOG PREFIX`.
 
 use crate::errors::{CommandFault, status};
-use crate::replaying::{READ_LEN, config_in};
+use crate::replaying::config_in;
 use babel_config::FileFault;
-use babel_show::Status;
+use babel_show::{READ_LEN, Status};
 use babel_text::parse_prefix;
 use std::alloc::Global;
 use std::io::{BufReader, Read, Write};

@@ -2,13 +2,10 @@
 
 use crate::errors::{CommandFault, status};
 use babel_config::{FileFault, read_config, read_file};
-use babel_show::Status;
+use babel_show::{READ_LEN, Status};
 use babel_state::Config;
 use std::alloc::Global;
 use std::io::{BufReader, Read, Write};
-
-/// How many octets of a log are read at a time.
-pub(crate) const READ_LEN: usize = 65_536;
 
 /// Writes what a speaker of the configuration makes of the log, line by line. A fault of the
 /// configuration or of the log is written to `err`.

@@ -14,7 +14,7 @@ use Rattle.babel_value.specs.Orders.{prefix_cmp, peer_cmp}
 use Rattle.babel_value.proofs.OrderLaws.{prefix_total, prefix_exact, peer_total, peer_exact}
 use Rattle.babel_route.specs.declared.routes.entries.Entry.{Entry}
 use Rattle.babel_route.specs.declared.routes.entries.Selection.{Selection}
-use Rattle.babel_route.specs.Sources.{Sources}
+use Rattle.babel_sources.specs.Sources.{Sources}
 use Rattle.babel_route.specs.RouteKeys.{route_cmp, route_total}
 use Rattle.babel_route.specs.Routes.{Route, RouteEntries, key_of}
 use Rattle.babel_table.specs.Firsts.{first_of, IsFirst}

@@ -5,7 +5,6 @@ pub mod RetractionLemmas
 pub mod RoomLemmas
 pub mod RunLemmas
 pub mod ListLemmas
-pub mod NearLemmas
 pub mod DueLemmas
 pub mod CurrencyLemmas
 pub mod PrefixWalkLemmas

@@ -1,7 +1,4 @@
 pub mod Rooms
-pub mod Distances
-pub mod Sources
-pub mod SourceLaws
 pub mod RouteKeys
 pub mod Routes
 pub mod Selections

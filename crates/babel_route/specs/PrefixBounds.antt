@@ -4,12 +4,10 @@ use Rattle.std.proofs.Common.{refl, sym, ap, ◌∙◌}
 use Rattle.std.specs.declared.cmp.Ordering.{Ordering}
 use Rattle.std.specs.declared.cmp.Ordering.TheVariants.{Less, Equal, Greater}
 use Rattle.std.specs.Ordering.{is_lt, is_gt, ordering_then, ordering_reverse}
-use Rattle.std.specs.Cmp.{IsTotalOrder}
 use Rattle.std.proofs.lemmas.Cmp.{upto}
 use Rattle.babel_value.specs.Prefixes.{PrefixValue}
 use Rattle.babel_value.specs.Orders.{prefix_cmp, peer_cmp}
 use Rattle.babel_value.proofs.OrderLaws.{prefix_total}
-use Rattle.babel_table.proofs.PlaceLemmas.{greater, turned, turned_back}
 use Rattle.babel_route.specs.declared.routes.entries.RouteKey.{RouteKey}
 use Rattle.babel_route.specs.RouteKeys.{route_cmp}
 use Rattle.babel_route.specs.Selections.{is_beyond}
@@ -42,18 +40,6 @@ before_falls bound x y upwards below = by (prefix_cmp x y) refl upwards
     by : (r : Ordering) → prefix_cmp x y ≡ r → is_gt r ≡ false → is_lt (prefix_cmp x bound) ≡ true
     by Less e h = ap is_lt (prefix_total.trans x y bound e (less (prefix_cmp y bound) below))
     by Equal e h = ap is_lt (prefix_total.congr x y bound e) ∙ below
-    by Greater e h = cc
-
--- The keys that are lesser than one: with a key, all lesser ones.
-pub lesser_falls : {K : Type 0} (R : K → K → Ordering) → IsTotalOrder R → (bound x y : K) → is_gt (R x y) ≡ false → is_gt (R bound y) ≡ true → is_gt (R bound x) ≡ true
-lesser_falls R o bound x y upwards below = by (R x y) refl upwards
-  where
-    below_bound : R y bound ≡ Less
-    below_bound = turned_back o bound y (greater (R bound y) below)
-
-    by : (r : Ordering) → R x y ≡ r → is_gt r ≡ false → is_gt (R bound x) ≡ true
-    by Less e h = ap is_gt (turned o x bound (o.trans x y bound e below_bound))
-    by Equal e h = ap is_gt (turned o x bound (o.congr x y bound e ∙ below_bound))
     by Greater e h = cc
 
 reversed : (r : Ordering) → is_lt (ordering_reverse r) ≡ is_gt r

@@ -10,7 +10,7 @@ use Rattle.babel_value.specs.Orders.{prefix_cmp}
 use Rattle.babel_value.specs.Prefixes.{PrefixValue}
 use Rattle.babel_route.specs.declared.routes.entries.RouteKey.{RouteKey}
 use Rattle.babel_route.specs.declared.routes.entries.Selection.{Selection}
-use Rattle.babel_route.specs.Sources.{Sources}
+use Rattle.babel_sources.specs.Sources.{Sources}
 use Rattle.babel_route.specs.RouteKeys.{route_cmp}
 use Rattle.babel_route.specs.Routes.{Route, RouteEntries, key_of, entry_of_update, updated, retracted_entry, retracted, retracted_from, retracted_all, kept_without, forgotten, expired_entry, expired}
 use Rattle.babel_table.specs.Firsts.{IsFirstOf}

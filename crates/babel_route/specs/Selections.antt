@@ -12,9 +12,9 @@ use Rattle.babel_value.specs.Orders.{prefix_cmp, peer_cmp}
 use Rattle.babel_value.specs.Prefixes.{PrefixValue}
 use Rattle.babel_route.specs.declared.routes.choices.Rank.{Rank}
 use Rattle.babel_route.specs.declared.routes.entries.Selection.{Selection}
-use Rattle.babel_route.specs.Distances.{is_feasible}
+use Rattle.babel_sources.specs.Distances.{is_feasible}
 use Rattle.babel_table.specs.Entries.{with_value}
-use Rattle.babel_route.specs.Sources.{Sources, pair_of}
+use Rattle.babel_sources.specs.Sources.{Sources, pair_of}
 use Rattle.babel_route.specs.Routes.{Route, RouteEntries}
 use Rattle.babel_table.specs.Firsts.{first_of, IsFirstOf}
 

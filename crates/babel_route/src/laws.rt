@@ -1,13 +1,6 @@
-//! Laws of the tables, each the contract of a function that does nothing.
+//! Laws of the route table, each the contract of a function that does nothing.
 
-ghost use Rattle.babel_route.specs.SourceLaws.{LowersOneSource, CollectsWhatIsDue, CollectsNothingEarly};
 ghost use Rattle.babel_route.specs.RouteLaws.{UpdatesOneRoute, RetractsOneRoute, ChangesEachRoute, ExpiresNothingEarly, ChoosesTheFirst, ChoosesACandidate, ReselectsOnePrefix, AreAllCurrent, KeepsWhatIsCurrent};
-
-/// The pair of each source after a call of `lower`, and after a collection.
-pub fn pairs_of_sources()
-    ensures lowers { LowersOneSource }
-    ensures collects { CollectsWhatIsDue }
-{}
 
 /// Each route after updates, retractions, flushes and expiry.
 pub fn routes_by_their_keys()
@@ -30,8 +23,7 @@ pub fn selections_are_current()
     ensures settled { KeepsWhatIsCurrent }
 {}
 
-/// As long as nothing is due, collections and the expiry of deadlines change nothing.
-pub fn nothing_changes_early()
-    ensures collections { CollectsNothingEarly }
-    ensures expiries { ExpiresNothingEarly }
+/// As long as no deadline is due, the expiry of deadlines changes nothing.
+pub fn nothing_expires_early()
+    ensures { ExpiresNothingEarly }
 {}

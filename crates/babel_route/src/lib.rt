@@ -1,27 +1,20 @@
-//! The source table and the route table of a Babel speaker (RFC 8966, sections 3.2.5 and 3.2.6), with
-//! route selection (section 3.6).
+//! The route table of a Babel speaker (RFC 8966, section 3.2.6), with route selection (section 3.6).
 //!
-//! - `sources`: the source table, which holds the feasibility distances.
 //! - `routes`: the route table with its selections.
-//! - `near`: searches that begin where the last one ended.
+//! - `cursor`: where in the tables the last reselection was.
 //! - `laws`: laws of the definitions.
 //!
-//! Both tables are over those of `babel_table`, whose items are passed on. A table takes its whole
-//! room when it is made. Afterwards no call takes memory.
+//! The route table is over tables of `babel_table`, and takes its whole room when it is made. Afterwards no call
+//! takes memory. The source table is that of `babel_sources`.
 #![tactic(auto)]
 
+mod cursor;
 pub mod laws;
-mod near;
 mod routes;
-mod sources;
 
-pub use babel_table::{
-    Full, Key, Memory, PlainTable, Revised, Revision, SortedTable, Sought, Steps, Table, find_in,
-};
-pub use near::Cursor;
+pub use cursor::Cursor;
 pub use routes::{
     AllRoutes, AllSelections, Costs, Entry, PREFIX_PLACES, PrefixList, PrefixListOver,
     PrefixRoutes, PrefixWalk, ROUTE_PLACES, RouteKey, RouteTable, Routes, RoutesOver, Selection,
     SelectionTable,
 };
-pub use sources::{COLLECTION_TIME, SOURCE_PLACES, SourceEntry, SourceTable, Sources, SourcesOver};

@@ -21,9 +21,11 @@ mod revisions;
 mod room;
 mod walks;
 
-use crate::near::{find_near, set_near};
-use crate::{Cursor, SourceEntry, SourcesOver};
-use babel_table::{Full, Memory, SortedTable, Table, find_in, least_due, places_below, set};
+use crate::Cursor;
+use babel_sources::{SourceEntry, SourcesOver};
+use babel_table::{
+    Full, Memory, SortedTable, Table, find_in, find_near, least_due, places_below, set, set_near,
+};
 use babel_value::{Addr, Distance, Peer, Prefix, RouterId, Source, hold_time};
 use bounds::Through;
 pub use choices::Costs;

@@ -3,7 +3,7 @@ use Rattle.std.specs.Prelude.{ℕ, [], ◌∷◌}
 use Rattle.babel_value.specs.declared.addresses.Addr.TheVariants.{V4}
 use Rattle.babel_value.specs.declared.keys.Source.{Source}
 use Rattle.babel_value.specs.declared.distances.Distance.{Distance}
-use Rattle.babel_route.specs.Sources.{Sources, lowered}
+use Rattle.babel_sources.specs.Sources.{Sources, lowered}
 
 abbrev pub pair : ℕ → ℕ → Distance
 pair seqno metric = record { seqno = seqno; metric = metric }

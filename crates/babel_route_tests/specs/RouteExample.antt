@@ -7,7 +7,7 @@ use Rattle.babel_value.specs.declared.keys.Peer.{Peer}
 use Rattle.babel_value.specs.Prefixes.{PrefixValue}
 use Rattle.babel_route.specs.declared.routes.entries.Entry.{Entry}
 use Rattle.babel_route_tests.specs.Example.{pair, one_sent}
-use Rattle.babel_route.specs.Sources.{Sources}
+use Rattle.babel_sources.specs.Sources.{Sources}
 use Rattle.babel_route.specs.Routes.{Route, key_of, updated, forgotten}
 use Rattle.babel_route.specs.Selections.{RoutesValue, selection_at, reselected}
 

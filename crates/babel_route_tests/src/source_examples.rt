@@ -2,10 +2,10 @@
 //! function that does nothing.
 
 ghost use Rattle.std.specs.Prelude.{◌≡◌, true, false, Some, None, [], ◌∷◌, length};
-ghost use Rattle.babel_route.specs.Distances.{is_feasible};
+ghost use Rattle.babel_sources.specs.Distances.{is_feasible};
 ghost use Rattle.babel_table.specs.Entries.{lesser_keys};
 ghost use Rattle.babel_route_tests.specs.Example.{pair, source, one_sent, sent_again, two_sent, wrapped};
-ghost use Rattle.babel_route.specs.Sources.{collected, pair_of};
+ghost use Rattle.babel_sources.specs.Sources.{collected, pair_of};
 ghost use Rattle.babel_value.specs.Orders.{source_cmp};
 
 /// An older, an equal and a worse pair, a sequence number that went round, and one 32,769 ahead.

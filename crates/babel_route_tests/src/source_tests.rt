@@ -1,11 +1,13 @@
 //! The better of two pairs is kept, and tables whose allocation fails.
 
 ghost use Rattle.std.specs.Prelude.{◌≡◌, ◌<◌};
-ghost use Rattle.babel_route.specs.Sources.{pair_of};
+ghost use Rattle.babel_sources.specs.Sources.{pair_of};
 
 use crate::source_of::{pair, source};
-use babel_route::{Memory, Routes, Sources, Steps};
-use babel_value::{Distance, Source};
+use babel_route::Routes;
+use babel_sources::Sources;
+use babel_table::Steps;
+use babel_value::{Distance, Memory, Source};
 use std::marker::Brand;
 use std::sync::ledger::{Blank, Ledger};
 use std::test::Fail;

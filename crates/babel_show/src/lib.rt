@@ -9,7 +9,7 @@ mod one;
 mod reporting;
 mod status;
 
-pub use many::{LineOptions, show_lines};
+pub use many::{LineOptions, READ_LEN, show_lines};
 pub use one::show;
 pub use reporting::report;
 pub use status::Status;

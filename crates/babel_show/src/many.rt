@@ -8,8 +8,8 @@ use babel_value::Addr;
 use std::alloc::Global;
 use std::io::{BufRead, BufReader, Read, Write};
 
-/// How many octets are read at a time.
-const READ_LEN: usize = 65_536;
+/// How many octets a command reads at a time.
+pub const READ_LEN: usize = 65_536;
 
 /// How `show_lines` reads and writes.
 #[derive(Clone, Copy, Debug)]

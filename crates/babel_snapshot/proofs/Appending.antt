@@ -6,7 +6,7 @@ use Rattle.std.proofs.lemmas.List.Elements.{All-nil, All-cons, All-append}
 use Rattle.std.proofs.lemmas.Option.{none-some, same_Some, slice_get-map}
 use Rattle.babel_value.specs.declared.distances.Distance.{Distance}
 use Rattle.babel_value.specs.declared.keys.Source.{Source}
-use Rattle.babel_route.specs.Sources.{Sources}
+use Rattle.babel_sources.specs.Sources.{Sources}
 use Rattle.babel_state.specs.Restarts.{kept_source}
 use Rattle.babel_snapshot.specs.Octets.{record_octets, records_octets}
 use Rattle.babel_snapshot.specs.SnapshotLaws.{IsRecord}

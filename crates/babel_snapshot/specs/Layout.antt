@@ -10,7 +10,7 @@
 --
 -- The first 26 octets of a record name the source. They rise from record to record.
 use Rattle.std.specs.Prelude.{ℕ, ◌+◌, ◌*◌, List, [], ◌∷◌}
-use Rattle.babel_route.specs.Rooms.{most_sources}
+use Rattle.babel_sources.specs.Rooms.{most_sources}
 
 -- ---- the head
 

@@ -14,7 +14,6 @@ mod reading;
 mod records;
 mod writing;
 
-pub use laws::{octets_are_exact, written_is_read};
 pub use layout::{HEAD_LEN, MAX_RECORDS, RECORD_LEN};
 pub use reading::SavedState;
 pub use writing::save;

@@ -10,8 +10,8 @@ ghost use Rattle.babel_snapshot.specs.SnapshotLaws.{addr_len, wanted_len, IsSour
 
 use crate::layout::source_record::{IPV4, IPV6};
 use crate::layout::{BEGINNING, HEAD_LEN, RECORD_LEN, ZEROS};
-use babel_route::{Memory, Sources};
-use babel_value::{Addr, Distance, RouterId, Seqno, Source};
+use babel_sources::Sources;
+use babel_value::{Addr, Distance, Memory, RouterId, Seqno, Source};
 use byteorder::{BigEndian, ByteOrder};
 use std::alloc::{AllocError, Global};
 

@@ -3,7 +3,7 @@
 #![tactic(auto)]
 
 mod decoded;
-mod laws;
+pub mod laws;
 mod messages;
 mod receiving;
 mod sending;
@@ -13,8 +13,7 @@ mod speaker;
 pub use babel_core::Core;
 pub use babel_parts::{
     Announced, Interfaces, LinkChange, LinkCosts, PendingItems, Prefixes, Reachable, RequestTable,
-    Scratch, limits_are_those_of_the_code,
+    Scratch,
 };
-pub use laws::{datagrams_take_items, first_messages_fit};
 pub use settled::SettledCore;
 pub use speaker::Speaker;

@@ -18,7 +18,8 @@ use babel_build::Builder;
 use babel_core::Core;
 use babel_packet::Message;
 use babel_route::Cursor;
-use babel_state::{Item, Outgoing, Target, items_mean_messages};
+use babel_state::laws::items_mean_messages;
+use babel_state::{Item, Outgoing, Target};
 use babel_tlv::DATAGRAM_LEN;
 use babel_value::Addr;
 

@@ -31,15 +31,17 @@ use crate::decoded::decoded_are_encodable;
 use arrayvec::ArrayVec;
 use babel_packet::Placed;
 use babel_parts::Scratch;
-use babel_route::{Entry, Memory, Selection};
+use babel_route::{Entry, Selection};
+use babel_state::laws::{
+    calls_move, datagrams_send, items_mean_messages, restarts_are_seen, selected_routes_are_good,
+    selections_are_current, selections_stay_current, states_are_well_formed,
+};
 use babel_state::{
     Config, ConfigFault, NotAnnounced, Note, RecvFault, RestoreFault, Selected, SetCostFault,
-    Target, TooManyPrefixes, calls_move, datagrams_send, items_mean_messages, restarts_are_seen,
-    selected_routes_are_good, selections_are_current, selections_stay_current,
-    states_are_well_formed,
+    Target, TooManyPrefixes,
 };
 use babel_tlv::DATAGRAM_LEN;
-use babel_value::{Addr, Distance, Metric, Peer, Prefix, Source};
+use babel_value::{Addr, Distance, Memory, Metric, Peer, Prefix, Source};
 use std::alloc::Global;
 use std::marker::Model;
 

@@ -19,7 +19,7 @@ use Rattle.babel_packet.specs.declared.messages.Message.TheVariants as messages
 use Rattle.babel_route.specs.declared.routes.entries.Entry.{Entry}
 use Rattle.babel_route.specs.declared.routes.entries.Selection.{Selection}
 use Rattle.babel_route.specs.declared.routes.entries.RouteKey.{RouteKey}
-use Rattle.babel_route.specs.Distances.{is_feasible}
+use Rattle.babel_sources.specs.Distances.{is_feasible}
 use Rattle.babel_table.specs.Entries.{revised_entries}
 use Rattle.babel_route.specs.RouteKeys.{route_cmp, route_total, route_exact}
 use Rattle.babel_route.specs.Routes.{RouteEntries, key_of, is_from, entry_of_update, updated, retracted_entry, retracted, retracted_from, retracted_all, has_routes_from, kept_without, forgotten, expired_entry, expired}
@@ -36,7 +36,7 @@ use Rattle.babel_state.specs.Updates.{store, advertise_if_selected, satisfy_requ
 use Rattle.babel_state.specs.SeqnoRequests.{raised, outcomes, requested_of_own, forward, requested_of_route, receiver, handle_seqno_request}
 use Rattle.babel_state.specs.Messages.{handle_from_neighbour, handle_message}
 use Rattle.babel_state.specs.Seen.{UpdateValue, update_of, HeardValue, heard_if_finite, IsHeardFrom}
-use Rattle.babel_route.specs.Sources.{collected}
+use Rattle.babel_sources.specs.Sources.{collected}
 use Rattle.babel_state.specs.Ticks.{forget_each, links_ticked, routes_ticked, requests_ticked, interfaces_ticked, sources_ticked, routes_selected, ticked}
 use Rattle.babel_state.specs.SeenLaws.{MessagesAreHeard, TicksHearNothing}
 use Rattle.babel_state.specs.StepLaws.{kept_of, base_of}

@@ -13,7 +13,7 @@ use Rattle.babel_packet.specs.declared.messages.Message.{Message}
 use Rattle.babel_packet.specs.declared.messages.Message.TheVariants as messages
 use Rattle.babel_route.specs.declared.routes.entries.Selection.{Selection}
 use Rattle.babel_route.specs.Selections.{RoutesValue}
-use Rattle.babel_route.specs.Sources.{collected}
+use Rattle.babel_sources.specs.Sources.{collected}
 use Rattle.babel_state.specs.declared.interfaces.InterfaceEntry.{InterfaceEntry}
 use Rattle.babel_state.specs.declared.items.Item.{Item}
 use Rattle.babel_state.specs.declared.requests.Resend.{Resend}

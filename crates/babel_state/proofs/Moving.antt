@@ -23,7 +23,7 @@ use Rattle.babel_packet.specs.declared.placements.Placed.{Placed}
 use Rattle.babel_packet.specs.Encodable.{is_encodable}
 use Rattle.babel_packet.specs.Meaning.{content_messages, messages_of}
 use Rattle.babel_table.specs.Entries.{without}
-use Rattle.babel_route.specs.Sources.{pair_of, collected}
+use Rattle.babel_sources.specs.Sources.{pair_of, collected}
 use Rattle.babel_table.proofs.LookupLemmas.{equal, find_with_value}
 use Rattle.babel_state.specs.declared.interfaces.InterfaceEntry.{InterfaceEntry}
 use Rattle.babel_state.specs.Queueing.{counted}

@@ -12,7 +12,7 @@ use Rattle.std.proofs.lemmas.Option.{none-some}
 use Rattle.babel_value.specs.declared.keys.Source.{Source}
 use Rattle.babel_value.specs.Orders.{source_cmp}
 use Rattle.babel_route.specs.Selections.{IsCurrent}
-use Rattle.babel_route.specs.Sources.{Sources, pair_of}
+use Rattle.babel_sources.specs.Sources.{Sources, pair_of}
 use Rattle.babel_state.specs.declared.configs.Config.{Config}
 use Rattle.babel_state.specs.Calls.{first_state, selected_route}
 use Rattle.babel_state.specs.Configs.{config_fault}

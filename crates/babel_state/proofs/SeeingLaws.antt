@@ -10,7 +10,7 @@ use Rattle.babel_value.specs.Metrics.{metric_sum}
 use Rattle.babel_value.specs.Prefixes.{PrefixValue}
 use Rattle.babel_route.specs.declared.routes.entries.Entry.{Entry}
 use Rattle.babel_route.specs.declared.routes.entries.Selection.{Selection}
-use Rattle.babel_route.specs.Distances.{is_feasible}
+use Rattle.babel_sources.specs.Distances.{is_feasible}
 use Rattle.babel_route.specs.Routes.{key_of}
 use Rattle.babel_route.specs.Selections.{is_candidate, is_feasible_route, route_metric}
 use Rattle.babel_state.specs.declared.selected.Selected.{Selected}

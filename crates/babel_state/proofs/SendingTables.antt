@@ -22,11 +22,11 @@ use Rattle.babel_value.specs.Prefixes.{PrefixValue}
 use Rattle.babel_packet.specs.declared.messages.Message.{Message}
 use Rattle.babel_packet.specs.declared.messages.Message.TheVariants as messages
 use Rattle.babel_route.specs.declared.routes.entries.Selection.{Selection}
-use Rattle.babel_route.specs.declared.sources.SourceEntry.{SourceEntry}
-use Rattle.babel_route.specs.Distances.{is_feasible, better_pair}
+use Rattle.babel_sources.specs.declared.sources.SourceEntry.{SourceEntry}
+use Rattle.babel_sources.specs.Distances.{is_feasible, better_pair}
 use Rattle.babel_route.specs.Routes.{Route, key_of}
 use Rattle.babel_route.specs.Selections.{is_candidate, is_feasible_route, route_metric}
-use Rattle.babel_route.specs.Sources.{pair_of, source_entry_after, lowered}
+use Rattle.babel_sources.specs.Sources.{pair_of, source_entry_after, lowered}
 use Rattle.babel_state.specs.declared.interfaces.InterfaceEntry.{InterfaceEntry}
 use Rattle.babel_state.specs.declared.items.Item.{Item}
 use Rattle.babel_state.specs.declared.items.Item.TheVariants as items

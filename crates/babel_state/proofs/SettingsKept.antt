@@ -5,7 +5,7 @@ use Rattle.std.specs.FinMap.{put}
 use Rattle.std.proofs.Common.{refl, sym, ap, ◌∙◌, inl, inr}
 use Rattle.std.proofs.lemmas.Option.{slice_get-map}
 use Rattle.babel_value.specs.Orders.{prefix_cmp}
-use Rattle.babel_route.specs.Sources.{collected}
+use Rattle.babel_sources.specs.Sources.{collected}
 use Rattle.babel_state.specs.declared.interfaces.InterfaceEntry.{InterfaceEntry}
 use Rattle.babel_state.specs.Calls.{cost_set, announced_also, withdrawn, select_and_advertise}
 use Rattle.babel_state.specs.Messages.{handle_message}

@@ -24,7 +24,7 @@ use Rattle.babel_route.specs.declared.routes.entries.Selection.{Selection}
 use Rattle.babel_route.specs.RouteKeys.{route_cmp, route_total}
 use Rattle.babel_route.specs.Routes.{Route, RouteEntries, key_of}
 use Rattle.babel_route.specs.Selections.{is_of, routes_of, is_candidate, is_feasible_route, route_metric, preference, is_change, selection_of, choice, IsCurrent}
-use Rattle.babel_route.specs.Sources.{Sources}
+use Rattle.babel_sources.specs.Sources.{Sources}
 use Rattle.babel_route.proofs.CurrentLemmas.{preference_total}
 use Rattle.babel_state.specs.State.{State, announces, cost_at, selected_at}
 use Rattle.babel_state.specs.CurrentSelections.{IsCurrentAt, AreRoutesInOrder, becomes_feasible, has_revived_route}

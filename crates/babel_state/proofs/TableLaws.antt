@@ -24,12 +24,12 @@ use Rattle.babel_packet.specs.declared.messages.Message.TheVariants as messages
 use Rattle.babel_packet.specs.Encodable.{is_encodable}
 use Rattle.babel_route.specs.declared.routes.entries.Entry.{Entry}
 use Rattle.babel_route.specs.declared.routes.entries.Selection.{Selection}
-use Rattle.babel_route.specs.Distances.{is_feasible}
+use Rattle.babel_sources.specs.Distances.{is_feasible}
 use Rattle.babel_table.specs.Entries.{without, with_value}
 use Rattle.babel_route.specs.RouteKeys.{route_cmp, route_total}
 use Rattle.babel_route.specs.Routes.{RouteEntries, key_of, updated, retracted, retracted_all, retracted_entry, forgotten, entry_of_update, kept_without, retracted_from}
 use Rattle.babel_route.specs.Selections.{RoutesValue, reselected, choice_at}
-use Rattle.babel_route.specs.Sources.{Sources}
+use Rattle.babel_sources.specs.Sources.{Sources}
 use Rattle.babel_state.specs.declared.interfaces.InterfaceEntry.{InterfaceEntry}
 use Rattle.babel_state.specs.declared.items.Item.{Item}
 use Rattle.babel_state.specs.declared.items.Item.TheVariants as items

@@ -12,11 +12,11 @@ use Rattle.babel_link.specs.Neighbours.{max_neighbours, Links}
 use Rattle.babel_packet.specs.declared.messages.Message.{Message}
 use Rattle.babel_packet.specs.Encodable.{is_encodable}
 use Rattle.babel_route.specs.declared.routes.entries.Selection.{Selection}
-use Rattle.babel_route.specs.declared.sources.SourceEntry.{SourceEntry}
+use Rattle.babel_sources.specs.declared.sources.SourceEntry.{SourceEntry}
 use Rattle.babel_route.specs.RouteKeys.{route_cmp}
 use Rattle.babel_route.specs.Selections.{RoutesValue}
-use Rattle.babel_route.specs.Sources.{Sources}
-use Rattle.babel_route.specs.Rooms.{most_sources}
+use Rattle.babel_sources.specs.Sources.{Sources}
+use Rattle.babel_sources.specs.Rooms.{most_sources}
 use Rattle.babel_state.specs.declared.configs.Config.{Config}
 use Rattle.babel_state.specs.declared.interfaces.InterfaceEntry.{InterfaceEntry}
 use Rattle.babel_state.specs.declared.items.Item.{Item}

@@ -13,8 +13,8 @@ use Rattle.babel_packet.specs.declared.messages.Message.TheVariants as messages
 use Rattle.babel_route.specs.declared.routes.entries.Selection.{Selection}
 use Rattle.babel_route.specs.Routes.{key_of}
 use Rattle.babel_route.specs.Selections.{route_metric}
-use Rattle.babel_route.specs.Sources.{Sources}
-use Rattle.babel_route.specs.Rooms.{most_sources}
+use Rattle.babel_sources.specs.Sources.{Sources}
+use Rattle.babel_sources.specs.Rooms.{most_sources}
 use Rattle.babel_state.specs.declared.interfaces.InterfaceEntry.{InterfaceEntry}
 use Rattle.babel_state.specs.declared.items.Item.{Item}
 use Rattle.babel_state.specs.declared.items.Item.TheVariants as items

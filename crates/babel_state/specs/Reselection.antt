@@ -10,7 +10,7 @@ use Rattle.babel_value.specs.Seqnos.{next_seqno}
 use Rattle.babel_route.specs.declared.routes.entries.Selection.{Selection}
 use Rattle.babel_route.specs.Routes.{Route}
 use Rattle.babel_route.specs.Selections.{routes_of, is_feasible_route, reselected}
-use Rattle.babel_route.specs.Sources.{Sources}
+use Rattle.babel_sources.specs.Sources.{Sources}
 use Rattle.babel_state.specs.declared.items.Item.{Item}
 use Rattle.babel_state.specs.declared.items.Item.TheVariants as items
 use Rattle.babel_state.specs.declared.requests.Resend.{Resend}

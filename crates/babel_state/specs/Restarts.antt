@@ -11,9 +11,9 @@ use Rattle.babel_value.specs.Orders.{source_cmp}
 use Rattle.babel_value.specs.Prefixes.{PrefixValue}
 use Rattle.babel_value.specs.Metrics.{infinity}
 use Rattle.babel_value.specs.Seqnos.{seqno_modulus}
-use Rattle.babel_route.specs.declared.sources.SourceEntry.{SourceEntry}
-use Rattle.babel_route.specs.Sources.{Sources}
-use Rattle.babel_route.specs.Rooms.{most_sources, collection_time}
+use Rattle.babel_sources.specs.declared.sources.SourceEntry.{SourceEntry}
+use Rattle.babel_sources.specs.Sources.{Sources}
+use Rattle.babel_sources.specs.Rooms.{most_sources, collection_time}
 use Rattle.babel_state.specs.declared.configs.Config.{Config}
 use Rattle.babel_state.specs.Addresses.{address_of, transport_of}
 use Rattle.babel_state.specs.Calls.{new_interface, first_state}

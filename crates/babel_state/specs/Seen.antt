@@ -14,7 +14,7 @@ use Rattle.babel_value.specs.Seqnos.{seqno_modulus}
 use Rattle.babel_packet.specs.declared.messages.Message.{Message}
 use Rattle.babel_packet.specs.declared.messages.Message.TheVariants as messages
 use Rattle.babel_route.specs.declared.routes.entries.Entry.{Entry}
-use Rattle.babel_route.specs.Distances.{is_feasible, better_pair}
+use Rattle.babel_sources.specs.Distances.{is_feasible, better_pair}
 use Rattle.babel_state.specs.declared.configs.Config.{Config}
 use Rattle.babel_state.specs.declared.selected.Selected.{Selected}
 use Rattle.babel_state.specs.Sameness.{is_same_prefix, has_prefix}

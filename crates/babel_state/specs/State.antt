@@ -13,7 +13,7 @@ use Rattle.babel_route.specs.declared.routes.entries.Selection.{Selection}
 use Rattle.babel_route.specs.RouteKeys.{route_cmp}
 use Rattle.babel_route.specs.Routes.{RouteEntries, key_of}
 use Rattle.babel_route.specs.Selections.{RoutesValue, selection_at, prefixes_of}
-use Rattle.babel_route.specs.Sources.{Sources, pair_of}
+use Rattle.babel_sources.specs.Sources.{Sources, pair_of}
 use Rattle.babel_state.specs.declared.interfaces.InterfaceEntry.{InterfaceEntry}
 use Rattle.babel_state.specs.Queueing.{Pending}
 use Rattle.babel_state.specs.PendingRequests.{PendingRequests}

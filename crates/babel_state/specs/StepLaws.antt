@@ -8,7 +8,7 @@ use Rattle.babel_value.specs.Seqnos.{next_seqno}
 use Rattle.babel_packet.specs.declared.messages.Message.{Message}
 use Rattle.babel_link.specs.Neighbours.{Links}
 use Rattle.babel_route.specs.Selections.{RoutesValue}
-use Rattle.babel_route.specs.Sources.{Sources}
+use Rattle.babel_sources.specs.Sources.{Sources}
 use Rattle.babel_state.specs.declared.interfaces.InterfaceEntry.{InterfaceEntry}
 use Rattle.babel_state.specs.Queueing.{counted}
 use Rattle.babel_state.specs.PendingRequests.{PendingRequests}

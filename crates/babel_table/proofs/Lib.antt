@@ -4,5 +4,6 @@ pub mod DueLemmas
 pub mod FirstLemmas
 pub mod InsertionLemmas
 pub mod LookupLemmas
+pub mod NearLemmas
 pub mod PlaceLemmas
 pub mod RevisionLemmas

@@ -5,6 +5,7 @@
 //! - `table`: the trait `Table`, and calls over any table.
 //! - `sorted`, `plain`: the two tables.
 //! - `revisions`, `bounds`, `dues`: walks over any table.
+//! - `near`: searches that begin where the last one ended.
 //! - `laws`: laws of the definitions.
 //!
 //! A table takes its whole room when it is made. Afterwards no call takes memory.
@@ -15,6 +16,7 @@ mod dues;
 mod errors;
 mod keys;
 pub mod laws;
+mod near;
 mod plain;
 mod revisions;
 mod sorted;
@@ -26,6 +28,7 @@ pub use bounds::{Bound, places_below};
 pub use dues::{Due, least_due};
 pub use errors::Full;
 pub use keys::{Key, Sought};
+pub use near::{find_near, places_below_near, set_near};
 pub use plain::PlainTable;
 pub use revisions::{Change, Revised, Revision};
 pub use sorted::SortedTable;

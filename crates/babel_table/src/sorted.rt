@@ -5,15 +5,13 @@ ghost use Rattle.std.specs.FinMap.{find, put, is_sorted};
 ghost use Rattle.babel_table.specs.Digits.{binary_digits};
 ghost use Rattle.babel_table.specs.Places.{IsAt, IsGap, are_lesser};
 
+use crate::near::FAR;
 use crate::revisions::compact;
 use crate::{Change, Full, Key, Memory, Revision, Sought, Steps, Table};
 use std::alloc::Global;
 use std::cmp::Ordering;
 use std::marker::Brand;
 use std::sync::ledger::{Blank, Ledger};
-
-/// How many entries a walk passes before it gives up and searches.
-const FAR: usize = 8;
 
 /// A table kept in the order of its keys. A look-up is a binary search.
 #[derive(Drop)]

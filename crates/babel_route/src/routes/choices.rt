@@ -12,9 +12,9 @@ ghost use Rattle.babel_route.specs.Selections.{routes_of, has_entry, choice, pee
 
 use super::bounds::Before;
 use super::walks::is_of;
-use crate::near::places_below_near;
-use crate::{Cursor, Entry, RouteKey, Selection, SourceEntry, SourcesOver};
-use babel_table::Table;
+use crate::{Cursor, Entry, RouteKey, Selection};
+use babel_sources::{SourceEntry, SourcesOver};
+use babel_table::{Table, places_below_near};
 use babel_value::{Metric, Peer, Prefix, Source};
 
 /// The costs of the links to the neighbours now (RFC 8966, section 3.4.3).

@@ -8,9 +8,9 @@ ghost use Rattle.babel_route.specs.Currency.{is_same_distance, is_same_entry, is
 
 use super::RoutesOver;
 use super::choices::{Costs, choose};
-use crate::near::{find_near, set_near};
-use crate::{Cursor, Entry, RouteKey, Selection, SourceEntry, SourcesOver};
-use babel_table::Table;
+use crate::{Cursor, Entry, RouteKey, Selection};
+use babel_sources::{SourceEntry, SourcesOver};
+use babel_table::{Table, find_near, set_near};
 use babel_value::{Distance, Prefix, Source};
 
 impl<E: Table<RouteKey, Entry>, S: Table<Prefix, Selection>> RoutesOver<E, S> {

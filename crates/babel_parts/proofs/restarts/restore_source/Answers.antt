@@ -1,6 +1,6 @@
 -- One more source is restored.
 use Rattle.std.proofs.Common.{sym, ap, ◌∙◌}
-use Rattle.babel_route.specs.Sources.{lowered}
+use Rattle.babel_sources.specs.Sources.{lowered}
 use Rattle.babel_parts.proofs.Restoring.{next_source, none_within}
 use Rattle.babel_parts.proofs.restarts.restore_source.Goals as goal
 

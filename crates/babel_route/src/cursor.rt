@@ -1,0 +1,22 @@
+//! Where the last reselection was.
+
+/// Where in the tables the last reselection was. It only matters for speed: prefixes that rise are
+/// reselected in one walk over the entries, the selections and the sources.
+#[derive(Drop)]
+pub struct Cursor {
+    pub(crate) entry: usize,
+    pub(crate) selection: usize,
+    /// The index in the source table, near which its searches begin.
+    pub source: usize,
+}
+
+impl Cursor {
+    /// A cursor that is nowhere yet.
+    pub fn new() -> Cursor {
+        Cursor {
+            entry: usize::MAX,
+            selection: usize::MAX,
+            source: usize::MAX,
+        }
+    }
+}

@@ -1,0 +1,4 @@
+pub mod Rooms
+pub mod Distances
+pub mod Sources
+pub mod SourceLaws
