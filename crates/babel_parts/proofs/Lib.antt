@@ -6,5 +6,6 @@ pub mod ShortHellos
 pub mod TickLists
 pub mod FirstStates
 pub mod RequestDues
+pub mod Removing
 pub mod Restoring
 pub mod Staleness

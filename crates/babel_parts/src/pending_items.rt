@@ -1,6 +1,6 @@
 //! The items that wait to be sent, the oldest first.
 
-ghost use Rattle.std.specs.Prelude.{◌≡◌, ◌≤◌, [], ◌∷◌, drop, length, slice_get, IfOk};
+ghost use Rattle.std.specs.Prelude.{◌≡◌, ◌≤◌, ◌<◌, ◌⊎◌, [], ◌∷◌, drop, length, slice_get, IfOk};
 ghost use Rattle.babel_state.specs.Queueing.{queued};
 
 use babel_state::{Item, MAX_PENDING};
@@ -9,22 +9,27 @@ use std::alloc::{AllocError, Global};
 use std::marker::Model;
 
 /// The pending items, at most 4,096, and how many were dropped since there was no room.
+///
+/// An item that is removed stays at its place until all are, or until the place is needed. So the first places are
+/// used again and again, and the others are touched only if that many items wait.
 #[derive(Drop)]
 pub struct PendingItems {
     items: HeapCircularBuffer<Item>,
+    /// How many of the oldest were removed.
+    removed: usize,
     dropped: u64,
 }
 
 impl Model for PendingItems {
-    ghost use Rattle.std.specs.Prelude.{◌≡◌};
+    ghost use Rattle.std.specs.Prelude.{◌≡◌, ◌≤◌, drop, length};
     ghost use Rattle.babel_state.specs.Queueing.{Pending};
     ghost use Rattle.babel_state.specs.Limits.{most_pending};
 
     ghost Value = { Pending };
 
-    ghost view = { λ p. record { items = p.items.items; dropped = p.dropped } };
+    ghost view = { λ p. record { items = drop p.removed p.items.items; dropped = p.dropped } };
 
-    ghost invariant = { λ p. p.items.capacity ≡ most_pending };
+    ghost invariant = { λ p. (p.items.capacity ≡ most_pending) × (p.removed ≤ length p.items.items) };
 }
 
 impl PendingItems {
@@ -33,7 +38,11 @@ impl PendingItems {
         ensures { IfOk result (λ pending. pending ≡ record { items = []; dropped = 0 }) }
     {
         let items = HeapCircularBuffer::with_capacity(alloc, MAX_PENDING)?;
-        Ok(PendingItems { items, dropped: 0 })
+        Ok(PendingItems {
+            items,
+            removed: 0,
+            dropped: 0,
+        })
     }
 
     /// Queues an item. If 4,096 are pending, the oldest one is dropped and counted.
@@ -41,6 +50,7 @@ impl PendingItems {
     pub fn push(&mut self, item: Item)
         ensures { self.new ≡ queued (item ∷ []) self.old }
     {
+        make_room(&mut self.items, &mut self.removed);
         let cut = u64::from(self.items.len() == MAX_PENDING);
         self.items.push_back(item);
         self.dropped = self.dropped.saturating_add(cut);
@@ -50,14 +60,20 @@ impl PendingItems {
     pub fn front(&self) -> Option<Item>
         ensures { result ≡ slice_get self.now.items 0 }
     {
-        self.items.front().copied()
+        self.items.get(self.removed).copied()
     }
 
     /// Removes the oldest item, if there is one.
     pub fn pop(&mut self)
         ensures { self.new ≡ record self.old { items = drop 1 self.old.items } }
     {
-        self.items.pop_front();
+        let left = self.items.len() - self.removed;
+        if left > 1 {
+            self.removed += 1;
+        } else {
+            self.items.clear();
+            self.removed = 0;
+        }
     }
 
     /// How many items are pending.
@@ -65,7 +81,7 @@ impl PendingItems {
         ensures len { result ≡ length self.now.items }
         ensures within { result ≤ MAX_PENDING }
     {
-        self.items.len()
+        self.items.len() - self.removed
     }
 
     /// How many items were dropped since there was no room.
@@ -74,4 +90,20 @@ impl PendingItems {
     {
         self.dropped
     }
+}
+
+/// Takes the places of the items that were removed, if there is no other.
+fn make_room(items: &mut HeapCircularBuffer<Item>, removed: &mut usize)
+    requires within { removed.old ≤ length items.old.items }
+    ensures items { drop removed.new items.new.items ≡ drop removed.old items.old.items }
+    ensures capacity { items.new.capacity ≡ items.old.capacity }
+    ensures within { removed.new ≤ length items.new.items }
+    ensures room { (removed.new ≡ 0) ⊎ (length items.new.items < items.new.capacity) }
+{
+    if items.len() < items.capacity() {
+        return;
+    }
+    let left = items.len() - *removed;
+    items.truncate_front(left);
+    *removed = 0;
 }
