@@ -3,13 +3,14 @@ use Rattle.std.proofs.Common.{◌≡◌, ℕ, ◌+◌, Bool, true, false, List, 
 use Rattle.std.specs.Prelude.{◌||◌}
 use Rattle.std.specs.List.{list_any}
 use Rattle.babel_table.specs.Entries.{revised_entries}
+use Rattle.babel_value.specs.Prefixes.{PrefixValue}
 use Rattle.babel_state.specs.PendingRequests.{PendingRequests}
 use Rattle.babel_state.specs.declared.interfaces.InterfaceEntry.{InterfaceEntry}
 use Rattle.babel_state.specs.declared.items.Item.{Item}
 use Rattle.babel_state.specs.Queueing.{queued}
 use Rattle.babel_state.specs.State.{State}
 use Rattle.babel_state.specs.Ticks.{is_due_request, waited, repeated_items, all_repeated_items, requests_ticked, is_due, fired, timer_items, all_timer_items, interfaces_ticked}
-use Rattle.babel_parts.specs.TickItems.{has_due_timer}
+use Rattle.babel_parts.specs.TickItems.{has_due_timer, has_due_update, timers_of, all_timers_of}
 
 neither : (a b : Bool) → (a || b) ≡ false → (a ≡ false) × (b ≡ false)
 neither true b none = cc
@@ -47,6 +48,17 @@ module _ (now : ℕ) where
   pub nothing_due : (s : State) → list_any (has_due_timer now) s.interfaces ≡ false → interfaces_ticked now s ≡ s
   unfolding interfaces_ticked
   nothing_due s none = queues_nothing (all_timer_items now s 0 s.interfaces) (map (fired now) s.interfaces) s (no_items_of_all s 0 s.interfaces none) (all_same s.interfaces none)
+
+-- ---- no update of each prefix
+
+-- What the timers ask for without the list of the prefixes.
+module _ (now : ℕ) (s : State) (prefixes : List PrefixValue) where
+  pub no_updates : (iface : ℕ) (is : List InterfaceEntry) → list_any (has_due_update now) is ≡ false → all_timers_of now s.neighbours prefixes iface is ≡ all_timer_items now s iface is
+  no_updates iface [] none = refl
+  no_updates iface (i ∷ is) none =
+      let parts = neither (has_due_update now i) (list_any (has_due_update now) is) none in
+      let here : timers_of now s.neighbours prefixes iface i ≡ timer_items now s iface i = rw (parts.0) refl in
+      ap (λ ys. ys ++ all_timers_of now s.neighbours prefixes (iface + 1) is) here ∙ ap (λ ys. timer_items now s iface i ++ ys) (no_updates (iface + 1) is parts.1)
 
 -- ---- no request whose wait is over
 

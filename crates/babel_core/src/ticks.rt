@@ -3,7 +3,9 @@
 ghost use Rattle.std.specs.Prelude.{◌≡◌, IsTrue, IsFalse};
 ghost use Rattle.babel_state.specs.Hellos.{forget_neighbour};
 ghost use Rattle.babel_state.specs.CurrentSelections.{AreCurrent};
-ghost use Rattle.babel_state.specs.Ticks.{routes_selected, forget_each, links_ticked, routes_ticked, requests_ticked, interfaces_ticked, sources_ticked, ticked};
+ghost use Rattle.babel_parts.specs.TickItems.{all_timers_of};
+ghost use Rattle.babel_state.specs.State.{prefixes_in};
+ghost use Rattle.babel_state.specs.Ticks.{all_timer_items, routes_selected, forget_each, links_ticked, routes_ticked, requests_ticked, interfaces_ticked, sources_ticked, ticked};
 
 use crate::Core;
 use arrayvec::ArrayVec;
@@ -106,12 +108,23 @@ impl Core {
         }
     }
 
+    /// Makes the set that of the prefixes of which an update is due. If none is due, it doesn't matter which they are.
+    #[tactic(auto, using(crate::proofs::QuietTicks::no_updates))]
+    fn gather_due(&self, now: u64, scratch: &mut Scratch)
+        ensures { all_timers_of now self.now.neighbours (prefixes_in scratch.new) 0 self.now.interfaces ≡ all_timer_items now self.now 0 self.now.interfaces }
+    {
+        let due = self.interfaces.have_due_update(now);
+        if due {
+            scratch.gather_reachable(&self.announced, &self.routes);
+        }
+    }
+
     /// Queues what the timers that are due ask for, and sets their next moments.
-    #[tactic(auto, unfolding(babel_state::specs::Ticks::interfaces_ticked, babel_state::specs::State::reachable_prefixes), using(crate::proofs::TickLists::same_timers))]
+    #[tactic(auto, unfolding(babel_state::specs::Ticks::interfaces_ticked))]
     fn fire_timers(&mut self, now: u64, scratch: &mut Scratch)
         ensures { self.new ≡ interfaces_ticked now self.old }
     {
-        scratch.gather_reachable(&self.announced, &self.routes);
+        self.gather_due(now, scratch);
         queue_all_timers(
             &mut self.pending,
             &self.interfaces,

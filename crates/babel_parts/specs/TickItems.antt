@@ -40,6 +40,10 @@ all_repeats_of now sources entries (e ∷ es) = repeats_of now sources entries e
 abbrev pub has_due_timer : ℕ → InterfaceEntry → Bool
 has_due_timer now i = is_due now i.hello_due || (is_due now i.ihu_due || is_due now i.update_due)
 
+-- An update of each prefix is due on the interface.
+abbrev pub has_due_update : ℕ → InterfaceEntry → Bool
+has_due_update now i = is_due now i.update_due
+
 abbrev pub ihus_of : ℕ → Links → List Item
 ihus_of iface links = map (λ peer. items.Ihu peer) (filter (λ peer. nat_eq peer.iface iface) (peers_of links))
 

@@ -6,7 +6,7 @@ ghost use Rattle.babel_table.specs.Entries.{revised_entries};
 ghost use Rattle.babel_state.specs.Queueing.{queued};
 ghost use Rattle.babel_state.specs.State.{prefixes_in};
 ghost use Rattle.babel_parts.specs.TickItems.{repeats_of, all_repeats_of, ihus_of, updates_of, timers_of, all_timers_of};
-ghost use Rattle.babel_parts.specs.TickItems.{has_due_timer};
+ghost use Rattle.babel_parts.specs.TickItems.{has_due_timer, has_due_update};
 ghost use Rattle.babel_state.specs.Ticks.{is_last, waited, is_due, next_due, fired};
 
 use crate::queueing::queue_requests_to_unfeasible;
@@ -94,6 +94,13 @@ fn has_due_timer(now: u64, interface: &InterfaceEntry) -> bool
 {
     is_due(now, interface.hello_due)
         || (is_due(now, interface.ihu_due) || is_due(now, interface.update_due))
+}
+
+/// Whether the interface's timer of updates is due.
+fn has_due_update(now: u64, interface: &InterfaceEntry) -> bool
+    ensures { result ≡ has_due_update now interface.now }
+{
+    is_due(now, interface.update_due)
 }
 
 /// The interface with the next moments of the timers that are due (RFC 8966, appendix B).
@@ -258,6 +265,15 @@ impl Interfaces {
         self.entries
             .iter()
             .any(|interface| has_due_timer(now, interface))
+    }
+
+    /// Whether an update of each prefix is due on an interface.
+    pub fn have_due_update(&self, now: u64) -> bool
+        ensures { result ≡ list_any (has_due_update now) self.now }
+    {
+        self.entries
+            .iter()
+            .any(|interface| has_due_update(now, interface))
     }
 
     /// Gives the interface of the number the next moments of its timers that are due.
