@@ -4,7 +4,7 @@
 ghost use Rattle.std.specs.Prelude.{◌≡◌, [], ◌∷◌, IsTrue, IsFalse};
 ghost use Rattle.babel_state.specs.declared.requests.Resend.TheVariants.{Unfeasible};
 ghost use Rattle.babel_state.specs.Limits.{request_hops};
-ghost use Rattle.babel_state.specs.Reselection.{queue, updates_to_all, update_to, request_seqno, unfeasible_peers, is_same_origin, advertise_change, may_request_for_lost, seqno_after, request_for_lost, is_selected_peer, request_for_update, request_from_sender, request_for_seqno, select, reselect, reselect_each, reselect_all};
+ghost use Rattle.babel_state.specs.Reselection.{queue, updates_to_all, update_to, request_seqno, unfeasible_peers, is_same_origin, advertise_change, may_request_for_lost, seqno_after, request_for_lost, is_selected_peer, request_for_update, request_from_sender, request_for_seqno, follow_up, select, reselect, reselect_each, reselect_all};
 ghost use Rattle.babel_state.specs.State.{prefixes_in, selected_at};
 ghost use Rattle.babel_state.specs.CurrentSelections.{AreCurrent};
 ghost use Rattle.babel_parts.specs.LinkChanges.{AreOthersCurrent};
@@ -105,7 +105,7 @@ impl Core {
     }
 
     /// The same. The searches begin at the cursor.
-    fn select_near(
+    pub(crate) fn select_near(
         &mut self,
         prefix: &Prefix,
         cursor: &mut Cursor,
@@ -206,6 +206,21 @@ impl Core {
         self.request_from_sender(now, cause, prefix, old);
     }
 
+    /// What follows from a change of the selection after an input, which was this unfeasible update or none.
+    pub(crate) fn follow_up(
+        &mut self,
+        now: u64,
+        cause: Option<UnfeasibleUpdate>,
+        prefix: &Prefix,
+        old: &Option<Selection>,
+        new: &Option<Selection>,
+    )
+        ensures { self.new ≡ follow_up now cause prefix.now old.now new.now self.old }
+    {
+        self.advertise_change(prefix, old, new);
+        self.request_for_seqno(now, cause, prefix, old, new);
+    }
+
     /// Selects the route of the prefix again after an input, which was this unfeasible update or none,
     /// and does what follows from a change.
     pub(crate) fn reselect(&mut self, now: u64, cause: Option<UnfeasibleUpdate>, prefix: &Prefix)
@@ -227,8 +242,7 @@ impl Core {
         ensures { self.new ≡ reselect now cause prefix.now self.old }
     {
         let (old, new) = self.select_near(prefix, cursor);
-        self.advertise_change(prefix, &old, &new);
-        self.request_for_seqno(now, cause, prefix, &old, &new);
+        self.follow_up(now, cause, prefix, &old, &new);
     }
 
     /// Selects the routes of the prefixes again, one after the other. Since the prefixes rise, that is one walk over

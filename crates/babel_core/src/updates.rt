@@ -1,15 +1,29 @@
 //! Updates and retractions of a neighbour (RFC 8966, section 3.5.3).
 
-ghost use Rattle.std.specs.Prelude.{◌≡◌, Some};
+ghost use Rattle.std.specs.Prelude.{◌≡◌, false, Some, IsTrue, IsSome, IsNone, IfSome, is_none, if◌then◌else◌};
 ghost use Rattle.babel_sources.specs.Distances.{is_feasible};
-ghost use Rattle.babel_state.specs.Updates.{is_satisfied, advertise_if_selected, satisfy_request, judge, handle_update, handle_retraction, handle_retract_all};
+ghost use Rattle.babel_state.specs.declared.notes.Verdict.TheVariants.{TableFull};
+ghost use Rattle.babel_state.specs.CurrentSelections.{AreCurrent};
+ghost use Rattle.babel_state.specs.Reselection.{select};
+ghost use Rattle.babel_state.specs.State.{selected_at};
+ghost use Rattle.babel_state.specs.Updates.{store, is_satisfied, advertise_if_selected, satisfy_request, judge, is_route_too_many, handle_update, handle_retraction, handle_retract_all};
 
 use crate::Core;
 use crate::causes::UnfeasibleUpdate;
 use babel_parts::Scratch;
-use babel_route::Cursor;
+use babel_route::{Cursor, Selection};
 use babel_state::Verdict;
 use babel_value::{Addr, Distance, Peer, Prefix, RouterId, Seqno, Source};
+
+/// A finite update as received from a neighbour.
+#[derive(Clone, Copy)]
+struct ReceivedUpdate {
+    peer: Peer,
+    source: Source,
+    next_hop: Addr,
+    distance: Distance,
+    interval: u16,
+}
 
 /// Whether an update is feasible against the distance of its source (RFC 8966, section 3.5.1).
 fn is_feasible(pair: &Distance, update: &Distance) -> bool
@@ -52,35 +66,126 @@ impl Core {
         }
     }
 
-    /// Judges a stored update against the distance that its source had. The searches begin at the cursor.
-    fn judge(
+    /// Sets the deadlines anew if the update repeats what its neighbour advertised. If all selections are current, that
+    /// is what storing the update and selecting again leaves. Returns the old and the new selection, or `None` if the
+    /// update is another one.
+    fn refresh(
         &mut self,
         now: u64,
-        peer: &Peer,
-        source: &Source,
-        distance: &Distance,
+        update: &ReceivedUpdate,
+        cursor: &mut Cursor,
+    ) -> Option<(Option<Selection>, Option<Selection>)>
+        requires current { AreCurrent self.old }
+        ensures known { IsSome result → is_route_too_many update.now.source.prefix update.now.peer self.old ≡ false }
+        ensures none { IsNone result → self.new ≡ self.old }
+        ensures state { IsSome result → self.new ≡ select update.now.source.prefix (store now update.now.peer update.now.source.prefix update.now.source.router update.now.next_hop update.now.distance update.now.interval self.old) }
+        ensures old { IfSome result (λ r. r.0 ≡ selected_at update.now.source.prefix self.old) }
+        ensures new { IfSome result (λ r. r.1 ≡ selected_at update.now.source.prefix self.new) }
+    {
+        self.routes.refresh_near(
+            now,
+            update.source.prefix,
+            update.peer,
+            update.source.router,
+            update.distance,
+            update.next_hop,
+            update.interval,
+            cursor,
+        )
+    }
+
+    /// The same if the speaker is settled, so that all selections are current. `None` if it isn't.
+    fn refresh_if(
+        &mut self,
+        settled: bool,
+        now: u64,
+        update: &ReceivedUpdate,
+        cursor: &mut Cursor,
+    ) -> Option<(Option<Selection>, Option<Selection>)>
+        requires settled { IsTrue settled → AreCurrent self.old }
+        ensures known { IsSome result → is_route_too_many update.now.source.prefix update.now.peer self.old ≡ false }
+        ensures none { IsNone result → self.new ≡ self.old }
+        ensures state { IsSome result → self.new ≡ select update.now.source.prefix (store now update.now.peer update.now.source.prefix update.now.source.router update.now.next_hop update.now.distance update.now.interval self.old) }
+        ensures old { IfSome result (λ r. r.0 ≡ selected_at update.now.source.prefix self.old) }
+        ensures new { IfSome result (λ r. r.1 ≡ selected_at update.now.source.prefix self.new) }
+    {
+        if !settled {
+            return None;
+        }
+        self.refresh(now, update, cursor)
+    }
+
+    /// Stores the update and selects the route of its prefix again. Returns the old and the new selection, or `None` if
+    /// the route is new and all places are taken. The searches begin at the cursor.
+    fn store_and_select(
+        &mut self,
+        settled: bool,
+        now: u64,
+        update: &ReceivedUpdate,
+        cursor: &mut Cursor,
+    ) -> Option<(Option<Selection>, Option<Selection>)>
+        requires settled { IsTrue settled → AreCurrent self.old }
+        ensures full { is_none result ≡ is_route_too_many update.now.source.prefix update.now.peer self.old }
+        ensures none { IsNone result → self.new ≡ self.old }
+        ensures state { IsSome result → self.new ≡ select update.now.source.prefix (store now update.now.peer update.now.source.prefix update.now.source.router update.now.next_hop update.now.distance update.now.interval self.old) }
+        ensures old { IfSome result (λ r. r.0 ≡ selected_at update.now.source.prefix self.old) }
+        ensures new { IfSome result (λ r. r.1 ≡ selected_at update.now.source.prefix self.new) }
+    {
+        if let Some(selected) = self.refresh_if(settled, now, update, cursor) {
+            return Some(selected);
+        }
+        let source = update.source;
+        let stored = self.routes.update_near(
+            now,
+            source.prefix,
+            update.peer,
+            source.router,
+            update.distance,
+            update.next_hop,
+            update.interval,
+            cursor,
+        );
+        if stored.is_err() {
+            return None;
+        }
+        Some(self.select_near(&source.prefix, cursor))
+    }
+
+    /// Stores an update and judges it against the distance that its source had.
+    #[tactic(auto, unfolding(babel_state::specs::Reselection::reselect))]
+    fn store_and_judge(
+        &mut self,
+        settled: bool,
+        now: u64,
+        update: &ReceivedUpdate,
         pair: &Option<Distance>,
         cursor: &mut Cursor,
     ) -> Verdict
-        ensures { (self.new, result) ≡ judge now peer.now source.now.prefix source.now.router distance.now pair.now self.old }
+        requires settled { IsTrue settled → AreCurrent self.old }
+        ensures { (self.new, result) ≡ (if is_route_too_many update.now.source.prefix update.now.peer self.old then (self.old, TableFull) else judge now update.now.peer update.now.source.prefix update.now.source.router update.now.distance pair.now (store now update.now.peer update.now.source.prefix update.now.source.router update.now.next_hop update.now.distance update.now.interval self.old)) }
     {
+        let source = update.source;
+        let Some((old, new)) = self.store_and_select(settled, now, update, cursor) else {
+            return Verdict::TableFull;
+        };
         if let Some(pair) = pair {
-            if !is_feasible(pair, distance) {
-                let update = UnfeasibleUpdate {
-                    peer: *peer,
+            if !is_feasible(pair, &update.distance) {
+                let cause = UnfeasibleUpdate {
+                    peer: update.peer,
                     router: source.router,
                 };
-                self.reselect_near(now, Some(update), &source.prefix, cursor);
+                self.follow_up(now, Some(cause), &source.prefix, &old, &new);
                 return Verdict::Unfeasible(*pair);
             }
         }
-        self.reselect_near(now, None, &source.prefix, cursor);
-        self.satisfy_request(source, distance.seqno);
+        self.follow_up(now, None, &source.prefix, &old, &new);
+        self.satisfy_request(&source, update.distance.seqno);
         Verdict::Taken
     }
 
-    /// Handles an update with a finite metric (RFC 8966, section 3.5.3). The searches begin at the cursor, which goes
-    /// to the prefix: the updates of a datagram mostly are in the order of their prefixes.
+    /// Handles an update with a finite metric (RFC 8966, section 3.5.3). If the speaker is settled, all selections are
+    /// current, and an update that repeats what is known takes no new choice. The searches begin at the cursor, which
+    /// goes to the prefix: the updates of a datagram mostly are in the order of their prefixes.
     #[tactic(auto, unfolding(babel_state::specs::Updates::handle_update))]
     pub fn handle_update(
         &mut self,
@@ -91,26 +196,27 @@ impl Core {
         next_hop: Addr,
         distance: Distance,
         interval: u16,
+        settled: bool,
         cursor: &mut Cursor,
     ) -> Verdict
+        requires settled { IsTrue settled → AreCurrent self.old }
         ensures { (self.new, result) ≡ handle_update now peer.now prefix.now router next_hop distance interval self.old }
     {
         if router.cmp(&self.router).is_eq() {
             return Verdict::OwnRouterId;
         }
-        let source = Source {
-            prefix: *prefix,
-            router,
+        let update = ReceivedUpdate {
+            peer: *peer,
+            source: Source {
+                prefix: *prefix,
+                router,
+            },
+            next_hop,
+            distance,
+            interval,
         };
-        let pair = self.sources.pair_near(&source, &mut cursor.source);
-        let received = distance;
-        let stored = self.routes.update_near(
-            now, *prefix, *peer, router, distance, next_hop, interval, cursor,
-        );
-        if stored.is_err() {
-            return Verdict::TableFull;
-        }
-        self.judge(now, peer, &source, &received, &pair, cursor)
+        let pair = self.sources.pair_near(&update.source, &mut cursor.source);
+        self.store_and_judge(settled, now, &update, &pair, cursor)
     }
 
     /// Handles a retraction of a prefix (RFC 8966, section 3.5.3).

@@ -18,7 +18,7 @@ same_distance a b same =
     let metric = eqb-true a.metric b.metric parts.1 in
     λ i. record { seqno = seqno i; metric = metric i }
 
-same_entry : (a b : Entry) → is_same_entry a b ≡ true → a ≡ b
+pub same_entry : (a b : Entry) → is_same_entry a b ≡ true → a ≡ b
 same_entry a b same =
     let first = and_parts (eq_by_cmp octets_cmp a.router b.router) _ same in
     let second = and_parts (is_same_distance a.distance b.distance) _ first.1 in

@@ -7,4 +7,5 @@ pub mod RunLemmas
 pub mod ListLemmas
 pub mod DueLemmas
 pub mod CurrencyLemmas
+pub mod RefreshLemmas
 pub mod PrefixWalkLemmas

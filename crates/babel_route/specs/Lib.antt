@@ -3,6 +3,7 @@ pub mod RouteKeys
 pub mod Routes
 pub mod Selections
 pub mod Currency
+pub mod Repeats
 pub mod PrefixBounds
 pub mod RouteLaws
 pub mod PrefixLists

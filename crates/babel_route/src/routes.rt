@@ -17,6 +17,7 @@ mod current;
 mod entries;
 mod prefix_walk;
 mod prefixes;
+mod refresh;
 mod revisions;
 mod room;
 mod walks;

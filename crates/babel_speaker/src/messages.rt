@@ -44,7 +44,7 @@ fn handle_from_neighbour(
                 metric: *metric,
             };
             core.handle_update(
-                now, peer, prefix, *router, *next_hop, distance, *interval, cursor,
+                now, peer, prefix, *router, *next_hop, distance, *interval, *settled, cursor,
             )
         }
         Message::Retraction { prefix, .. } => { core.handle_retraction(now, peer, prefix, cursor) }

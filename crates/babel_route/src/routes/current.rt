@@ -75,7 +75,7 @@ pub(crate) fn is_same_selection(old: &Option<Selection>, new: &Option<Selection>
     }
 }
 
-fn is_same_entry(one: &Entry, other: &Entry) -> bool
+pub(crate) fn is_same_entry(one: &Entry, other: &Entry) -> bool
     ensures { result ≡ is_same_entry one.now other.now }
 {
     one.router.cmp(&other.router).is_eq()
