@@ -7,7 +7,7 @@ use Rattle.std.specs.Cmp.Lexicographic.{pointwise, same_text}
 use Rattle.std.specs.declared.cmp.Ordering.{Ordering}
 use Rattle.std.specs.declared.cmp.Ordering.TheVariants.{Less, Equal, Greater}
 use Rattle.std.specs.Map.{lookup}
-use Rattle.std.specs.Option.{option_map_or}
+use Rattle.std.specs.Option.{option_map_or, unwrap_or}
 use Rattle.std.specs.Ordering.{is_eq}
 use Rattle.indexmap.specs.IndexMap.{insert_entry, set_value_at}
 use Rattle.babel_value.specs.declared.keys.Peer.{Peer}
@@ -44,6 +44,16 @@ pub kept : (eq : PrefixValue → PrefixValue → Bool) → ((p q : PrefixValue) 
 kept eq same p [] some = absurd (true≢false (sym some))
 kept eq same p (e ∷ es) some =
     kept_first (eq p e.0) (is_same_prefix p e.0) e es (with_seen p es) (lookup (eq p) es) (same p e.0) some (kept eq same p es)
+
+-- So does the one at an index.
+pub kept_at : (p : PrefixValue) (es : List SeenPrefix) (i : ℕ) (e : SeenPrefix) → slice_get es i ≡ Some e → is_same_prefix p e.0 ≡ true → with_seen p es ≡ es
+kept_at p [] i e at same = cc
+kept_at p (x ∷ es) zero e at same = ap (λ b. cond b (x ∷ es) (x ∷ with_seen p es)) (ap (λ (o : Option SeenPrefix). is_same_prefix p (unwrap_or o x).0) at ∙ same)
+kept_at p (x ∷ es) (suc i) e at same = by (is_same_prefix p x.0) (kept_at p es i e at same)
+  where
+    by : (b : Bool) → with_seen p es ≡ es → cond b (x ∷ es) (x ∷ with_seen p es) ≡ x ∷ es
+    by true rest = refl
+    by false rest = ap (λ r. x ∷ r) rest
 
 -- Past the end nothing is set.
 pub set_past : {X : Type 0} (es : List (PrefixValue × X)) (i : ℕ) (w : X) → (i < length es → false ≡ true) → es ≡ set_value_at es i w

@@ -13,7 +13,7 @@ use babel_packet::{Content, Message, Placed};
 use babel_route::{Entry, Selection};
 use babel_speaker::Speaker;
 use babel_state::{Note, Selected, Verdict};
-use babel_value::{Metric, Peer, Prefix};
+use babel_value::{Distance, Metric, Peer, Prefix};
 use indexmap::IndexMap;
 use std::alloc::{AllocError, Global};
 use std::marker::Model;
@@ -141,6 +141,24 @@ fn choice_in(speaker: &Speaker, index: usize, last: &mut LastCosts) -> Option<(P
     Some((prefix, choice_by(speaker, selection, last)))
 }
 
+/// Whether this is what is printed of the selection.
+fn is_printed(
+    speaker: &Speaker,
+    selection: &Selection,
+    choice: &Choice,
+    last: &mut LastCosts,
+) -> bool
+    requires last { AreCosts speaker.now last.old }
+    ensures same { (prefix : PrefixValue) → result ≡ is_same_route (printed_choice speaker.now (prefix, selection.now)).1 choice.now }
+    ensures last { AreCosts speaker.now last.new }
+{
+    let Distance { seqno, metric } = selection.entry.distance;
+    selection.peer.cmp(&choice.peer).is_eq()
+        && metric.add(last.find(speaker, &selection.peer)) == choice.metric
+        && selection.entry.router == choice.router
+        && seqno == choice.seqno
+}
+
 /// Whether this is what is printed of the selection, if there is one.
 fn is_choice(
     speaker: &Speaker,
@@ -155,8 +173,7 @@ fn is_choice(
 {
     match found {
         Some((selected, selection)) => {
-            selected.cmp(prefix).is_eq()
-                && is_same_route(&choice_by(speaker, *selection, last), choice)
+            selected.cmp(prefix).is_eq() && is_printed(speaker, selection, choice, last)
         }
         None => false,
     }
@@ -185,6 +202,8 @@ pub(crate) struct SeenPrefixes {
     choices: Vec<(Prefix, Choice)>,
     // Whether that is what was last printed of each seen prefix. It only matters for speed.
     is_known: bool,
+    // The index of the prefix that an Update named last. It only matters for speed.
+    last: usize,
 }
 
 impl Model for SeenPrefixes {
@@ -208,6 +227,7 @@ impl SeenPrefixes {
             table: IndexMap::new(alloc),
             choices: Vec::new(alloc),
             is_known: false,
+            last: 0,
         }
     }
 
@@ -228,9 +248,35 @@ impl SeenPrefixes {
     {
         for (place, note) in placed.iter().zip(notes) {
             if let Some(prefix) = stored_prefix(place, note) {
-                self.add(prefix);
+                self.see(prefix);
             }
         }
+    }
+
+    /// Adds a prefix, for which there is room, unless it was seen. Updates mostly come in the order in which their
+    /// prefixes were seen first, so the one after the last is looked at before the table is searched.
+    fn see(&mut self, prefix: Prefix)
+        requires { 0 < self.old.room }
+        ensures seen { self.new.entries ≡ with_seen prefix self.old.entries }
+        ensures room { self.old.room ≤ self.new.room + 1 }
+    {
+        let next = self.last.wrapping_add(1);
+        if self.is_at(next, &prefix) {
+            self.last = next;
+        } else {
+            self.add(prefix);
+            self.last = self.table.get_index_of(&prefix).unwrap_or(0);
+        }
+    }
+
+    /// Whether the prefix is the one at the index.
+    fn is_at(&self, index: usize, prefix: &Prefix) -> bool
+        ensures { IsTrue result → with_seen prefix.now self.now.entries ≡ self.now.entries }
+    {
+        let Some(seen) = self.get(index) else {
+            return false;
+        };
+        prefix.cmp(&seen.0).is_eq()
     }
 
     /// Adds a prefix, for which there is room.
