@@ -66,7 +66,7 @@ impl Core {
         }
     }
 
-    /// Sets the deadlines anew if the update repeats what its neighbour advertised. If all selections are current, that
+    /// Sets the deadlines again if the update repeats what its neighbour advertised. If all selections are current, that
     /// is what storing the update and selecting again leaves. Returns the old and the new selection, or `None` if the
     /// update is another one.
     fn refresh(
