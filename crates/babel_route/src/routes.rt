@@ -47,7 +47,7 @@ pub const ROUTE_PLACES: usize = 256;
 
 /// The route table with its selections, in tables of the types `E` and `S`. Clauses see both as lists
 /// in the order of their keys.
-#[derive(Drop)]
+#[derive(Debug, Drop)]
 pub struct RoutesOver<E: Table<RouteKey, Entry>, S: Table<Prefix, Selection>> {
     entries: E,
     selections: S,

@@ -33,7 +33,7 @@ pub struct SourceEntry {
 }
 
 /// The source table: for each source its feasibility distance, in a table of the type `T`.
-#[derive(Drop)]
+#[derive(Debug, Drop)]
 pub struct SourcesOver<T: Table<Source, SourceEntry>> {
     table: T,
     /// No entry is due before this moment.

@@ -14,7 +14,7 @@ use std::marker::Brand;
 use std::sync::ledger::{Blank, Ledger};
 
 /// A table kept in the order of its keys. A look-up is a binary search.
-#[derive(Drop)]
+#[derive(Debug, Drop)]
 pub struct SortedTable<K: Key, V: Copy> {
     entries: Vec<(K, V)>,
     places: usize,
