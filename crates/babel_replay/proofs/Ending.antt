@@ -5,8 +5,8 @@ use Rattle.std.specs.Io.KnownBytes.{Appends}
 use Rattle.babel_value.specs.Prefixes.{PrefixValue}
 use Rattle.babel_state.specs.declared.errors.ConfigFault.{ConfigFault}
 use Rattle.babel_state.specs.State.{State}
-use Rattle.babel_text.specs.declared.lines.LineFault.{LineFault}
-use Rattle.babel_text.specs.declared.lines.LineFault.TheVariants.{Write}
+use Rattle.babel_text.specs.declared.errors.LineFault.{LineFault}
+use Rattle.babel_text.specs.declared.errors.LineFault.TheVariants.{Write}
 use Rattle.babel_replay.specs.declared.errors.ReplayFault.{ReplayFault}
 use Rattle.babel_replay.specs.declared.errors.ReplayFault.TheVariants.{Config, Line}
 use Rattle.babel_replay.specs.LogReports.{Ending, OfAllLines, OfLinesBefore, IsLogReport, IsReplayFault, IsStopped, Writes, whole_report, routes_after}

@@ -3,8 +3,8 @@ use Rattle.std.proofs.Common.{◌≡◌, ◌≢◌, ◌+◌, ◌⊎◌, inl, inr
 use Rattle.std.proofs.lemmas.List.{append-nil, length-append}
 use Rattle.std.specs.Prelude.{⊤}
 use Rattle.babel_state.specs.State.{State}
-use Rattle.babel_text.specs.declared.lines.LineFault.{LineFault}
-use Rattle.babel_text.specs.declared.lines.LineFault.TheVariants.{Read, Write, Memory}
+use Rattle.babel_text.specs.declared.errors.LineFault.{LineFault}
+use Rattle.babel_text.specs.declared.errors.LineFault.TheVariants.{Read, Write, Memory}
 use Rattle.babel_replay.specs.declared.log_lines.Action.{Action}
 use Rattle.babel_replay.specs.LogLines.{lines_of, is_skipped_line, ReadsLine, IsLine, IsLineFault}
 use Rattle.babel_replay.specs.LogReports.{IsLineReport, IsLogReport, HasLines, BeginsWith, IsRefusedAfter, IsTooLongAfter, IsCause, OfAllLines, OfLinesBefore, room}

@@ -10,8 +10,8 @@ use Rattle.babel_value.specs.declared.addresses.Addr.{Addr}
 use Rattle.babel_value.specs.Texts.{IsAddrText}
 use Rattle.babel_text.specs.Lines.{max_line_len}
 use Rattle.babel_text.specs.Numbers.{IsNumberText}
-use Rattle.babel_text.specs.declared.lines.LineFault.{LineFault}
-use Rattle.babel_text.specs.declared.lines.LineFault.TheVariants as faults
+use Rattle.babel_text.specs.declared.errors.LineFault.{LineFault}
+use Rattle.babel_text.specs.declared.errors.LineFault.TheVariants as faults
 use Rattle.babel_replay.specs.declared.log_lines.Action.{Action}
 use Rattle.babel_replay.specs.declared.log_lines.Action.TheVariants as actions
 use Rattle.babel_replay.specs.declared.reading.Part.{Part}

@@ -6,8 +6,8 @@ use Rattle.babel_state.specs.declared.errors.ConfigFault.{ConfigFault}
 use Rattle.babel_state.specs.State.{State}
 use Rattle.babel_speaker.specs.Making.{IsMakingFault}
 use Rattle.babel_text.specs.Lines.{max_line_len}
-use Rattle.babel_text.specs.declared.lines.LineFault.{LineFault}
-use Rattle.babel_text.specs.declared.lines.LineFault.TheVariants.{TooLong, Read, Write, Memory}
+use Rattle.babel_text.specs.declared.errors.LineFault.{LineFault}
+use Rattle.babel_text.specs.declared.errors.LineFault.TheVariants.{TooLong, Read, Write, Memory}
 use Rattle.babel_replay.specs.declared.errors.ReplayFault.{ReplayFault}
 use Rattle.babel_replay.specs.declared.errors.ReplayFault.TheVariants as faults
 use Rattle.babel_replay.specs.declared.log_lines.Action.{Action}

@@ -7,7 +7,7 @@ ghost use Rattle.indexmap.specs.IndexMap.{set_value_at};
 ghost use Rattle.babel_state.specs.Calls.{first_state};
 ghost use Rattle.babel_state.specs.Configs.{config_fault};
 ghost use Rattle.babel_speaker.specs.Making.{IsMakingFault};
-ghost use Rattle.babel_text.specs.declared.lines.LineFault.TheVariants.{Memory, Write};
+ghost use Rattle.babel_text.specs.declared.errors.LineFault.TheVariants.{Memory, Write};
 ghost use Rattle.babel_replay.specs.LogReports.{room, whole_report, IsCause, IsReplayFault, IsStopped, OfAllLines, OfLinesBefore, Writes};
 ghost use Rattle.babel_replay.specs.Report.{places_in, IsDecoded, note_lines, outcome_lines, seen_by, select_line, select_lines, Reports, ReportsStep, Sends, table_line, table_lines};
 ghost use Rattle.babel_replay.specs.Seen.{updates_in, choice_at, choice_printed, printed_all};

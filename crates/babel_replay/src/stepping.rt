@@ -6,7 +6,7 @@ ghost use Rattle.babel_state.specs.Addresses.{source_fault};
 ghost use Rattle.babel_state.specs.Messages.{Receives, IsRecvFault};
 ghost use Rattle.babel_replay.specs.Report.{IsDecoded};
 ghost use Rattle.babel_replay.specs.Stepping.{Steps};
-ghost use Rattle.babel_text.specs.declared.lines.LineFault.TheVariants.{Memory};
+ghost use Rattle.babel_text.specs.declared.errors.LineFault.TheVariants.{Memory};
 
 use crate::{Action, Event, LineFault};
 use babel_packet::{Placed, Refusal};

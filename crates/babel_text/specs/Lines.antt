@@ -4,8 +4,8 @@ use Rattle.std.specs.declared.io.ErrorKind.{ErrorKind}
 use Rattle.std.specs.declared.io.ErrorKind.TheVariants as kinds
 use Rattle.hex.specs.declared.error.FromHexError.{FromHexError}
 use Rattle.hex.specs.declared.error.FromHexError.TheVariants as hex_errors
-use Rattle.babel_text.specs.declared.lines.LineFault.{LineFault}
-use Rattle.babel_text.specs.declared.lines.LineFault.TheVariants.{Form, Number, Address, Hex, TooLong, Read, Write, Memory}
+use Rattle.babel_text.specs.declared.errors.LineFault.{LineFault}
+use Rattle.babel_text.specs.declared.errors.LineFault.TheVariants.{Form, Number, Address, Hex, TooLong, Read, Write, Memory}
 
 -- The most octets of a line, its line feed not counted. The law `limits_are_those_of_the_code` ties it to the code's.
 abbrev pub max_line_len : ℕ

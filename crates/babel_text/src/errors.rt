@@ -1,9 +1,9 @@
-//! Lines of text: how long one may be, and why one isn't taken.
+//! Why a line of text isn't taken, and how long one may be.
 
 ghost use Rattle.std.specs.Prelude.{◌≡◌};
 ghost use Rattle.std.specs.IoError.{error_kind};
 ghost use Rattle.babel_text.specs.Lines.{line_fault_code, reading_fault, writing_fault, hex_fault};
-ghost use Rattle.babel_text.specs.declared.lines.LineFault.TheVariants.{Memory};
+ghost use Rattle.babel_text.specs.declared.errors.LineFault.TheVariants.{Memory};
 
 use hex::FromHexError;
 use std::alloc::AllocError;

@@ -1,7 +1,7 @@
 //! A law of the code's limit: the contract of a function that does nothing.
 
 ghost use Rattle.std.specs.Prelude.{◌≡◌};
-ghost use Rattle.babel_text.specs.declared.lines.TheConstants.{MAX_LINE_LEN};
+ghost use Rattle.babel_text.specs.declared.errors.TheConstants.{MAX_LINE_LEN};
 ghost use Rattle.babel_text.specs.Lines.{max_line_len};
 
 /// The constant of the code is the number of the definitions.

@@ -4,13 +4,13 @@
 //! Nothing here allocates.
 #![tactic(auto)]
 
+mod errors;
 pub mod laws;
-mod lines;
 mod numbers;
 mod prefixes;
 mod router_ids;
 
-pub use lines::{LineFault, MAX_LINE_LEN};
+pub use errors::{LineFault, MAX_LINE_LEN};
 pub use numbers::{parse_u8, parse_u16, parse_u64};
 pub use prefixes::{parse_network, parse_prefix};
 pub use router_ids::parse_router_id;

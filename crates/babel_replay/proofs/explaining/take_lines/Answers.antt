@@ -1,5 +1,5 @@
 use Rattle.std.proofs.Common.{refl, arith}
-use Rattle.babel_text.specs.declared.lines.LineFault.TheVariants.{Read}
+use Rattle.babel_text.specs.declared.errors.LineFault.TheVariants.{Read}
 use Rattle.babel_replay.specs.Taking.{LeadsTo}
 use Rattle.babel_replay.proofs.Logs.{nothing_read, none_leads, led_stopped, led_all, led_next, end_of, next_of, read_failed}
 use Rattle.babel_replay.proofs.explaining.take_lines.Goals as goal

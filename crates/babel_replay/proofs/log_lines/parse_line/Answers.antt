@@ -1,7 +1,7 @@
 use Rattle.std.proofs.Common.{◌≡◌, ℕ, List, Result, length, nat_eq, false, true≢false, codes, IsUtf8, IfErr, sym, ap, subst, ◌∙◌, inl, inr, rules}
 use Rattle.std.specs.Cmp.Lexicographic.{pointwise}
 use Rattle.std.proofs.lemmas.Result.{IfErr-weaker}
-use Rattle.babel_text.specs.declared.lines.LineFault.{LineFault}
+use Rattle.babel_text.specs.declared.errors.LineFault.{LineFault}
 use Rattle.babel_replay.specs.LogLines.{HasBlank, before_blank, after_blank, IsWord, IsReceiveFault, IsCostFault, IsWordFault, IsLineFault}
 use Rattle.babel_replay.proofs.log_lines.parse_line.Goals as goal
 

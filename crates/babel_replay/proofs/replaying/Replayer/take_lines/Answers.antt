@@ -1,5 +1,5 @@
 use Rattle.std.proofs.Common.{refl, arith}
-use Rattle.babel_text.specs.declared.lines.LineFault.TheVariants.{Read}
+use Rattle.babel_text.specs.declared.errors.LineFault.TheVariants.{Read}
 use Rattle.babel_replay.specs.Taking.{IsReported}
 use Rattle.babel_replay.proofs.Logs.{nothing_read, none_reported, reported_stopped, reported_all, reported_next, end_of, next_of, read_failed}
 use Rattle.babel_replay.proofs.replaying.Replayer.take_lines.Goals as goal

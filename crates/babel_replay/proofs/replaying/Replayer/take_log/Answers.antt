@@ -1,5 +1,5 @@
 use Rattle.std.proofs.Common.{refl, inl, []}
-use Rattle.babel_text.specs.declared.lines.LineFault.TheVariants.{Memory}
+use Rattle.babel_text.specs.declared.errors.LineFault.TheVariants.{Memory}
 use Rattle.babel_replay.proofs.Logs.{before_first, report_cause}
 use Rattle.babel_replay.proofs.Writing.{appends_none}
 use Rattle.babel_replay.proofs.replaying.Replayer.take_log.Goals as goal
