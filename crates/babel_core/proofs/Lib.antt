@@ -7,3 +7,4 @@ pub mod LinkChanges
 pub mod StaleReselections
 pub mod SettledSends
 pub mod Restoring
+pub mod RoutesKept

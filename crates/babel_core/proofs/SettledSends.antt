@@ -1,5 +1,5 @@
 -- A message keeps all selections current that changes no pair of a source, or after which the selection of its prefix is current.
-use Rattle.std.specs.Prelude.{◌≡◌, ℕ, Bool, true, false, cond, ◌&&◌, nat_lt, List, [], ◌∷◌, slice_set, Option, Some, None}
+use Rattle.std.specs.Prelude.{◌≡◌, ℕ, Bool, true, false, cond, ◌&&◌, nat_lt, [], ◌∷◌, slice_set, Option, Some, None}
 use Rattle.std.specs.List.{filter}
 use Rattle.std.specs.Option.{option_map, option_map_or}
 use Rattle.std.specs.declared.cmp.Ordering.{Ordering}

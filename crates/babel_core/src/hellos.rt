@@ -5,6 +5,7 @@ ghost use Rattle.babel_link.specs.Neighbours.{hello_verdict};
 ghost use Rattle.babel_state.specs.State.{cost_at};
 ghost use Rattle.babel_state.specs.Hellos.{is_for_interface, is_neighbour_too_many, forgets_flushed, hears, handle_hello, handle_ihu};
 ghost use Rattle.babel_state.specs.CurrentSelections.{AreCurrent};
+ghost use Rattle.babel_state.specs.KeptRoutes.{KeepsRoutes};
 ghost use Rattle.babel_state.specs.SettledLaws.{with_ihu};
 ghost use Rattle.babel_parts.specs.LinkChanges.{AreOthersCurrent};
 ghost use Rattle.babel_parts.specs.declared.link_costs.LinkChange.TheVariants.{Nothing, Cost};
@@ -75,8 +76,8 @@ impl Core {
         }
     }
 
-    /// The same. Returns what changed: if nothing, all selections that were current are so; if the cost of the link
-    /// to the peer alone, those of the prefixes to which the peer has no route.
+    /// The same. Returns what changed: if nothing, all selections that were current are so, and the selected routes are
+    /// reported as before; if the cost of the link to the peer alone, those of the prefixes to which the peer has no route.
     fn hear(
         &mut self,
         now: u64,
@@ -89,6 +90,7 @@ impl Core {
         ensures ok { OnOk result (self.new ≡ hears now peer.now unicast seqno interval self.old) }
         ensures err { OnErr result (self.new ≡ self.old) }
         ensures nothing { IfOk result (λ change. change ≡ Nothing → AreCurrent self.old → AreCurrent self.new) }
+        ensures kept { IfOk result (λ change. change ≡ Nothing → KeepsRoutes self.old self.new) }
         ensures cost { IfOk result (λ change. change ≡ Cost → AreCurrent self.old → AreOthersCurrent peer.now self.new) }
     {
         let cost = self.cost(peer);
@@ -102,7 +104,7 @@ impl Core {
     }
 
     /// Handles a Hello (RFC 8966, section 3.4.1). A cost may change by it; then routes are selected again.
-    /// All selections are current then.
+    /// All selections are current then. Unless `changed` is `true` then, the selected routes are reported as before.
     #[tactic(auto, unfolding(babel_state::specs::Hellos::handle_hello))]
     pub fn handle_hello(
         &mut self,
@@ -112,19 +114,21 @@ impl Core {
         seqno: Seqno,
         interval: u16,
         settled: bool,
+        changed: &mut bool,
         scratch: &mut Scratch,
     ) -> Verdict
         requires settled { IsTrue settled → AreCurrent self.old }
         ensures state { (self.new, result) ≡ handle_hello now peer.now unicast seqno interval self.old }
         ensures current { AreCurrent self.new }
+        ensures kept { IsFalse changed.new → KeepsRoutes self.old self.new }
     {
         match self.hear(now, peer, unicast, seqno, interval) {
             Ok(change) => {
-                self.reselect_link(change, settled, now, peer, scratch);
+                *changed = self.reselect_link(change, settled, now, peer, scratch);
                 Verdict::Taken
             }
             Err(_) => {
-                self.reselect_after(false, settled, now, scratch);
+                *changed = self.reselect_after(false, settled, now, scratch);
                 Verdict::TableFull
             }
         }
@@ -142,6 +146,7 @@ impl Core {
     fn hear_ihu(&mut self, now: u64, peer: &Peer, rxcost: Metric, interval: u16) -> LinkChange
         ensures state { self.new ≡ with_ihu now peer.now rxcost interval self.old }
         ensures nothing { result ≡ Nothing → AreCurrent self.old → AreCurrent self.new }
+        ensures kept { result ≡ Nothing → KeepsRoutes self.old self.new }
         ensures cost { AreCurrent self.old → AreOthersCurrent peer.now self.new }
     {
         let cost = self.cost(peer);
@@ -160,17 +165,19 @@ impl Core {
         rxcost: Metric,
         interval: u16,
         settled: &mut bool,
+        changed: &mut bool,
         scratch: &mut Scratch,
     ) -> Verdict
         requires settled { IsTrue settled.old → AreCurrent self.old }
         ensures state { (self.new, result) ≡ handle_ihu now peer.now to.now rxcost interval self.old }
         ensures current { IsFalse settled.old → IsTrue settled.new → AreCurrent self.new }
+        ensures kept { IsFalse changed.new → KeepsRoutes self.old self.new }
     {
         if !self.is_for_interface(peer.iface, to) {
             return Verdict::OtherAddress;
         }
         let change = self.hear_ihu(now, peer, rxcost, interval);
-        self.reselect_link(change, *settled, now, peer, scratch);
+        *changed = self.reselect_link(change, *settled, now, peer, scratch);
         *settled = true;
         Verdict::Taken
     }

@@ -7,13 +7,14 @@ ghost use Rattle.babel_state.specs.Limits.{request_hops};
 ghost use Rattle.babel_state.specs.Reselection.{queue, updates_to_all, update_to, request_seqno, unfeasible_peers, is_same_origin, advertise_change, may_request_for_lost, seqno_after, request_for_lost, is_selected_peer, request_for_update, request_from_sender, request_for_seqno, follow_up, select, reselect, reselect_each, reselect_all};
 ghost use Rattle.babel_state.specs.State.{prefixes_in, selected_at};
 ghost use Rattle.babel_state.specs.CurrentSelections.{AreCurrent};
+ghost use Rattle.babel_state.specs.KeptRoutes.{KeepsRoutes};
 ghost use Rattle.babel_parts.specs.LinkChanges.{AreOthersCurrent};
 ghost use Rattle.babel_parts.specs.declared.link_costs.LinkChange.TheVariants.{Nothing, Cost};
 
 use crate::Core;
 use crate::causes::UnfeasibleUpdate;
 use babel_parts::queueing::{has_unfeasible, queue_requests_to_unfeasible, queue_updates_to_all};
-use babel_parts::reselection::{is_same_origin, is_selected_peer, seqno_after};
+use babel_parts::reselection::{are_alike, is_same_origin, is_selected_peer, seqno_after};
 use babel_parts::{LinkChange, LinkCosts, Scratch};
 use babel_route::{Cursor, Selection};
 use babel_state::{Item, REQUEST_HOPS, Resend, Target};
@@ -206,7 +207,9 @@ impl Core {
         self.request_from_sender(now, cause, prefix, old);
     }
 
-    /// What follows from a change of the selection after an input, which was this unfeasible update or none.
+    /// What follows from a change of the selection after an input, which was this unfeasible update or none. It queues
+    /// items and records requests, and no route is reported otherwise than before.
+    #[tactic(auto, using(babel_state::proofs::KeptRoutes::follows_routes))]
     pub(crate) fn follow_up(
         &mut self,
         now: u64,
@@ -215,7 +218,8 @@ impl Core {
         old: &Option<Selection>,
         new: &Option<Selection>,
     )
-        ensures { self.new ≡ follow_up now cause prefix.now old.now new.now self.old }
+        ensures state { self.new ≡ follow_up now cause prefix.now old.now new.now self.old }
+        ensures kept { KeepsRoutes self.old self.new }
     {
         self.advertise_change(prefix, old, new);
         self.request_for_seqno(now, cause, prefix, old, new);
@@ -230,7 +234,8 @@ impl Core {
         self.reselect_near(now, cause, prefix, &mut cursor);
     }
 
-    /// The same. The searches begin at the cursor.
+    /// The same. The searches begin at the cursor. Returns whether the prefix's selected route is reported otherwise
+    /// than before.
     #[tactic(auto, unfolding(babel_state::specs::Reselection::reselect))]
     pub(crate) fn reselect_near(
         &mut self,
@@ -238,11 +243,13 @@ impl Core {
         cause: Option<UnfeasibleUpdate>,
         prefix: &Prefix,
         cursor: &mut Cursor,
-    )
-        ensures { self.new ≡ reselect now cause prefix.now self.old }
+    ) -> bool
+        ensures state { self.new ≡ reselect now cause prefix.now self.old }
+        ensures kept { IsFalse result → KeepsRoutes self.old self.new }
     {
         let (old, new) = self.select_near(prefix, cursor);
         self.follow_up(now, cause, prefix, &old, &new);
+        !are_alike(&old, &new)
     }
 
     /// Selects the routes of the prefixes again, one after the other. Since the prefixes rise, that is one walk over
@@ -257,30 +264,34 @@ impl Core {
     }
 
     /// Selects the route of each prefix again that has a route or a selection. One walk over the tables finds those
-    /// whose selection isn't current, since a reselection changes nothing of the others.
-    pub(crate) fn reselect_all(&mut self, now: u64, scratch: &mut Scratch)
-        ensures { self.new ≡ reselect_all now self.old }
+    /// whose selection isn't current, since a reselection changes nothing of the others. If it returns `false`, there is
+    /// none, and nothing changed.
+    pub(crate) fn reselect_all(&mut self, now: u64, scratch: &mut Scratch) -> bool
+        ensures state { self.new ≡ reselect_all now self.old }
+        ensures quiet { IsFalse result → self.new ≡ self.old }
     {
         // The tables are in order.
         let _count = self.routes.len();
         let links = LinkCosts::new(&self.interfaces, &self.neighbours);
         scratch.gather_stale(&self.routes, &self.announced, &self.sources, &links);
         self.reselect_each(now, scratch);
+        !scratch.is_empty()
     }
 
     /// The same. If the speaker is settled, all selections are current, and there is nothing to do.
     #[tactic(auto, using(crate::proofs::Settling::settled_all, crate::proofs::Settling::current_all))]
-    fn reselect_unless(&mut self, settled: bool, now: u64, scratch: &mut Scratch)
+    fn reselect_unless(&mut self, settled: bool, now: u64, scratch: &mut Scratch) -> bool
         requires settled { IsTrue settled → AreCurrent self.old }
         ensures state { self.new ≡ reselect_all now self.old }
         ensures current { AreCurrent self.new }
+        ensures quiet { IsFalse result → self.new ≡ self.old }
     {
         // The tables are in order.
         let _count = self.routes.len();
         if settled {
-            return;
+            return false;
         }
-        self.reselect_all(now, scratch);
+        self.reselect_all(now, scratch)
     }
 
     /// The same after a change, or if there was none.
@@ -290,15 +301,16 @@ impl Core {
         settled: bool,
         now: u64,
         scratch: &mut Scratch,
-    )
+    ) -> bool
         requires settled { IsTrue settled → IsFalse changed → AreCurrent self.old }
         ensures state { self.new ≡ reselect_all now self.old }
         ensures current { AreCurrent self.new }
+        ensures quiet { IsFalse result → self.new ≡ self.old }
     {
         if changed {
-            self.reselect_unless(false, now, scratch);
+            self.reselect_unless(false, now, scratch)
         } else {
-            self.reselect_unless(settled, now, scratch);
+            self.reselect_unless(settled, now, scratch)
         }
     }
 
@@ -316,7 +328,8 @@ impl Core {
         self.reselect_each(now, scratch);
     }
 
-    /// Selects routes again after a change of the link to a neighbour. It leaves what a reselection of all leaves.
+    /// Selects routes again after a change of the link to a neighbour. It leaves what a reselection of all leaves. If it
+    /// returns `false`, nothing changed by it and the link didn't either.
     pub(crate) fn reselect_link(
         &mut self,
         change: LinkChange,
@@ -324,16 +337,20 @@ impl Core {
         now: u64,
         peer: &Peer,
         scratch: &mut Scratch,
-    )
+    ) -> bool
         requires nothing { IsTrue settled → change ≡ Nothing → AreCurrent self.old }
         requires cost { IsTrue settled → change ≡ Cost → AreOthersCurrent peer.now self.old }
         ensures state { self.new ≡ reselect_all now self.old }
         ensures current { AreCurrent self.new }
+        ensures quiet { IsFalse result → (change ≡ Nothing) × (self.new ≡ self.old) }
     {
         match change {
-            LinkChange::Nothing => self.reselect_unless(settled, now, scratch),
+            LinkChange::Nothing => return self.reselect_unless(settled, now, scratch),
             LinkChange::Cost if settled => self.reselect_from(now, peer, scratch),
-            _ => self.reselect_unless(false, now, scratch),
+            _ => {
+                self.reselect_unless(false, now, scratch);
+            }
         }
+        true
     }
 }

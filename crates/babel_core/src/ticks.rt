@@ -3,6 +3,7 @@
 ghost use Rattle.std.specs.Prelude.{◌≡◌, IsTrue, IsFalse};
 ghost use Rattle.babel_state.specs.Hellos.{forget_neighbour};
 ghost use Rattle.babel_state.specs.CurrentSelections.{AreCurrent};
+ghost use Rattle.babel_state.specs.KeptRoutes.{KeepsRoutes};
 ghost use Rattle.babel_parts.specs.TickItems.{all_timers_of};
 ghost use Rattle.babel_state.specs.State.{prefixes_in};
 ghost use Rattle.babel_state.specs.Ticks.{all_timer_items, routes_selected, forget_each, links_ticked, routes_ticked, requests_ticked, interfaces_ticked, sources_ticked, ticked};
@@ -34,11 +35,12 @@ impl Core {
 
     /// Takes the deadlines of Hellos and IHUs (RFC 8966, sections 3.4.1 and 3.4.2). Routes of flushed
     /// neighbours are removed. If it returns `false`, no neighbour was flushed and no cost changed, so that all selections
-    /// that were current are so.
+    /// that were current are so, and the selected routes are reported as before.
     #[tactic(auto, unfolding(babel_state::specs::Ticks::links_ticked))]
     pub(crate) fn tick_links(&mut self, now: u64) -> bool
         ensures state { self.new ≡ links_ticked now self.old }
         ensures quiet { IsFalse result → AreCurrent self.old → AreCurrent self.new }
+        ensures kept { IsFalse result → KeepsRoutes self.old self.new }
     {
         let keeps = self.neighbours.keep_costs(now);
         let mut gone = ArrayVec::new();
@@ -136,28 +138,39 @@ impl Core {
     }
 
     /// Takes the deadlines of Hellos, IHUs and routes, each followed by a reselection of all. If the speaker is
-    /// settled, it selects no route again unless a cost changes, a neighbour is flushed or a route is due.
+    /// settled, it selects no route again unless a cost changes, a neighbour is flushed or a route is due. If it returns
+    /// `false`, the selected routes are reported as before.
     #[tactic(auto, using(crate::proofs::Settling::still_current))]
-    fn tick_selections(&mut self, now: u64, settled: bool, scratch: &mut Scratch)
+    fn tick_selections(&mut self, now: u64, settled: bool, scratch: &mut Scratch) -> bool
         requires settled { IsTrue settled → AreCurrent self.old }
         ensures state { self.new ≡ routes_selected now self.old }
         ensures current { AreCurrent self.new }
+        ensures kept { IsFalse result → KeepsRoutes self.old self.new }
     {
         let changed = self.tick_links(now);
-        self.reselect_after(changed, settled, now, scratch);
+        let selected = self.reselect_after(changed, settled, now, scratch);
         let due = self.tick_routes(now);
         self.reselect_after(due, true, now, scratch);
+        changed || selected || due
     }
 
     /// Takes all that is due (RFC 8966, sections 3.2.5, 3.4, 3.5.4, 3.7.1 and 3.8.2.1). Returns whether the
-    /// speaker is settled then: all its selections are current.
+    /// speaker is settled then: all its selections are current. Unless `changed` is `true` then, the selected routes are
+    /// reported as before.
     #[tactic(auto, unfolding(babel_state::specs::Ticks::ticked), using(crate::proofs::Settling::timed_current))]
-    pub fn tick(&mut self, now: u64, settled: bool, scratch: &mut Scratch) -> bool
+    pub fn tick(
+        &mut self,
+        now: u64,
+        settled: bool,
+        changed: &mut bool,
+        scratch: &mut Scratch,
+    ) -> bool
         requires settled { IsTrue settled → AreCurrent self.old }
         ensures state { self.new ≡ ticked now self.old }
         ensures current { IsTrue result → AreCurrent self.new }
+        ensures kept { IsFalse changed.new → KeepsRoutes self.old self.new }
     {
-        self.tick_selections(now, settled, scratch);
+        *changed = self.tick_selections(now, settled, scratch);
         self.tick_requests(now);
         self.tick_interfaces(now, scratch);
         let collected = self.tick_sources(now);

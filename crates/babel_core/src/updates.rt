@@ -1,9 +1,10 @@
 //! Updates and retractions of a neighbour (RFC 8966, section 3.5.3).
 
-ghost use Rattle.std.specs.Prelude.{◌≡◌, false, Some, IsTrue, IsSome, IsNone, IfSome, is_none, if◌then◌else◌};
+ghost use Rattle.std.specs.Prelude.{◌≡◌, false, Some, IsTrue, IsFalse, IsSome, IsNone, IfSome, is_none, if◌then◌else◌};
 ghost use Rattle.babel_sources.specs.Distances.{is_feasible};
 ghost use Rattle.babel_state.specs.declared.notes.Verdict.TheVariants.{TableFull};
 ghost use Rattle.babel_state.specs.CurrentSelections.{AreCurrent};
+ghost use Rattle.babel_state.specs.KeptRoutes.{KeepsRoutes};
 ghost use Rattle.babel_state.specs.Reselection.{select};
 ghost use Rattle.babel_state.specs.State.{selected_at};
 ghost use Rattle.babel_state.specs.Updates.{store, is_satisfied, advertise_if_selected, satisfy_request, judge, is_route_too_many, handle_update, handle_retraction, handle_retract_all};
@@ -11,6 +12,7 @@ ghost use Rattle.babel_state.specs.Updates.{store, is_satisfied, advertise_if_se
 use crate::Core;
 use crate::causes::UnfeasibleUpdate;
 use babel_parts::Scratch;
+use babel_parts::reselection::are_alike;
 use babel_route::{Cursor, Selection};
 use babel_state::Verdict;
 use babel_value::{Addr, Distance, Peer, Prefix, RouterId, Seqno, Source};
@@ -151,7 +153,8 @@ impl Core {
         Some(self.select_near(&source.prefix, cursor))
     }
 
-    /// Stores an update and judges it against the distance that its source had.
+    /// Stores an update and judges it against the distance that its source had. Unless `changed` is `true` then, the
+    /// selected routes are reported as before.
     #[tactic(auto, unfolding(babel_state::specs::Reselection::reselect))]
     fn store_and_judge(
         &mut self,
@@ -159,15 +162,18 @@ impl Core {
         now: u64,
         update: &ReceivedUpdate,
         pair: &Option<Distance>,
+        changed: &mut bool,
         cursor: &mut Cursor,
     ) -> Verdict
         requires settled { IsTrue settled → AreCurrent self.old }
-        ensures { (self.new, result) ≡ (if is_route_too_many update.now.source.prefix update.now.peer self.old then (self.old, TableFull) else judge now update.now.peer update.now.source.prefix update.now.source.router update.now.distance pair.now (store now update.now.peer update.now.source.prefix update.now.source.router update.now.next_hop update.now.distance update.now.interval self.old)) }
+        ensures kept { IsFalse changed.new → KeepsRoutes self.old self.new }
+        ensures state { (self.new, result) ≡ (if is_route_too_many update.now.source.prefix update.now.peer self.old then (self.old, TableFull) else judge now update.now.peer update.now.source.prefix update.now.source.router update.now.distance pair.now (store now update.now.peer update.now.source.prefix update.now.source.router update.now.next_hop update.now.distance update.now.interval self.old)) }
     {
         let source = update.source;
         let Some((old, new)) = self.store_and_select(settled, now, update, cursor) else {
             return Verdict::TableFull;
         };
+        *changed = !are_alike(&old, &new);
         if let Some(pair) = pair {
             if !is_feasible(pair, &update.distance) {
                 let cause = UnfeasibleUpdate {
@@ -185,7 +191,8 @@ impl Core {
 
     /// Handles an update with a finite metric (RFC 8966, section 3.5.3). If the speaker is settled, all selections are
     /// current, and an update that repeats what is known takes no new choice. The searches begin at the cursor, which
-    /// goes to the prefix: the updates of a datagram mostly are in the order of their prefixes.
+    /// goes to the prefix: the updates of a datagram mostly are in the order of their prefixes. Unless `changed` is `true`
+    /// then, the selected routes are reported as before.
     #[tactic(auto, unfolding(babel_state::specs::Updates::handle_update))]
     pub fn handle_update(
         &mut self,
@@ -197,10 +204,12 @@ impl Core {
         distance: Distance,
         interval: u16,
         settled: bool,
+        changed: &mut bool,
         cursor: &mut Cursor,
     ) -> Verdict
         requires settled { IsTrue settled → AreCurrent self.old }
-        ensures { (self.new, result) ≡ handle_update now peer.now prefix.now router next_hop distance interval self.old }
+        ensures kept { IsFalse changed.new → KeepsRoutes self.old self.new }
+        ensures state { (self.new, result) ≡ handle_update now peer.now prefix.now router next_hop distance interval self.old }
     {
         if router.cmp(&self.router).is_eq() {
             return Verdict::OwnRouterId;
@@ -216,22 +225,25 @@ impl Core {
             interval,
         };
         let pair = self.sources.pair_near(&update.source, &mut cursor.source);
-        self.store_and_judge(settled, now, &update, &pair, cursor)
+        self.store_and_judge(settled, now, &update, &pair, changed, cursor)
     }
 
-    /// Handles a retraction of a prefix (RFC 8966, section 3.5.3).
+    /// Handles a retraction of a prefix (RFC 8966, section 3.5.3). Unless `changed` is `true` then, the selected routes
+    /// are reported as before.
     #[tactic(auto, unfolding(babel_state::specs::Updates::handle_retraction))]
     pub fn handle_retraction(
         &mut self,
         now: u64,
         peer: &Peer,
         prefix: &Prefix,
+        changed: &mut bool,
         cursor: &mut Cursor,
     ) -> Verdict
-        ensures { (self.new, result) ≡ handle_retraction now peer.now prefix.now self.old }
+        ensures state { (self.new, result) ≡ handle_retraction now peer.now prefix.now self.old }
+        ensures kept { IsFalse changed.new → KeepsRoutes self.old self.new }
     {
         if self.routes.retract(now, prefix, peer) {
-            self.reselect_near(now, None, prefix, cursor);
+            *changed = self.reselect_near(now, None, prefix, cursor);
             Verdict::Taken
         } else {
             Verdict::NoEntry

@@ -2,7 +2,7 @@
 
 use babel_net::Event;
 use babel_network::Network;
-use babel_route::{ROUTE_PLACES, Selection};
+use babel_route::Selection;
 use babel_state::Config;
 use babel_text::LineFault;
 use babel_value::{Peer, Prefix, RouterId};
@@ -32,28 +32,12 @@ struct Route {
 /// What is kept of a node and a prefix.
 #[derive(Clone, Copy, Debug)]
 struct Kept {
-    /// The selected route after the node's last event.
+    /// The selected route after the node's last event. A new speaker has none.
     route: Option<Route>,
     /// Whether the event changed the route.
     is_changed: bool,
     /// The next hop that was printed last.
     printed: Option<Hop>,
-}
-
-/// A selected route.
-#[derive(Clone, Copy, Debug)]
-struct Seen {
-    prefix: Prefix,
-    route: Route,
-}
-
-/// What is kept of a node.
-#[derive(Drop)]
-struct NodeHops {
-    /// The selected routes after the node's last event, in the order of their prefixes.
-    seen: Vec<Seen>,
-    /// What is kept of each prefix, by its index in `Hops::prefixes`.
-    kept: Vec<Kept>,
 }
 
 /// For each node and then each prefix the next hop that was printed last.
@@ -63,8 +47,8 @@ pub(crate) struct Hops {
     prefixes: Vec<Prefix>,
     /// The same in ascending order, each with its index in `prefixes`.
     ascending: Vec<(Prefix, usize)>,
-    /// What is kept of each node.
-    nodes: Vec<NodeHops>,
+    /// What is kept of each node, and then of each prefix, by its index in `prefixes`.
+    nodes: Vec<Vec<Kept>>,
 }
 
 impl Hops {
@@ -84,7 +68,8 @@ impl Hops {
         })
     }
 
-    /// Writes each next hop of the event's node that changed in the event.
+    /// Writes each next hop of the event's node that changed in the event. It is called after each event that may have
+    /// changed a selected route.
     pub(crate) fn write_changes<W: Write>(
         &mut self,
         number: usize,
@@ -92,20 +77,14 @@ impl Hops {
         network: &Network,
         out: &mut W,
     ) -> Result<(), LineFault> {
-        let Some(node) = changed_node(event) else {
-            return Ok(());
-        };
+        let node = node_of(event);
         let Some(hops) = self.nodes.get_mut(node) else {
             return Ok(());
         };
-        if are_same(network, node, hops.seen.as_slice()) {
+        if !see_routes(network, node, self.ascending.as_slice(), hops) {
             return Ok(());
         }
-        see_all(network, node, &mut hops.seen);
-        if !see_routes(network, node, self.ascending.as_slice(), &mut hops.kept) {
-            return Ok(());
-        }
-        for (prefix, kept) in self.prefixes.iter().zip(hops.kept.iter_mut()) {
+        for (prefix, kept) in self.prefixes.iter().zip(hops.iter_mut()) {
             if kept.is_changed {
                 kept.is_changed = false;
                 let hop = hop_of(network, node, prefix);
@@ -144,7 +123,7 @@ fn ascending_of(alloc: Global, prefixes: &[Prefix]) -> Result<Vec<(Prefix, usize
     Ok(ascending)
 }
 
-fn no_hops(alloc: Global, prefixes: usize) -> Result<NodeHops, AllocError> {
+fn no_hops(alloc: Global, prefixes: usize) -> Result<Vec<Kept>, AllocError> {
     let mut kept = Vec::with_capacity(alloc, prefixes)?;
     for _ in 0..prefixes {
         kept.push(Kept {
@@ -153,44 +132,7 @@ fn no_hops(alloc: Global, prefixes: usize) -> Result<NodeHops, AllocError> {
             printed: None,
         })?;
     }
-    let seen = Vec::with_capacity(alloc, ROUTE_PLACES)?;
-    Ok(NodeHops { seen, kept })
-}
-
-/// Whether the selected routes of the node are still these. After most events they are.
-fn are_same(network: &Network, node: usize, seen: &[Seen]) -> bool {
-    for (place, seen) in seen.iter().enumerate() {
-        if !is_seen(seen, &network.selection_at(node, place)) {
-            return false;
-        }
-    }
-    network.selection_at(node, seen.len()).is_none()
-}
-
-/// The orders compare octets as numbers, which is faster than `==`.
-fn is_seen(seen: &Seen, found: &Option<(Prefix, Selection)>) -> bool {
-    match found {
-        Some((prefix, selection)) => {
-            seen.prefix.cmp(prefix).is_eq()
-                && seen.route.peer.cmp(&selection.peer).is_eq()
-                && seen.route.router.cmp(&selection.entry.router).is_eq()
-        }
-        None => false,
-    }
-}
-
-/// Makes the list that of the selected routes of the node. It has room for as many as there may be.
-fn see_all(network: &Network, node: usize, seen: &mut Vec<Seen>) {
-    seen.clear();
-    for place in 0..seen.capacity() {
-        let Some((prefix, Selection { peer, entry })) = network.selection_at(node, place) else {
-            return;
-        };
-        let router = entry.router;
-        let route = Route { peer, router };
-        // There is room.
-        let _ = seen.push(Seen { prefix, route });
-    }
+    Ok(kept)
 }
 
 /// Looks at all selected routes of the node, in one walk over them. Returns whether one changed.
@@ -270,16 +212,16 @@ fn write_hop<W: Write>(
     written.map_err(LineFault::of_writing)
 }
 
-/// The node whose selected routes an event may change. Sending a datagram changes none.
-fn changed_node(event: &Event) -> Option<usize> {
+/// The node that an event is of. An event of a node changes the selected routes of no other.
+fn node_of(event: &Event) -> usize {
     match event {
-        Event::Emit { .. } => None,
         Event::Tick { node, .. }
+        | Event::Emit { node, .. }
         | Event::Deliver { node, .. }
         | Event::SetCost { node, .. }
         | Event::Raise { node }
         | Event::Announce { node, .. }
         | Event::Withdraw { node, .. }
-        | Event::Restart { node, .. } => Some(*node),
+        | Event::Restart { node, .. } => *node,
     }
 }

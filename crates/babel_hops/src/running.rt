@@ -60,14 +60,17 @@ fn write_events<W: Write>(
 ) -> Result<Status, LineFault> {
     let mut datagrams = 0;
     for (number, event) in events.iter().enumerate() {
-        if let Err(fault) = network.step(event) {
+        let mut changed = false;
+        if let Err(fault) = network.step_tracked(event, &mut changed) {
             write_refused(number, fault, out)?;
             return Ok(Status::Refused);
         }
         if network.sent(datagrams).is_some() {
             datagrams = datagrams.saturating_add(1);
         }
-        hops.write_changes(number, event, network, out)?;
+        if changed {
+            hops.write_changes(number, event, network, out)?;
+        }
     }
     writeln!(out, "end {} events {datagrams} datagrams", events.len()).map_err(
         LineFault::of_writing,

@@ -50,8 +50,16 @@ verdict_after (contents.Message message) verdict = codes " " ++ verdict_text ver
 verdict_after contents.State verdict = codes ""
 verdict_after (contents.Ignored reason) verdict = codes ""
 
-abbrev pub note_text : ℕ → Placed → Verdict → List ℕ
-note_text time placed verdict = decimal time ++ codes " " ++ placed_text placed ++ verdict_after placed.content verdict
+-- The line of a TLV: the moment, and what became of it.
+abbrev pub moment_text : ℕ → List ℕ
+moment_text time = decimal time ++ codes " "
+
+abbrev pub tlv_line : Placed → Verdict → List ℕ
+tlv_line placed verdict = line (placed_text placed ++ verdict_after placed.content verdict)
+
+-- the greatest number of octets of a moment: 20 digits and a blank
+abbrev pub longest_moment : ℕ
+longest_moment = 21
 
 -- a refused datagram, with the offset after P5
 abbrev pub refusal_text : RecvFault → List ℕ

@@ -10,5 +10,5 @@ mod parts;
 mod routes;
 
 pub use choices::{Choice, select_line, table_line};
-pub use notes::{cost_refused_line, note_line, out_line, refused_line};
+pub use notes::{cost_refused_line, moment_line, out_line, push_tlv, refused_line};
 pub use routes::{RouteLine, RouteStatus, route_line};

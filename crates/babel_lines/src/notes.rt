@@ -3,24 +3,32 @@
 ghost use Rattle.std.specs.Prelude.{◌≡◌, ◌+◌, ◌≤◌, ◌++◌, length};
 ghost use Rattle.babel_value.specs.Lines.{line_room};
 ghost use Rattle.babel_state.specs.Codes.{set_cost_code};
-ghost use Rattle.babel_lines.specs.Texts.{cost_refused_text, line, note_text, out_text, refusal_text, refused_text, target_text, verdict_after, verdict_text};
+ghost use Rattle.babel_lines.specs.Texts.{cost_refused_text, line, longest_moment, moment_text, out_text, refusal_text, refused_text, target_text, tlv_line, verdict_after, verdict_text};
 
 use crate::parts::push_distance;
 use babel_packet::{Content, Placed};
 use babel_state::{RecvFault, SetCostFault, Target, Verdict};
 use babel_value::Line;
 
-/// What became of a TLV: a message with its verdict, `state`, or `ignored` and the reason.
-pub fn note_line(time: u64, placed: &Placed, verdict: &Verdict) -> Line
-    ensures { result ≡ line (note_text time placed.now verdict.now) }
+/// The moment with which each line of a datagram begins.
+pub fn moment_line(time: u64) -> Line
+    ensures text { result ≡ moment_text time }
+    ensures short { length result ≤ longest_moment }
 {
     let mut line = Line::new();
     line.push_u64(time);
     line.push_str(" ");
-    placed.push_to(&mut line);
-    push_verdict_after(&mut line, &placed.content, verdict);
-    line.push_str("\n");
     line
+}
+
+/// Appends what became of a TLV to the moment: a message with its verdict, `state`, or `ignored` and the reason.
+pub fn push_tlv(line: &mut Line, placed: &Placed, verdict: &Verdict)
+    requires room { length line.old ≤ longest_moment }
+    ensures { line.new ≡ line.old ++ tlv_line placed.now verdict.now }
+{
+    placed.push_to(line);
+    push_verdict_after(line, &placed.content, verdict);
+    line.push_str("\n");
 }
 
 /// Appends the verdict after a message.

@@ -1,4 +1,5 @@
 mod SeenWorlds
+mod KeptSelectedRoutes
 mod FewPrefixes
 mod HappeningEvents
 mod KeptNetworks

@@ -1,10 +1,11 @@
 //! The calls of one speaker of a network.
 
-ghost use Rattle.std.specs.Prelude.{◌≡◌, None, true, false, option_map, if◌then◌else◌, IfOk, IfErr, OnOk, OnErr};
+ghost use Rattle.std.specs.Prelude.{◌≡◌, None, true, false, option_map, if◌then◌else◌, IfOk, IfErr, OnOk, OnErr, IsFalse};
 ghost use Rattle.babel_value.specs.Prefixes.{PrefixValue};
 ghost use Rattle.babel_state.specs.Addresses.{source_fault};
 ghost use Rattle.babel_state.specs.Calls.{is_prefix_too_many, set_cost_fault, cost_set, announced_also, withdrawn};
 ghost use Rattle.babel_state.specs.Configs.{config_fault};
+ghost use Rattle.babel_state.specs.KeptRoutes.{KeepsRoutes};
 ghost use Rattle.babel_state.specs.Restarts.{restarted};
 ghost use Rattle.babel_state.specs.State.{announces};
 ghost use Rattle.babel_state.specs.Invariants.{IsWellFormed};
@@ -39,26 +40,43 @@ pub(crate) fn node_of(event: &Event) -> usize
     }
 }
 
-/// Makes the event's step of its node's speaker, if it is a call that takes no memory.
-pub(crate) fn call(speaker: &mut Speaker, config: &Config, event: &Event) -> Result<(), StepFault>
+/// Makes the event's step of its node's speaker, if it is a call that takes no memory. If `changed` is `false` then, the
+/// selected routes are reported as before. Of the calls only a tick can leave it `false`.
+pub(crate) fn call(
+    speaker: &mut Speaker,
+    config: &Config,
+    event: &Event,
+    changed: &mut bool,
+) -> Result<(), StepFault>
     requires { (prefix : PrefixValue) → has_prefix prefix config.now.prefixes.items ≡ true → is_prefix_too_many prefix speaker.old ≡ false }
     ensures ok { OnOk result (speaker.new ≡ step_of event.now speaker.old) }
     ensures accepted { OnOk result (call_fault config.now speaker.old event.now ≡ None) }
     ensures refused { IfErr result (λ fault. call_fault config.now speaker.old event.now ≡ Some fault) }
     ensures err { OnErr result (speaker.new ≡ speaker.old) }
+    ensures kept { IsFalse changed.new → KeepsRoutes speaker.old speaker.new }
 {
     match *event {
         Event::Tick { now, .. } => {
-            speaker.tick(now);
+            speaker.tick_tracked(now, changed);
             Ok(())
         }
-        Event::SetCost { iface, cost, .. } => set_cost(speaker, iface, cost),
+        Event::SetCost { iface, cost, .. } => {
+            *changed = true;
+            set_cost(speaker, iface, cost)
+        }
         Event::Raise { .. } => {
+            *changed = true;
             speaker.raise();
             Ok(())
         }
-        Event::Announce { prefix, .. } => announce(speaker, config, prefix),
-        Event::Withdraw { prefix, .. } => withdraw(speaker, config, prefix),
+        Event::Announce { prefix, .. } => {
+            *changed = true;
+            announce(speaker, config, prefix)
+        }
+        Event::Withdraw { prefix, .. } => {
+            *changed = true;
+            withdraw(speaker, config, prefix)
+        }
         Event::Emit { .. } => Ok(()),
         Event::Deliver { .. } => Ok(()),
         Event::Restart { .. } => Ok(()),
@@ -132,6 +150,7 @@ pub(crate) fn send(
 ) -> Option<Addr>
     requires { IsWellFormed speaker.old }
     ensures state { speaker.new ≡ (next_of now speaker.old).state }
+    ensures kept { KeepsRoutes speaker.old speaker.new }
     ensures sent { IsSent node speaker.old (next_of now speaker.old) (next_of now speaker.old).target (option_map (λ source. record { node = node; source = source; octets = octets.new.items }) result) }
 {
     datagrams_send();
@@ -144,21 +163,23 @@ pub(crate) fn send(
 }
 
 /// The speaker receives a recorded datagram over an interface. From an address that the interface takes no
-/// datagrams from, nothing is received.
+/// datagrams from, nothing is received. If `changed` is `false` then, the selected routes are reported as before.
 #[tactic(auto, unfolding(babel_state::specs::Addresses::source_fault))]
 pub(crate) fn receive(
     speaker: &mut Speaker,
     sent: &Sent<'_>,
     iface: u8,
     now: u64,
+    changed: &mut bool,
 ) -> Result<(), StepFault>
     requires { IsReadable sent.now }
     ensures ok { OnOk result (Received now iface sent.now (source_fault iface sent.now.source speaker.old) speaker.old speaker.new) }
     ensures accepted { OnOk result (interface_fault iface speaker.old ≡ None) }
     ensures refused { IfErr result (IsFaultOrMemory (interface_fault iface speaker.old)) }
     ensures err { OnErr result (speaker.new ≡ speaker.old) }
+    ensures kept { IsFalse changed.new → KeepsRoutes speaker.old speaker.new }
 {
-    match speaker.receive(now, iface, sent.source(), sent.octets()) {
+    match speaker.receive_tracked(now, iface, sent.source(), sent.octets(), changed) {
         Ok(_) => Ok(()),
         Err(RecvFault::NoInterface) => Err(StepFault::NoInterface),
         Err(RecvFault::ForeignSource) => Ok(()),

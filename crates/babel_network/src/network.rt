@@ -3,7 +3,7 @@
 //! An event costs what its speaker's call costs. The owner of an address is looked up in an ordered map,
 //! which `Network::new` makes.
 
-ghost use Rattle.std.specs.Prelude.{◌≡◌, ◌↔◌, None, length, slice_get, option_map, IfOk, IfErr, IfSome, IsOk, IsNone, OnOk, OnErr};
+ghost use Rattle.std.specs.Prelude.{◌≡◌, ◌↔◌, None, length, slice_get, option_map, IfOk, IfErr, IfSome, IsOk, IsNone, OnOk, OnErr, IsFalse};
 ghost use Rattle.std.specs.BTreeMap.{get};
 ghost use Rattle.std.specs.Option.{option_and_then};
 ghost use Rattle.babel_value.specs.Orders.{addr_cmp};
@@ -50,6 +50,7 @@ impl Model for Network {
 impl Network {
     ghost use Rattle.babel_network.specs.EventRefusals.{step_fault, IsStepFault};
     ghost use Rattle.babel_network.specs.Invariants.{IsNetwork};
+    ghost use Rattle.babel_network.specs.KeptRoutes.{KeepsSelectedRoutes};
     ghost use Rattle.babel_network.specs.Making.{IsMakingFault};
     ghost use Rattle.babel_network.specs.Networks.{world_of};
     ghost use Rattle.babel_network.specs.Promises.{first_network, HasNoLoop, HasNoLoopWithOneOrigin, Runs, IsNextHop, Ran, StopsAt};
@@ -94,10 +95,31 @@ impl Network {
         ensures no_loop { HasNoLoop self.new }
         ensures one_origin { HasNoLoopWithOneOrigin self.new }
     {
+        let mut changed = false;
+        self.step_tracked(event, &mut changed)
+    }
+
+    /// The same. If `changed` is `false` then, the selected routes are reported as before: [`Network::next_hop`] and
+    /// [`Network::router`] return of each node and prefix what they returned.
+    ///
+    /// # Errors
+    ///
+    /// Those of [`Network::step`].
+    pub fn step_tracked(&mut self, event: &Event, changed: &mut bool) -> Result<(), StepFault>
+        ensures event { OnOk result (Makes event.now self.old self.new) }
+        ensures accepted { OnOk result (step_fault event.now self.old ≡ None) }
+        ensures refused { IfErr result (IsStepFault (step_fault event.now self.old) event.now self.old) }
+        ensures err { OnErr result (self.new ≡ self.old) }
+        ensures invariant { IsNetwork self.new }
+        ensures run { OnOk result (Runs self.old self.new) }
+        ensures no_loop { HasNoLoop self.new }
+        ensures one_origin { HasNoLoopWithOneOrigin self.new }
+        ensures kept { IsFalse changed.new → KeepsSelectedRoutes self.old self.new }
+    {
         networks_go_on();
         events_are_machine_runs();
         sound_networks_have_no_loop();
-        self.nodes.step(event)
+        self.nodes.step(event, changed)
     }
 
     /// Makes the steps of some events, up to the first that is refused.

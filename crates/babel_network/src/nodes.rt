@@ -1,6 +1,6 @@
 //! The nodes of a network: their speakers, and the datagrams that they sent.
 
-ghost use Rattle.std.specs.Prelude.{◌≡◌, ◌<◌, ◌≤◌, All, None, length, slice_get, map, option_map, vec_len, vec_capacity, IfOk, IfErr, IfSome, IsNone, OnOk, OnErr};
+ghost use Rattle.std.specs.Prelude.{◌≡◌, ◌<◌, ◌≤◌, All, None, length, slice_get, map, option_map, vec_len, vec_capacity, IfOk, IfErr, IfSome, IsNone, OnOk, OnErr, IsFalse};
 ghost use Rattle.std.specs.Option.{option_and_then};
 ghost use Rattle.babel_value.specs.Seqnos.{seqno_modulus};
 ghost use Rattle.babel_state.specs.declared.configs.Config.{Config};
@@ -9,6 +9,7 @@ ghost use Rattle.babel_state.specs.Calls.{first_state, selected_route};
 ghost use Rattle.babel_net.specs.Acceptance.{first_bad_from};
 ghost use Rattle.babel_network.specs.EventRefusals.{deliver_fault, step_fault, IsFaultOrMemory, IsStepFault};
 ghost use Rattle.babel_network.specs.Invariants.{IsNetwork};
+ghost use Rattle.babel_network.specs.KeptRoutes.{KeepsSelectedRoutes};
 ghost use Rattle.babel_network.specs.Making.{IsOutOfMemory};
 ghost use Rattle.babel_network.specs.Promises.{first_network};
 ghost use Rattle.babel_network.specs.Steps.{Makes, MakesEmit, MakesDeliver, MakesRestart};
@@ -57,14 +58,16 @@ impl Nodes {
         })
     }
 
-    /// Makes the event's step, or refuses it and changes nothing.
+    /// Makes the event's step, or refuses it and changes nothing. If `changed` is `false` then, the selected routes are
+    /// reported as before. Only a tick, and a datagram that is sent or received, can leave it `false`.
     #[tactic(auto, unfolding(crate::specs::EventRefusals::step_fault))]
-    pub fn step(&mut self, event: &Event) -> Result<(), StepFault>
+    pub fn step(&mut self, event: &Event, changed: &mut bool) -> Result<(), StepFault>
         requires { IsNetwork self.old }
         ensures ok { OnOk result (Makes event.now self.old self.new) }
         ensures accepted { OnOk result (step_fault event.now self.old ≡ None) }
         ensures refused { IfErr result (IsStepFault (step_fault event.now self.old) event.now self.old) }
         ensures err { OnErr result (self.new ≡ self.old) }
+        ensures kept { IsFalse changed.new → KeepsSelectedRoutes self.old self.new }
     {
         let node = node_of(event);
         if node >= self.speakers.len() {
@@ -77,9 +80,17 @@ impl Nodes {
                 iface,
                 now,
                 ..
-            } => self.deliver(datagram, node, iface, now),
-            Event::Restart { now, .. } => self.restart(node, now),
-            _ => call(&mut self.speakers[node], &self.configs[node], event),
+            } => self.deliver(datagram, node, iface, now, changed),
+            Event::Restart { now, .. } => {
+                *changed = true;
+                self.restart(node, now)
+            }
+            _ => call(
+                &mut self.speakers[node],
+                &self.configs[node],
+                event,
+                changed,
+            ),
         }
     }
 
@@ -90,6 +101,7 @@ impl Nodes {
         ensures ok { OnOk result (MakesEmit node now self.old self.new) }
         ensures refused { IfErr result (λ fault. fault ≡ StepFault.Memory) }
         ensures err { OnErr result (self.new ≡ self.old) }
+        ensures kept { KeepsSelectedRoutes self.old self.new }
     {
         match self.sent.record_next(&mut self.speakers[node], node, now) {
             Ok(()) => Ok(()),
@@ -97,19 +109,27 @@ impl Nodes {
         }
     }
 
-    /// The node receives the recorded datagram.
-    fn deliver(&mut self, number: usize, node: usize, iface: u8, now: u64) -> Result<(), StepFault>
+    /// The node receives the recorded datagram. If `changed` is `false` then, the selected routes are reported as before.
+    fn deliver(
+        &mut self,
+        number: usize,
+        node: usize,
+        iface: u8,
+        now: u64,
+        changed: &mut bool,
+    ) -> Result<(), StepFault>
         requires inside { node < length self.old.speakers }
         requires sound { IsNetwork self.old }
         ensures ok { OnOk result (MakesDeliver number node iface now self.old self.new) }
         ensures accepted { OnOk result ((speaker : State) → slice_get self.old.speakers node ≡ Some speaker → deliver_fault number iface speaker self.old ≡ None) }
         ensures refused { IfErr result (λ fault. (speaker : State) → slice_get self.old.speakers node ≡ Some speaker → IsFaultOrMemory (deliver_fault number iface speaker self.old) fault) }
         ensures err { OnErr result (self.new ≡ self.old) }
+        ensures kept { IsFalse changed.new → KeepsSelectedRoutes self.old self.new }
     {
         let Some(sent) = self.sent.get(number) else {
             return Err(StepFault::NoDatagram);
         };
-        receive(&mut self.speakers[node], &sent, iface, now)
+        receive(&mut self.speakers[node], &sent, iface, now, changed)
     }
 
     /// The node's speaker is saved, and restored with its configuration.

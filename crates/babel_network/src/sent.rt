@@ -2,6 +2,7 @@
 
 ghost use Rattle.std.specs.Prelude.{◌≡◌, ◌<◌, ◌≤◌, ◌+◌, ◌++◌, [], ◌∷◌, slice_get, length, vec_len, vec_capacity, OnOk, OnErr, IfErr};
 ghost use Rattle.babel_state.specs.Invariants.{IsWellFormed};
+ghost use Rattle.babel_state.specs.KeptRoutes.{KeepsRoutes};
 ghost use Rattle.babel_network.specs.Recording.{IsWithin, IsRecorded, datagram_in};
 ghost use Rattle.babel_network.specs.Steps.{next_of};
 
@@ -112,6 +113,7 @@ impl Record {
     ) -> Result<(), StepFault>
         requires { IsWellFormed speaker.old }
         ensures state { OnOk result (speaker.new ≡ (next_of now speaker.old).state) }
+        ensures kept { KeepsRoutes speaker.old speaker.new }
         ensures sent { OnOk result (IsRecorded node now speaker.old self.old self.new) }
         ensures refused { IfErr result (λ fault. fault ≡ StepFault.Memory) }
         ensures err { OnErr result ((self.new ≡ self.old) × (speaker.new ≡ speaker.old)) }

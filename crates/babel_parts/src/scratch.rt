@@ -1,6 +1,6 @@
 //! Room for a list of prefixes in ascending order, which some calls need while they run.
 
-ghost use Rattle.std.specs.Prelude.{◌≡◌, ◌&&◌, ◌≤◌, ◌<◌, ◌+◌, ◌++◌, [], length, filter, map, IfOk, IsTrue};
+ghost use Rattle.std.specs.Prelude.{◌≡◌, ◌↔◌, ◌&&◌, ◌≤◌, ◌<◌, ◌+◌, ◌++◌, [], length, filter, map, IfOk, IsTrue};
 ghost use Rattle.std.specs.FinMap.{put, is_sorted};
 ghost use Rattle.babel_value.specs.Orders.{prefix_cmp};
 ghost use Rattle.babel_value.specs.Prefixes.{PrefixValue};
@@ -53,6 +53,13 @@ impl Scratch {
         ensures { result ≡ prefixes_in self.now }
     {
         Prefixes::new(&self.table)
+    }
+
+    /// Whether it has no prefix.
+    pub fn is_empty(&self) -> bool
+        ensures { IsTrue result ↔ (self.now ≡ []) }
+    {
+        self.table.len() == 0
     }
 
     /// Empties the set.

@@ -4,7 +4,7 @@ pub mod Lines
 pub mod Logs
 pub mod MessageCounts
 pub mod Printing
-pub mod Remembering
+pub mod Unchanged
 pub mod Routing
 pub mod Seeing
 pub mod Sending

@@ -15,7 +15,7 @@ use Rattle.babel_replay.specs.declared.stepping.Outcome.{Outcome}
 use Rattle.babel_replay.specs.declared.stepping.Outcome.TheVariants as outcomes
 use Rattle.babel_replay.specs.Stepping.{Steps}
 use Rattle.babel_replay.specs.Seen.{SeenPrefix, choice_at, is_same_choice, seen_after, printed_all}
-use Rattle.babel_lines.specs.Texts.{line, note_text, refused_text, cost_refused_text, select_text, table_text, out_text}
+use Rattle.babel_lines.specs.Texts.{line, moment_text, tlv_line, refused_text, cost_refused_text, select_text, table_text, out_text}
 
 -- ---- what became of the line itself
 
@@ -34,7 +34,7 @@ IsDecoded (actions.Receive iface source octets) placed = meaning octets.now sour
 IsDecoded action placed = ⊥
 
 abbrev pub note_line : ℕ → Placed × Note → List ℕ
-note_line time (placed, note) = line (note_text time placed note.verdict)
+note_line time (placed, note) = moment_text time ++ tlv_line placed note.verdict
 
 abbrev pub note_lines : ℕ → List Placed → List Note → List ℕ
 note_lines time placed notes = flat_map (note_line time) (zip placed notes)

@@ -1,25 +1,20 @@
 -- The prefixes that a replay has seen, and the routes that are printed of them (profile).
-use Rattle.std.specs.Prelude.{◌≡◌, ℕ, Bool, true, false, ◌&&◌, List, [], ◌∷◌, map, count_by, nat_eq, Option, Some, None, is_some, IfSome, if◌then◌else◌}
+use Rattle.std.specs.Prelude.{◌≡◌, ℕ, Bool, true, false, ◌&&◌, List, [], ◌∷◌, map, count_by, nat_eq, Option, Some, None, is_some, if◌then◌else◌}
 use Rattle.std.specs.Cmp.Lexicographic.{pointwise}
 use Rattle.std.specs.Option.{option_map, option_map_or}
-use Rattle.std.specs.FinMap.{find}
-use Rattle.babel_value.specs.declared.keys.Peer.{Peer}
-use Rattle.babel_value.specs.Orders.{prefix_cmp}
 use Rattle.babel_value.specs.Prefixes.{PrefixValue}
 use Rattle.babel_packet.specs.declared.messages.Message.TheVariants as messages
 use Rattle.babel_packet.specs.declared.placements.Content.{Content}
 use Rattle.babel_packet.specs.declared.placements.Content.TheVariants as contents
 use Rattle.babel_packet.specs.declared.placements.Placed.{Placed}
-use Rattle.babel_route.specs.declared.routes.entries.Selection.{Selection}
 use Rattle.babel_state.specs.declared.notes.Note.{Note}
 use Rattle.babel_state.specs.declared.notes.Verdict.{Verdict}
 use Rattle.babel_state.specs.declared.notes.Verdict.TheVariants as verdicts
 use Rattle.babel_state.specs.declared.selected.Selected.{Selected}
-use Rattle.babel_state.specs.Calls.{reported_selected, selected_route}
+use Rattle.babel_state.specs.Calls.{selected_route}
 use Rattle.babel_state.specs.Sameness.{is_same_peer, is_same_prefix}
-use Rattle.babel_state.specs.State.{State, cost_at}
+use Rattle.babel_state.specs.State.{State}
 use Rattle.babel_lines.specs.declared.choices.Choice.{Choice}
-use Rattle.babel_replay.specs.declared.seen.LastCosts.{LastCosts}
 
 -- ---- what is printed of a route
 
@@ -38,14 +33,6 @@ is_same_choice None None = true
 is_same_choice None (Some b) = false
 is_same_choice (Some a) None = false
 is_same_choice (Some a) (Some b) = is_same_route a b
-
--- What is printed of a selection.
-abbrev pub printed_choice : State → PrefixValue × Selection → PrefixValue × Choice
-printed_choice s (prefix, route) = (prefix, choice_of (reported_selected prefix s route))
-
--- Of all selections, in the order of their prefixes.
-abbrev pub choices_in : State → List (PrefixValue × Choice)
-choices_in s = map (printed_choice s) s.routes.selections
 
 -- ---- the seen prefixes
 
@@ -92,20 +79,13 @@ printed s e = (e.0, choice_printed s e)
 abbrev pub printed_all : State → List SeenPrefix → List SeenPrefix
 printed_all s es = map (printed s) es
 
+-- What was last printed of each is its selected route. After each line it is so.
+abbrev pub ArePrinted : State → List SeenPrefix → Type 0
+ArePrinted s es = es ≡ printed_all s es
+
 -- ---- what the code keeps of them
 
 -- The seen prefixes, and for how many more there is room.
 pub record SeenTable : Type 0 where
   pub entries : List SeenPrefix
   pub room : ℕ
-
--- What was last printed of each is found in this list.
-abbrev pub ArePrinted : List (PrefixValue × Choice) → List SeenPrefix → Type 0
-ArePrinted choices es = es ≡ map (λ e. (e.0, find prefix_cmp e.0 choices)) es
-
--- The cost of a link that was looked up, if one was, is still that of the state.
-abbrev pub IsCostOf : State → Option (Peer × ℕ) → Type 0
-IsCostOf s found = IfSome found (λ (peer, cost). cost ≡ cost_at s peer)
-
-abbrev pub AreCosts : State → LastCosts → Type 0
-AreCosts s last = IsCostOf s last.one × IsCostOf s last.other

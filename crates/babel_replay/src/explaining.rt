@@ -151,7 +151,8 @@ fn take_event(speaker: &mut Speaker, event: &Event<'_>) -> Result<(), LineFault>
     ensures memory { IfErr result (λ fault. fault ≡ LineFault.Memory) }
     ensures unchanged { OnErr result (speaker.new ≡ speaker.old) }
 {
-    match step(speaker, event, &[], false) {
+    let mut changed = false;
+    match step(speaker, event, &[], false, &mut changed) {
         Ok(_) => {
             send_datagrams(speaker, event.time);
             Ok(())

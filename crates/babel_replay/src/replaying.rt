@@ -1,16 +1,17 @@
 //! A log replayed: what the speaker makes of each line.
 
-ghost use Rattle.std.specs.Prelude.{◌≡◌, ◌≢◌, ◌≤◌, ◌⊎◌, [], length, slice_get, Err, IsOk, IsNone, OnOk, IfOk, IfErr, IsTrue, MatchOption};
+ghost use Rattle.std.specs.Prelude.{◌≡◌, ◌≢◌, ◌≤◌, ◌⊎◌, [], length, slice_get, Err, IsOk, IsNone, OnOk, IfOk, IfErr, IsTrue, IsFalse, MatchOption};
 ghost use Rattle.std.specs.Io.KnownBytes.{Appends};
 ghost use Rattle.std.specs.Option.{option_map_or};
 ghost use Rattle.indexmap.specs.IndexMap.{set_value_at};
 ghost use Rattle.babel_state.specs.Calls.{first_state};
 ghost use Rattle.babel_state.specs.Configs.{config_fault};
+ghost use Rattle.babel_state.specs.KeptRoutes.{KeepsRoutes};
 ghost use Rattle.babel_speaker.specs.Making.{IsMakingFault};
 ghost use Rattle.babel_text.specs.declared.errors.LineFault.TheVariants.{Memory, Write};
 ghost use Rattle.babel_replay.specs.LogReports.{room, whole_report, IsCause, IsReplayFault, IsStopped, OfAllLines, OfLinesBefore, Writes};
 ghost use Rattle.babel_replay.specs.Report.{places_in, IsDecoded, note_lines, outcome_lines, seen_by, select_line, select_lines, Reports, ReportsStep, Sends, table_line, table_lines};
-ghost use Rattle.babel_replay.specs.Seen.{updates_in, choice_at, choice_printed, printed_all};
+ghost use Rattle.babel_replay.specs.Seen.{updates_in, choice_at, choice_printed, printed_all, ArePrinted};
 ghost use Rattle.babel_replay.specs.Taking.{IsReported, IsReportedLine, TakesLine};
 
 use crate::counting::count_messages;
@@ -21,7 +22,8 @@ use crate::stepping::{Outcome, step};
 use crate::{Action, Event, LineFault, MAX_LINE_LEN, ReplayFault, parse_line};
 use arrayvec::ArrayVec;
 use babel_lines::{
-    Choice, cost_refused_line, note_line, out_line, refused_line, select_line, table_line,
+    Choice, cost_refused_line, moment_line, out_line, push_tlv, refused_line, select_line,
+    table_line,
 };
 use babel_packet::{Placed, Refusal, decode};
 use babel_speaker::Speaker;
@@ -137,7 +139,8 @@ impl Replayer {
         out: &mut W,
         number: &mut u64,
     ) -> Result<(), LineFault>
-        requires { number.old ≡ 1 }
+        requires number { number.old ≡ 1 }
+        requires printed { ArePrinted self.old.speaker self.old.seen.entries }
         ensures taken { OnOk result (OfAllLines (R.remaining log.old) (IsReported number.new self.old.speaker self.old.seen.entries self.new.speaker self.new.seen.entries (W.contents out.old) (W.contents out.new))) }
         ensures fault { IfErr result (λ fault. OfLinesBefore (R.remaining log.old) number.new fault (IsReported number.new self.old.speaker self.old.seen.entries self.new.speaker self.new.seen.entries (W.contents out.old) (W.contents out.new))) }
     {
@@ -158,7 +161,8 @@ impl Replayer {
         out: &mut W,
         number: &mut u64,
     ) -> Result<(), LineFault>
-        requires { length octets.old ≡ room }
+        requires room { length octets.old ≡ room }
+        requires printed { ArePrinted self.old.speaker self.old.seen.entries }
         ensures taken { OnOk result (OfAllLines (R.remaining log.old) (IsReported number.new self.old.speaker self.old.seen.entries self.new.speaker self.new.seen.entries (W.contents out.old) (W.contents out.new))) }
         ensures fault { IfErr result (λ fault. OfLinesBefore (R.remaining log.old) number.new fault (IsReported number.new self.old.speaker self.old.seen.entries self.new.speaker self.new.seen.entries (W.contents out.old) (W.contents out.new))) }
     {
@@ -185,10 +189,12 @@ impl Replayer {
         log: &mut R,
         out: &mut W,
     ) -> Result<bool, LineFault>
-        requires { length octets.old ≡ room }
+        requires room { length octets.old ≡ room }
+        requires printed { ArePrinted self.old.speaker self.old.seen.entries }
         ensures taken { IfOk result (λ more. TakesLine (R.remaining log.old) (R.remaining log.new) more (IsReportedLine self.old.speaker self.old.seen.entries self.new.speaker self.new.seen.entries (W.contents out.old) (W.contents out.new)) ((self.new.speaker ≡ self.old.speaker) × (self.new.seen.entries ≡ self.old.seen.entries) × (W.contents out.new ≡ W.contents out.old))) }
         ensures cause { IfErr result (IsCause (R.remaining log.old) []) }
         ensures unchanged { IfErr result (λ fault. fault ≢ Write → (self.new.speaker ≡ self.old.speaker) × (self.new.seen.entries ≡ self.old.seen.entries) × (W.contents out.new ≡ W.contents out.old)) }
+        ensures printed { OnOk result (ArePrinted self.new.speaker self.new.seen.entries) }
     {
         let more = read_line(log, line)?;
         if !more {
@@ -208,9 +214,11 @@ impl Replayer {
     /// Makes the step of a line, and writes its report. All memory is allocated before anything is
     /// changed or written.
     fn take_event<W: Write>(&mut self, event: &Event<'_>, out: &mut W) -> Result<(), LineFault>
+        requires printed { ArePrinted self.old.speaker self.old.seen.entries }
         ensures report { OnOk result (Reports event.now.time event.now.action self.old.speaker self.old.seen.entries self.new.speaker self.new.seen.entries (W.contents out.old) (W.contents out.new)) }
         ensures fault { IfErr result (λ fault. (fault ≡ Memory) ⊎ (fault ≡ Write)) }
         ensures unchanged { IfErr result (λ fault. fault ≢ Write → (self.new.speaker ≡ self.old.speaker) × (self.new.seen.entries ≡ self.old.seen.entries) × (W.contents out.new ≡ W.contents out.old)) }
+        ensures printed { OnOk result (ArePrinted self.new.speaker self.new.seen.entries) }
     {
         match self.decode(event)? {
             Some(placed) => self.take_placed(event, &placed, true, out),
@@ -228,57 +236,71 @@ impl Replayer {
     ) -> Result<(), LineFault>
         requires places { placed.now ≡ places_in event.now.action }
         requires decoded { IsTrue is_decoded → IsDecoded event.now.action placed.now }
+        requires printed { ArePrinted self.old.speaker self.old.seen.entries }
         ensures report { OnOk result (Reports event.now.time event.now.action self.old.speaker self.old.seen.entries self.new.speaker self.new.seen.entries (W.contents out.old) (W.contents out.new)) }
         ensures fault { IfErr result (λ fault. (fault ≡ Memory) ⊎ (fault ≡ Write)) }
         ensures unchanged { IfErr result (λ fault. fault ≢ Write → (self.new.speaker ≡ self.old.speaker) × (self.new.seen.entries ≡ self.old.seen.entries) × (W.contents out.new ≡ W.contents out.old)) }
+        ensures printed { OnOk result (ArePrinted self.new.speaker self.new.seen.entries) }
     {
         if self.seen.reserve(placed).is_err() {
             return Err(LineFault::Memory);
         }
-        let outcome = step(&mut self.speaker, event, placed, is_decoded)?;
-        self.write_report(event.time, placed, &outcome, out)
+        let mut changed = false;
+        let outcome = step(&mut self.speaker, event, placed, is_decoded, &mut changed)?;
+        self.write_report(event.time, placed, &outcome, changed, out)
     }
 
-    /// Writes the report of a line after its step, and sends what the speaker has queued.
+    /// Writes the report of a line after its step, and sends what the speaker has queued. `changed` is whether a
+    /// selected route may have changed by the step.
     fn write_report<W: Write>(
         &mut self,
         time: u64,
         placed: &[Placed],
         outcome: &Outcome,
+        changed: bool,
         out: &mut W,
     ) -> Result<(), LineFault>
-        requires { updates_in placed.now ≤ self.old.seen.room }
+        requires room { updates_in placed.now ≤ self.old.seen.room }
+        requires printed { IsFalse changed → ArePrinted self.old.speaker self.old.seen.entries }
+        ensures printed { OnOk result (ArePrinted self.new.speaker self.new.seen.entries) }
         ensures report { OnOk result (ReportsStep time placed.now outcome.now self.old.speaker self.old.seen.entries self.new.speaker self.new.seen.entries (W.contents out.old) (W.contents out.new)) }
         ensures failed { IfErr result (λ fault. fault ≡ LineFault.Write) }
     {
-        self.write_outcome(time, placed, outcome, out)?;
-        self.write_selections(time, out)?;
+        let added = self.write_outcome(time, placed, outcome, out)?;
+        self.write_selections(time, changed || added, out)?;
         send_datagrams(&mut self.speaker, time, out)
     }
 
-    /// Writes what became of a line, and adds the prefixes of the Updates that were stored.
+    /// Writes what became of a line, and adds the prefixes of the Updates that were stored. Returns whether one of them
+    /// is new.
     fn write_outcome<W: Write>(
         &mut self,
         time: u64,
         placed: &[Placed],
         outcome: &Outcome,
         out: &mut W,
-    ) -> Result<(), LineFault>
+    ) -> Result<bool, LineFault>
         requires { updates_in placed.now ≤ self.old.seen.room }
+        ensures same { IfOk result (λ added. IsFalse added → self.new.seen.entries ≡ self.old.seen.entries) }
         ensures written { OnOk result (Appends (W.contents out.old) (W.contents out.new) (outcome_lines time placed.now outcome.now)) }
         ensures seen { OnOk result (self.new.seen.entries ≡ seen_by placed.now outcome.now self.old.seen.entries) }
         ensures speaker { self.new.speaker ≡ self.old.speaker }
         ensures failed { IfErr result (λ fault. fault ≡ LineFault.Write) }
     {
         match outcome {
-            Outcome::Silent => Ok(()),
+            Outcome::Silent => Ok(false),
             Outcome::Notes(notes) => {
                 write_notes(time, placed, notes, out)?;
-                self.seen.add_stored(placed, notes);
-                Ok(())
+                Ok(self.seen.add_stored(placed, notes))
             }
-            Outcome::Refused(fault) => write_line(out, &refused_line(time, *fault)),
-            Outcome::CostRefused(fault) => write_line(out, &cost_refused_line(time, *fault)),
+            Outcome::Refused(fault) => {
+                write_line(out, &refused_line(time, *fault))?;
+                Ok(false)
+            }
+            Outcome::CostRefused(fault) => {
+                write_line(out, &cost_refused_line(time, *fault))?;
+                Ok(false)
+            }
         }
     }
 
@@ -315,19 +337,23 @@ impl Replayer {
     }
 
     /// Writes a `select` line for each seen prefix whose selected route isn't the one that was last
-    /// printed. Mostly there is none, which one walk over the selections shows.
-    fn write_selections<W: Write>(&mut self, time: u64, out: &mut W) -> Result<(), LineFault>
+    /// printed. After most lines nothing has changed, and there is none.
+    fn write_selections<W: Write>(
+        &mut self,
+        time: u64,
+        changed: bool,
+        out: &mut W,
+    ) -> Result<(), LineFault>
+        requires { IsFalse changed → ArePrinted self.old.speaker self.old.seen.entries }
         ensures written { OnOk result (Appends (W.contents out.old) (W.contents out.new) (select_lines time self.old.speaker self.old.seen.entries)) }
         ensures seen { OnOk result (self.new.seen.entries ≡ printed_all self.old.speaker self.old.seen.entries) }
         ensures speaker { self.new.speaker ≡ self.old.speaker }
         ensures failed { IfErr result (λ fault. fault ≡ LineFault.Write) }
     {
-        if self.seen.are_current(&self.speaker) {
+        if !changed {
             return Ok(());
         }
-        self.write_changes(time, out)?;
-        self.seen.remember(&self.speaker);
-        Ok(())
+        self.write_changes(time, out)
     }
 
     /// The same, by a look at each seen prefix.
@@ -411,14 +437,19 @@ fn write_notes<W: Write>(
     ensures written { OnOk result (Appends (W.contents out.old) (W.contents out.new) (note_lines time placed.now notes.now)) }
     ensures failed { IfErr result (λ fault. fault ≡ LineFault.Write) }
 {
+    let mut line = moment_line(time);
+    let start = line.octets().len();
     for (place, note) in placed.iter().zip(notes) {
-        write_line(out, &note_line(time, place, &note.verdict))?;
+        line.truncate(start);
+        push_tlv(&mut line, place, &note.verdict);
+        write_line(out, &line)?;
     }
     Ok(())
 }
 
 /// Takes datagrams from the speaker until there is none, and writes an `out` line for each.
 fn send_datagrams<W: Write>(speaker: &mut Speaker, time: u64, out: &mut W) -> Result<(), LineFault>
+    ensures kept { KeepsRoutes speaker.old speaker.new }
     ensures sent { OnOk result (Sends time speaker.old speaker.new (W.contents out.old) (W.contents out.new)) }
     ensures failed { IfErr result (λ fault. fault ≡ LineFault.Write) }
 {

@@ -11,7 +11,7 @@ use Rattle.babel_route.specs.declared.routes.entries.Entry.{Entry}
 use Rattle.babel_route.specs.declared.routes.entries.Selection.{Selection}
 use Rattle.babel_route.specs.Currency.{is_same_distance, is_same_entry, is_same_selection}
 
-same_distance : (a b : Distance) → is_same_distance a b ≡ true → a ≡ b
+pub same_distance : (a b : Distance) → is_same_distance a b ≡ true → a ≡ b
 same_distance a b same =
     let parts = and_parts (nat_eq a.seqno b.seqno) (nat_eq a.metric b.metric) same in
     let seqno = eqb-true a.seqno b.seqno parts.0 in

@@ -1,11 +1,10 @@
 -- Each datagram takes at least one pending item.
-use Rattle.std.proofs.Common.{◌≡◌, ◌≤◌, ◌<◌, ℕ, suc, Bool, true, false, true≢false, List, [], ◌∷◌, length, Option, Some, None, is_some, refl, sym, ap, ◌∙◌, arith}
+use Rattle.std.proofs.Common.{◌≡◌, ◌≤◌, ◌<◌, ℕ, suc, true≢false, List, [], ◌∷◌, length, Option, Some, None, is_some, refl, sym, ap, ◌∙◌, arith}
 use Rattle.std.specs.Option.{option_map_or}
 use Rattle.babel_state.specs.declared.items.Item.{Item}
 use Rattle.babel_state.specs.declared.items.Target.{Target}
 use Rattle.babel_state.specs.NextDatagram.{Fits, Draft, draft_with, without_first, drafted, next_datagram}
 use Rattle.babel_state.specs.OutgoingMessages.{outgoing}
-use Rattle.babel_state.specs.State.{State}
 use Rattle.babel_speaker.specs.PendingItems.{DatagramsTakeItems}
 
 abbrev left : Draft → ℕ

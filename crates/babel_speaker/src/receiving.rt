@@ -1,10 +1,11 @@
 //! A datagram, from its octets to the notes of its TLVs.
 
-ghost use Rattle.std.specs.Prelude.{◌≡◌, ◌+◌, ◌≤◌, ◌<◌, ◌++◌, ◌∷◌, [], length, vec_len, vec_capacity, Ok, IfOk, IfErr, OnOk, OnErr, IsTrue};
+ghost use Rattle.std.specs.Prelude.{◌≡◌, ◌+◌, ◌≤◌, ◌<◌, ◌++◌, ◌∷◌, [], length, vec_len, vec_capacity, Ok, IfOk, IfErr, OnOk, OnErr, IsTrue, IsFalse};
 ghost use Rattle.babel_packet.specs.Meaning.{meaning};
 ghost use Rattle.babel_value.specs.declared.keys.Peer.{Peer};
 ghost use Rattle.babel_state.specs.Addresses.{source_fault};
 ghost use Rattle.babel_state.specs.CurrentSelections.{AreCurrent};
+ghost use Rattle.babel_state.specs.KeptRoutes.{KeepsRoutes};
 ghost use Rattle.babel_state.specs.Messages.{after_places, notes_of, IsRecvFault, Receives};
 
 use crate::messages::handle_content;
@@ -37,6 +38,7 @@ fn handle_places(
     placed: &[Placed],
     notes: &mut Vec<Note>,
     settled: &mut bool,
+    changed: &mut bool,
     scratch: &mut Scratch,
 )
     requires settled { IsTrue settled.old → AreCurrent core.old }
@@ -44,18 +46,22 @@ fn handle_places(
     ensures state { core.new ≡ after_places now peer.now placed.now core.old }
     ensures notes { notes.new.items ≡ notes.old.items ++ notes_of now peer.now placed.now core.old }
     ensures current { IsTrue settled.new → AreCurrent core.new }
+    ensures kept { IsFalse changed.new → KeepsRoutes core.old core.new }
 {
     let mut cursor = Cursor::new();
     for place in placed {
+        let mut differs = false;
         let verdict = handle_content(
             core,
             now,
             peer,
             &place.content,
             settled,
+            &mut differs,
             scratch,
             &mut cursor,
         );
+        *changed = *changed || differs;
         push_note(notes, place.offset, verdict);
     }
 }
@@ -69,6 +75,7 @@ fn take_places(
     peer: &Peer,
     placed: &[Placed],
     settled: &mut bool,
+    changed: &mut bool,
     scratch: &mut Scratch,
 ) -> Result<Vec<Note>, RecvFault>
     requires settled { IsTrue settled.old → AreCurrent core.old }
@@ -77,18 +84,22 @@ fn take_places(
     ensures memory { IfErr result (λ fault. fault ≡ RecvFault.Refused Refusal.Memory) }
     ensures unchanged { OnErr result (core.new ≡ core.old) }
     ensures current { IsTrue settled.new → AreCurrent core.new }
+    ensures kept { IsFalse changed.new → KeepsRoutes core.old core.new }
 {
     let mut notes = match Vec::with_capacity(alloc, placed.len()) {
         Ok(notes) => notes,
         Err(_) => return Err(RecvFault::Refused(Refusal::Memory)),
     };
-    handle_places(core, now, peer, placed, &mut notes, settled, scratch);
+    handle_places(
+        core, now, peer, placed, &mut notes, settled, changed, scratch,
+    );
     Ok(notes)
 }
 
 /// Takes a datagram that came over an interface from a source address at the moment `now`, in
 /// centiseconds. There is a note for each TLV. The memory is allocated before anything changes. If the
-/// speaker is settled, it stays so, and it becomes so by a Hello or an IHU for it.
+/// speaker is settled, it stays so, and it becomes so by a Hello or an IHU for it. Unless `changed` is `true` then, the
+/// selected routes are reported as before.
 pub(crate) fn receive(
     core: &mut Core,
     alloc: Global,
@@ -97,6 +108,7 @@ pub(crate) fn receive(
     source: Addr,
     octets: &[u8],
     settled: &mut bool,
+    changed: &mut bool,
     scratch: &mut Scratch,
 ) -> Result<Vec<Note>, RecvFault>
     requires settled { IsTrue settled.old → AreCurrent core.old }
@@ -104,6 +116,7 @@ pub(crate) fn receive(
     ensures refused { IfErr result (λ fault. IsRecvFault (source_fault iface source core.old) (meaning octets.now source) fault) }
     ensures unchanged { OnErr result (core.new ≡ core.old) }
     ensures current { IsTrue settled.new → AreCurrent core.new }
+    ensures kept { IsFalse changed.new → KeepsRoutes core.old core.new }
 {
     if let Some(fault) = core.source_fault(iface, &source) {
         return Err(fault);
@@ -116,7 +129,16 @@ pub(crate) fn receive(
         iface,
         addr: source,
     };
-    take_places(core, alloc, now, &peer, placed.as_slice(), settled, scratch)
+    take_places(
+        core,
+        alloc,
+        now,
+        &peer,
+        placed.as_slice(),
+        settled,
+        changed,
+        scratch,
+    )
 }
 
 /// The same for a datagram that is decoded already.
@@ -128,6 +150,7 @@ pub(crate) fn receive_decoded(
     source: Addr,
     placed: &[Placed],
     settled: &mut bool,
+    changed: &mut bool,
     scratch: &mut Scratch,
 ) -> Result<Vec<Note>, RecvFault>
     requires settled { IsTrue settled.old → AreCurrent core.old }
@@ -135,6 +158,7 @@ pub(crate) fn receive_decoded(
     ensures refused { IfErr result (λ fault. IsRecvFault (source_fault iface source core.old) (Ok placed.now) fault) }
     ensures unchanged { OnErr result (core.new ≡ core.old) }
     ensures current { IsTrue settled.new → AreCurrent core.new }
+    ensures kept { IsFalse changed.new → KeepsRoutes core.old core.new }
 {
     if let Some(fault) = core.source_fault(iface, &source) {
         return Err(fault);
@@ -143,5 +167,5 @@ pub(crate) fn receive_decoded(
         iface,
         addr: source,
     };
-    take_places(core, alloc, now, &peer, placed, settled, scratch)
+    take_places(core, alloc, now, &peer, placed, settled, changed, scratch)
 }

@@ -1,11 +1,12 @@
 //! The state of a speaker, and whether all its selections are current. Then Hellos and IHUs that change no
 //! cost, and ticks in which no deadline is due, select no route again.
 
-ghost use Rattle.std.specs.Prelude.{◌≡◌, ◌↔◌, [], true, false, Ok, Some, IsOk, IsErr, IsNone, IfOk, IfErr, IfSome, OnOk, OnErr};
+ghost use Rattle.std.specs.Prelude.{◌≡◌, ◌↔◌, [], true, false, Ok, Some, IsOk, IsErr, IsNone, IfOk, IfErr, IfSome, OnOk, OnErr, IsFalse};
 ghost use Rattle.babel_packet.specs.Meaning.{meaning};
 ghost use Rattle.babel_state.specs.Addresses.{source_fault, transport_at};
 ghost use Rattle.babel_state.specs.Calls.{set_cost_fault, cost_set, first_state, is_prefix_too_many, announced_also, withdrawn};
 ghost use Rattle.babel_state.specs.Configs.{config_fault};
+ghost use Rattle.babel_state.specs.KeptRoutes.{KeepsRoutes};
 ghost use Rattle.babel_state.specs.Messages.{Receives, IsRecvFault};
 ghost use Rattle.babel_state.specs.NextDatagram.{next_datagram};
 ghost use Rattle.babel_state.specs.SeqnoRequests.{raised};
@@ -98,11 +99,13 @@ impl SettledCore {
         iface: u8,
         source: Addr,
         octets: &[u8],
+        changed: &mut bool,
         scratch: &mut Scratch,
     ) -> Result<Vec<Note>, RecvFault>
         ensures ok { IfOk result (λ notes. Receives now (record { iface = iface; addr = source }) (source_fault iface source self.old) (meaning octets.now source) self.old self.new notes.items) }
         ensures refused { IfErr result (λ fault. IsRecvFault (source_fault iface source self.old) (meaning octets.now source) fault) }
         ensures unchanged { OnErr result (self.new ≡ self.old) }
+        ensures kept { IsFalse changed.new → KeepsRoutes self.old self.new }
     {
         let mut settled = self.is_settled;
         let notes = receive(
@@ -113,6 +116,7 @@ impl SettledCore {
             source,
             octets,
             &mut settled,
+            changed,
             scratch,
         );
         self.is_settled = settled;
@@ -127,11 +131,13 @@ impl SettledCore {
         iface: u8,
         source: Addr,
         placed: &[Placed],
+        changed: &mut bool,
         scratch: &mut Scratch,
     ) -> Result<Vec<Note>, RecvFault>
         ensures ok { IfOk result (λ notes. Receives now (record { iface = iface; addr = source }) (source_fault iface source self.old) (Ok placed.now) self.old self.new notes.items) }
         ensures refused { IfErr result (λ fault. IsRecvFault (source_fault iface source self.old) (Ok placed.now) fault) }
         ensures unchanged { OnErr result (self.new ≡ self.old) }
+        ensures kept { IsFalse changed.new → KeepsRoutes self.old self.new }
     {
         let mut settled = self.is_settled;
         let notes = receive_decoded(
@@ -142,17 +148,19 @@ impl SettledCore {
             source,
             placed,
             &mut settled,
+            changed,
             scratch,
         );
         self.is_settled = settled;
         notes
     }
 
-    /// Takes all deadlines that are due.
-    pub(crate) fn tick(&mut self, now: u64, scratch: &mut Scratch)
-        ensures { self.new ≡ ticked now self.old }
+    /// Takes all deadlines that are due. Unless `changed` is `true` then, the selected routes are reported as before.
+    pub(crate) fn tick(&mut self, now: u64, changed: &mut bool, scratch: &mut Scratch)
+        ensures state { self.new ≡ ticked now self.old }
+        ensures kept { IsFalse changed.new → KeepsRoutes self.old self.new }
     {
-        self.is_settled = self.core.tick(now, self.is_settled, scratch);
+        self.is_settled = self.core.tick(now, self.is_settled, changed, scratch);
     }
 
     /// Raises the speaker's own seqno by 1.

@@ -1,13 +1,14 @@
 //! The speaker: its calls, from moments and octets to octets. Each call's meaning is its definition in
 //! `babel_state`.
 
-ghost use Rattle.std.specs.Prelude.{◌≡◌, ◌≤◌, ◌<◌, ◌↔◌, ℕ, [], true, false, Ok, Some, length, slice_get, IsOk, IsErr, IsNone, IfOk, IfErr, IfSome, OnOk, OnErr, option_map};
+ghost use Rattle.std.specs.Prelude.{◌≡◌, ◌≤◌, ◌<◌, ◌↔◌, ℕ, [], true, false, Ok, Some, length, slice_get, IsOk, IsErr, IsNone, IfOk, IfErr, IfSome, OnOk, OnErr, IsFalse, option_map};
 ghost use Rattle.babel_packet.specs.Meaning.{meaning};
 ghost use Rattle.babel_route.specs.Selections.{prefix_after};
 ghost use Rattle.babel_state.specs.Addresses.{source_fault, transport_at};
 ghost use Rattle.babel_state.specs.Calls.{set_cost_fault, cost_set, first_state, is_prefix_too_many, announced_also, withdrawn, selected_route, reported_entries};
 ghost use Rattle.babel_state.specs.Configs.{config_fault};
 ghost use Rattle.babel_state.specs.Limits.{most_pending};
+ghost use Rattle.babel_state.specs.KeptRoutes.{KeepsRoutes};
 ghost use Rattle.babel_state.specs.Messages.{Receives, IsRecvFault};
 ghost use Rattle.babel_state.specs.CurrentSelections.{AreCurrent, AreInHalf, IsCurrentAt, KeepsCurrent, KeepsSelections};
 ghost use Rattle.babel_state.specs.NextDatagram.{next_datagram};
@@ -203,13 +204,34 @@ impl Speaker {
         ensures moves { OnOk result (MovesByDatagram (record { iface = iface; addr = source }) (meaning octets.now source) self.old self.new) }
         ensures current { OnOk result (KeepsCurrent self.old self.new) }
     {
+        let mut changed = false;
+        self.receive_tracked(now, iface, source, octets, &mut changed)
+    }
+
+    /// The same. If `changed` is `false` then, the selected routes are reported as before: [`Speaker::selected`] returns
+    /// of each prefix what it returned.
+    pub fn receive_tracked(
+        &mut self,
+        now: u64,
+        iface: u8,
+        source: Addr,
+        octets: &[u8],
+        changed: &mut bool,
+    ) -> Result<Vec<Note>, RecvFault>
+        ensures ok { IfOk result (λ notes. Receives now (record { iface = iface; addr = source }) (source_fault iface source self.old) (meaning octets.now source) self.old self.new notes.items) }
+        ensures refused { IfErr result (λ fault. IsRecvFault (source_fault iface source self.old) (meaning octets.now source) fault) }
+        ensures unchanged { OnErr result (self.new ≡ self.old) }
+        ensures moves { OnOk result (MovesByDatagram (record { iface = iface; addr = source }) (meaning octets.now source) self.old self.new) }
+        ensures current { OnOk result (KeepsCurrent self.old self.new) }
+        ensures kept { IsFalse changed.new → KeepsRoutes self.old self.new }
+    {
         calls_move();
         selections_stay_current();
         decoded_are_encodable(octets, &source);
         let alloc = self.alloc;
         let scratch = &mut self.scratch;
         self.core
-            .receive(alloc, now, iface, source, octets, scratch)
+            .receive(alloc, now, iface, source, octets, changed, scratch)
     }
 
     /// The same for a datagram that is decoded already: `placed` is what `decode` returned.
@@ -220,6 +242,7 @@ impl Speaker {
         source: Addr,
         octets: &[u8],
         placed: &[Placed],
+        changed: &mut bool,
     ) -> Result<Vec<Note>, RecvFault>
         requires decoded { meaning octets.now source ≡ Ok placed.now }
         ensures ok { IfOk result (λ notes. Receives now (record { iface = iface; addr = source }) (source_fault iface source self.old) (meaning octets.now source) self.old self.new notes.items) }
@@ -227,6 +250,7 @@ impl Speaker {
         ensures unchanged { OnErr result (self.new ≡ self.old) }
         ensures moves { OnOk result (MovesByDatagram (record { iface = iface; addr = source }) (meaning octets.now source) self.old self.new) }
         ensures current { OnOk result (KeepsCurrent self.old self.new) }
+        ensures kept { IsFalse changed.new → KeepsRoutes self.old self.new }
     {
         calls_move();
         selections_stay_current();
@@ -234,7 +258,7 @@ impl Speaker {
         let alloc = self.alloc;
         let scratch = &mut self.scratch;
         self.core
-            .receive_decoded(alloc, now, iface, source, placed, scratch)
+            .receive_decoded(alloc, now, iface, source, placed, changed, scratch)
     }
 
     /// Takes all deadlines that are due (RFC 8966, sections 3.2.5, 3.4, 3.5.4, 3.7.1 and 3.8.2.1).
@@ -243,10 +267,21 @@ impl Speaker {
         ensures moves { MovesAlone 0 (seen self.old).announces self.old self.new }
         ensures current { self.old.collects ≡ false → AreCurrent self.new }
     {
+        let mut changed = false;
+        self.tick_tracked(now, &mut changed);
+    }
+
+    /// The same. If `changed` is `false` then, the selected routes are reported as before.
+    pub fn tick_tracked(&mut self, now: u64, changed: &mut bool)
+        ensures state { self.new ≡ ticked now self.old }
+        ensures moves { MovesAlone 0 (seen self.old).announces self.old self.new }
+        ensures current { self.old.collects ≡ false → AreCurrent self.new }
+        ensures kept { IsFalse changed.new → KeepsRoutes self.old self.new }
+    {
         states_are_well_formed();
         calls_move();
         selections_are_current();
-        self.core.tick(now, &mut self.scratch);
+        self.core.tick(now, changed, &mut self.scratch);
     }
 
     /// Raises the speaker's own seqno by 1 (RFC 8966, section 3.2.2). Nothing is queued.
@@ -321,6 +356,7 @@ impl Speaker {
         ensures unseen { IsNone result → seen self.new ≡ seen self.old }
         ensures none { IsNone result ↔ (is_silent self.old ≡ true) }
         ensures selections { KeepsSelections self.old self.new }
+        ensures kept { KeepsRoutes self.old self.new }
         ensures half { (first : ℕ) (prefix : PrefixValue) → AreInHalf first prefix self.old → IsCurrentAt prefix self.old → IsCurrentAt prefix self.new }
     {
         states_are_well_formed();

@@ -66,7 +66,7 @@ selected_by prefix k cost =
       metric = route_metric cost (key_of prefix route.peer, route.entry);
     }) (selection_at prefix k.routes)
 
-selected_kept : (s t : State) → known_of t ≡ known_of s → (prefix : PrefixValue) → selected_route prefix t ≡ selected_route prefix s
+pub selected_kept : (s t : State) → known_of t ≡ known_of s → (prefix : PrefixValue) → selected_route prefix t ≡ selected_route prefix s
 unfolding known_of selected_route
 selected_kept s t same prefix = λ i. selected_by prefix (same i) (costs_kept s t same i)
 

@@ -18,6 +18,7 @@ pub mod Moving
 pub mod DatagramsSent
 pub mod Meanings
 pub mod SettledLemmas
+pub mod KeptRoutes
 pub mod EncodableDatagrams
 pub mod StayingCurrent
 pub mod HalfCircle

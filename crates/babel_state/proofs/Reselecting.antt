@@ -10,7 +10,7 @@ use Rattle.babel_state.specs.declared.items.Item.{Item}
 use Rattle.babel_state.specs.declared.requests.Resend.{Resend}
 use Rattle.babel_state.specs.PendingRequests.{PendingRequests}
 use Rattle.babel_state.specs.State.{State, routed_prefixes, selected_at, pair_at}
-use Rattle.babel_state.specs.Reselection.{UnfeasibleUpdate, queue, request_seqno, request_for_update, request_from_sender, request_for_seqno, advertise_change, select, reselect, reselect_each, reselect_all}
+use Rattle.babel_state.specs.Reselection.{UnfeasibleUpdate, queue, request_seqno, request_for_update, request_from_sender, request_for_seqno, advertise_change, follow_up, select, reselect, reselect_each, reselect_all}
 use Rattle.babel_state.specs.StepLaws.{kept_of, base_of, ReselectionKeepsBase, ReselectionOfAllKeepsBase}
 
 pub if_kept : (b : Bool) (x y o : State) → kept_of x ≡ o → kept_of y ≡ o → kept_of (if b then x else y) ≡ o
@@ -49,12 +49,14 @@ seqno_kept now cause prefix (Some lost) (Some new) s = sender_kept now cause pre
 seqno_kept now cause prefix None None s = sender_kept now cause prefix None s
 seqno_kept now cause prefix None (Some new) s = sender_kept now cause prefix None s
 
+pub follows_kept : (now : ℕ) (cause : Option UnfeasibleUpdate) (prefix : PrefixValue) (old new : Option Selection) (s : State) → kept_of (follow_up now cause prefix old new s) ≡ kept_of s
+follows_kept now cause prefix old new s =
+    seqno_kept now cause prefix old new (advertise_change prefix old new s) ∙ advertise_kept prefix old new s
+
 pub reselects_kept : (now : ℕ) (cause : Option UnfeasibleUpdate) (prefix : PrefixValue) (s : State) → kept_of (reselect now cause prefix s) ≡ kept_of (select prefix s)
 unfolding reselect
 reselects_kept now cause prefix s =
-    let old : Option Selection = selected_at prefix s in
-    let new : Option Selection = selected_at prefix (select prefix s) in
-    seqno_kept now cause prefix old new (advertise_change prefix old new (select prefix s)) ∙ advertise_kept prefix old new (select prefix s)
+    follows_kept now cause prefix (selected_at prefix s) (selected_at prefix (select prefix s)) (select prefix s)
 
 -- ---- all but the selections too
 

@@ -57,10 +57,10 @@ pub record IsSameElsewhere (p : PrefixValue) (announced : PrefixSet) (entries : 
   pub entry : (q : PrefixValue) (peer : Peer) → eq_by_cmp prefix_cmp q p ≡ false → find route_cmp (key_of q peer) entries ≡ entry_at q peer s
   pub routes : (q : PrefixValue) → eq_by_cmp prefix_cmp q p ≡ false → routes_of q entries ≡ routes_of q s.routes.entries
 
-selected_after : (q p : PrefixValue) (s : State) → selected_at q (select p s) ≡ cond (eq_by_cmp prefix_cmp q p) (choice_at s.sources (cost_at s) p (announces p s) s.routes) (selected_at q s)
+pub selected_after : (q p : PrefixValue) (s : State) → selected_at q (select p s) ≡ cond (eq_by_cmp prefix_cmp q p) (choice_at s.sources (cost_at s) p (announces p s) s.routes) (selected_at q s)
 selected_after q p s = find_with_value prefix_cmp prefix_total prefix_exact q p (choice_at s.sources (cost_at s) p (announces p s) s.routes) s.routes.selections
 
-same_prefix : (q p : PrefixValue) → eq_by_cmp prefix_cmp q p ≡ true → q ≡ p
+pub same_prefix : (q p : PrefixValue) → eq_by_cmp prefix_cmp q p ≡ true → q ≡ p
 same_prefix q p e = prefix_exact q p (equal (prefix_cmp q p) e)
 
 pub selected_selectable : (p : PrefixValue) (announced : PrefixSet) (entries : RouteEntries) (s : State) → IsSameElsewhere p announced entries s → AreSelectable s → AreSelectable (select p (changed announced entries s))

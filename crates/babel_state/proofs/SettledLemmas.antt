@@ -64,7 +64,7 @@ module _ (peer : Peer) (link : Link) (links : Links) (nominal : ℕ → ℕ) whe
       ap (λ o. option_map_or (link_cost (nominal q.iface)) o 65535)
       (find-put peer_cmp peer_total q peer link links ∙ ap (λ b. cond b (Some link) (find peer_cmp q links)) other)
 
-  same_cost : cost_of peer (nominal peer.iface) (put peer_cmp peer link links) ≡ cost_of peer (nominal peer.iface) links → (q : Peer) → cost_of q (nominal q.iface) (put peer_cmp peer link links) ≡ cost_of q (nominal q.iface) links
+  pub same_cost : cost_of peer (nominal peer.iface) (put peer_cmp peer link links) ≡ cost_of peer (nominal peer.iface) links → (q : Peer) → cost_of q (nominal q.iface) (put peer_cmp peer link links) ≡ cost_of q (nominal q.iface) links
   same_cost same q = by (eq_by_cmp peer_cmp q peer) refl
     where
       by : (b : Bool) → eq_by_cmp peer_cmp q peer ≡ b → cost_of q (nominal q.iface) (put peer_cmp peer link links) ≡ cost_of q (nominal q.iface) links

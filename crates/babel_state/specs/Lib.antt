@@ -16,6 +16,7 @@ pub mod OutgoingMessages
 pub mod NextDatagram
 pub mod Calls
 pub mod CurrentSelections
+pub mod KeptRoutes
 pub mod Seen
 pub mod StepLaws
 pub mod Invariants

@@ -1,6 +1,6 @@
 //! Lines of text, put together before they are written at once.
 
-ghost use Rattle.std.specs.Prelude.{◌≡◌, ◌+◌, ◌*◌, ◌/◌, ◌%◌, ◌<◌, ◌≤◌, [], ◌∷◌, ◌++◌, false, Some, codes, length, slice_index};
+ghost use Rattle.std.specs.Prelude.{◌≡◌, ◌+◌, ◌*◌, ◌/◌, ◌%◌, ◌<◌, ◌≤◌, [], ◌∷◌, ◌++◌, false, Some, codes, length, slice_index, take};
 ghost use Rattle.std.specs.Fmt.{decimal, digits, digit_glyph};
 ghost use Rattle.babel_value.specs.Texts.{addr_text, ipv4_text, groups_text, group_text, prefix_text, router_text};
 ghost use Rattle.babel_value.specs.Lines.{line_room};
@@ -66,6 +66,14 @@ impl Line {
         ensures { result.now ≡ self.now }
     {
         self.octets.as_slice()
+    }
+
+    /// Leaves only the first `len` octets of the line.
+    #[inline]
+    pub fn truncate(&mut self, len: usize)
+        ensures { self.new ≡ take len self.old }
+    {
+        self.octets.truncate(len);
     }
 
     /// Appends a number in decimal.

@@ -1,13 +1,18 @@
-use Rattle.std.proofs.Common.{length, arith, subst}
+use Rattle.std.proofs.Common.{length, arith, refl, subst}
 use Rattle.std.specs.Io.KnownBytes.{Appends}
 use Rattle.babel_state.specs.Addresses.{transport_at}
+use Rattle.babel_state.proofs.KeptRoutes.{same_routes, routes_through}
 use Rattle.babel_replay.specs.Report.{draft_at}
 use Rattle.babel_replay.proofs.MessageCounts.{counted_of}
 use Rattle.babel_replay.proofs.Sending.{sending_begins, sending_goes, fewer_left}
 use Rattle.babel_replay.proofs.replaying.send_datagrams.Goals as goal
 
 pub loop-init : goal.loop-init
-loop-init g c = (sending_begins c.args.time c.args.speaker.now (g.W.Write.contents c.args.out.now), omega arith)
+loop-init g c = (
+  sending_begins c.args.time c.args.speaker.now (g.W.Write.contents c.args.out.now),
+  omega arith,
+  same_routes c.args.speaker.now c.args.speaker.now refl,
+)
 
 pub loop-preserved : goal.loop-preserved
 loop-preserved g c = (
@@ -20,4 +25,13 @@ loop-preserved g c = (
       (subst (Appends (g.W.Write.contents c.loop.out) (g.W.Write.contents c.write_line.new.out)) c.out_line.ensures c.in_ok-write_line.ensures.written),
   fewer_left c.datagrams_take_items.ensures c.loop.counter (length c.args.speaker.now.pending.items) c.args.time c.loop.speaker c.in-Some.target
       c.next_datagram.new.self c.loop.invariant.1 c.in-Some.ensures.target c.next_datagram.ensures.state,
+  routes_through c.args.speaker.now c.loop.speaker c.next_datagram.new.self c.loop.invariant.2 c.next_datagram.ensures.kept,
 )
+
+pub returns-in_default-clause-kept : goal.returns-in_default-clause-kept
+returns-in_default-clause-kept g c =
+    routes_through c.args.speaker.now c.loop.speaker c.next_datagram.new.self c.loop.invariant.2 c.next_datagram.ensures.kept
+
+pub returns-in_err-write_line-clause-kept : goal.returns-in_err-write_line-clause-kept
+returns-in_err-write_line-clause-kept g c =
+    routes_through c.args.speaker.now c.loop.speaker c.next_datagram.new.self c.loop.invariant.2 c.next_datagram.ensures.kept

@@ -7,10 +7,11 @@ use Rattle.babel_state.specs.State.{State, cost_at}
 use Rattle.babel_state.specs.CurrentSelections.{AreRoutesInOrder}
 use Rattle.babel_state.specs.SettledLaws.{AreSelectionsInOrder}
 use Rattle.babel_core.proofs.StaleReselections.{stale_reselected}
+use Rattle.babel_core.proofs.RoutesKept.{so, none_reselected}
 use Rattle.babel_core.proofs.speaker_core.Core.reselect_all.Goals as goal
 
-pub returns : goal.returns
-returns c =
+pub returns-clause-state : goal.returns-clause-state
+returns-clause-state c =
     let inside = c.self.inside in
     let links = c.new-links.ensures in
     stale_reselected c.args.now c.args.self.now c.reselect_each.new.self c.gather_stale.new.self
@@ -22,3 +23,8 @@ returns c =
     ∙ (λ i. is_stale inside.sources (link_cost (links.interfaces i) (links.neighbours i)) inside.announced inside.routes p)
     ∙ ap (λ (s : State). is_stale s.sources (cost_at s) s.announced s.routes p) c.self.view_is)
     c.reselect_each.ensures
+
+pub returns-clause-quiet : goal.returns-clause-quiet
+returns-clause-quiet c quiet =
+    none_reselected c.args.now c.args.self.now c.reselect_each.new.self c.gather_stale.new.self c.reselect_each.ensures
+    (c.is_empty.ensures.0 (so c.is_empty.result quiet))

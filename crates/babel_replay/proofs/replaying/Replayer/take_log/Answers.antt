@@ -6,5 +6,5 @@ use Rattle.babel_replay.proofs.replaying.Replayer.take_log.Goals as goal
 
 pub returns-in-Err-clause-fault : goal.returns-in-Err-clause-fault
 returns-in-Err-clause-fault g c =
-    before_first (g.R.Read.remaining c.args.log.now) _ Memory _ c.requires (report_cause (g.R.Read.remaining c.args.log.now) Memory (inl refl))
-    (record { before_it = c.requires; report = []; reported = (refl, refl, refl); written = appends_none (g.W.Write.contents c.args.out.now) })
+    before_first (g.R.Read.remaining c.args.log.now) _ Memory _ c.requires.number (report_cause (g.R.Read.remaining c.args.log.now) Memory (inl refl))
+    (record { before_it = c.requires.number; report = []; reported = (refl, refl, refl); written = appends_none (g.W.Write.contents c.args.out.now) })

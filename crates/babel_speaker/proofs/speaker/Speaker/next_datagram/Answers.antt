@@ -1,4 +1,7 @@
 use Rattle.babel_state.specs.CurrentSelections.{KeepsSelections}
+use Rattle.babel_state.specs.KeptRoutes.{KeepsRoutes}
+use Rattle.babel_state.proofs.SendingLaws.{sending_known}
+use Rattle.babel_state.proofs.DatagramsSent.{selected_kept}
 use Rattle.babel_speaker.proofs.CallLaws.{through, sent_if, unseen_if, means_if, none_through, half_through}
 use Rattle.babel_speaker.proofs.speaker.Speaker.next_datagram.Goals as goal
 
@@ -24,6 +27,11 @@ pub returns-clause-selections : goal.returns-clause-selections
 returns-clause-selections c =
     through KeepsSelections c.args.self.now c.self.inside.core c.next_datagram.new.self _ c.self.view_is c.next_datagram.ensures.state
     (c.selections_stay_current.ensures.sending c.args.now _ c.self.inside.core c.self.invariant)
+
+pub returns-clause-kept : goal.returns-clause-kept
+returns-clause-kept c =
+    through KeepsRoutes c.args.self.now c.self.inside.core c.next_datagram.new.self _ c.self.view_is c.next_datagram.ensures.state
+    (selected_kept c.self.inside.core _ (sending_known c.args.now _ c.self.inside.core))
 
 pub returns-clause-half : goal.returns-clause-half
 returns-clause-half c =

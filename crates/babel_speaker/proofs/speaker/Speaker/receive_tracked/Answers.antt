@@ -1,5 +1,5 @@
 use Rattle.babel_speaker.proofs.CallLaws.{received_well, received_moves, received_current}
-use Rattle.babel_speaker.proofs.speaker.Speaker.receive.Goals as goal
+use Rattle.babel_speaker.proofs.speaker.Speaker.receive_tracked.Goals as goal
 
 pub invariant_of-self : goal.invariant_of-self
 invariant_of-self c =

@@ -4,14 +4,14 @@ use Rattle.std.specs.Prelude.{◌≡◌, false}
 use Rattle.babel_state.specs.CurrentSelections.{AreCurrent}
 use Rattle.babel_state.specs.State.{State}
 use Rattle.babel_speaker.proofs.CallLaws.{through}
-use Rattle.babel_speaker.proofs.speaker.Speaker.tick.Goals as goal
+use Rattle.babel_speaker.proofs.speaker.Speaker.tick_tracked.Goals as goal
 
 pub returns-clause-moves : goal.returns-clause-moves
 returns-clause-moves c =
-    through (λ o t. MovesAlone 0 (seen o).announces o t) c.args.self.now c.self.inside.core c.tick.new.self _ c.self.view_is c.tick.ensures
+    through (λ o t. MovesAlone 0 (seen o).announces o t) c.args.self.now c.self.inside.core c.tick.new.self _ c.self.view_is c.tick.ensures.state
     (c.calls_move.ensures.tick c.args.now c.self.inside.core c.self.invariant)
 
 pub returns-clause-current : goal.returns-clause-current
 returns-clause-current c =
-    through (λ (o t : State). o.collects ≡ false → AreCurrent t) c.args.self.now c.self.inside.core c.tick.new.self _ c.self.view_is c.tick.ensures
+    through (λ (o t : State). o.collects ≡ false → AreCurrent t) c.args.self.now c.self.inside.core c.tick.new.self _ c.self.view_is c.tick.ensures.state
     (λ off. c.selections_are_current.ensures.tick c.args.now c.self.inside.core off c.self.invariant.tables.routes.entries_in_order)

@@ -1,0 +1,44 @@
+-- What leaves the selected routes as they are.
+use Rattle.std.specs.Prelude.{◌≡◌, ℕ, Bool, true, false, not, IsTrue, IsFalse, List, [], Option}
+use Rattle.std.proofs.Common.{refl, sym, ◌∙◌, ap, true≢false}
+use Rattle.babel_value.specs.declared.keys.Peer.{Peer}
+use Rattle.babel_value.specs.Prefixes.{PrefixValue}
+use Rattle.babel_link.specs.Neighbours.{Links, tick_of, gone_of, cost_of}
+use Rattle.babel_route.specs.declared.routes.entries.Selection.{Selection}
+use Rattle.babel_route.specs.Routes.{RouteEntries}
+use Rattle.babel_state.specs.State.{State, PrefixSet, prefixes_in, nominal_cost, cost_at, selected_at, with_entries}
+use Rattle.babel_state.specs.Reselection.{select, reselect_each}
+use Rattle.babel_state.specs.Ticks.{forget_each, requests_ticked, interfaces_ticked, sources_ticked}
+use Rattle.babel_state.specs.KeptRoutes.{KeepsRoutes, are_alike}
+use Rattle.babel_state.proofs.KeptRoutes.{parts_routes, routes_through, selected_routes, timers_routes}
+
+-- If it is false that the flag isn't set, it is set.
+pub so : (b : Bool) → IsFalse (not b) → IsTrue b
+so true is = refl
+so false is = absurd (true≢false is)
+
+-- Nothing is reselected.
+pub none_reselected : (now : ℕ) (s t : State) (set : PrefixSet) → t ≡ reselect_each now (prefixes_in set) s → set ≡ [] → t ≡ s
+none_reselected now s t set is none = is ∙ ap (λ (ps : PrefixSet). reselect_each now (prefixes_in ps) s) none
+
+-- An update was stored, and its prefix selected again. The new selection is like the old one; what follows changes no route.
+pub stored_routes : (prefix : PrefixValue) (entries : RouteEntries) (s t u : State) (old new : Option Selection) (alike : Bool) → t ≡ select prefix (with_entries entries s) →
+    old ≡ selected_at prefix s → new ≡ selected_at prefix t → alike ≡ are_alike old new → IsFalse (not alike) → KeepsRoutes t u → KeepsRoutes s u
+stored_routes prefix entries s t u old new alike is before after same unchanged kept =
+    routes_through s t u (selected_routes prefix entries s t old new is before after (sym same ∙ so alike unchanged)) kept
+
+-- A tick flushes no neighbour and changes no cost.
+pub ticked_routes : (now : ℕ) (s t : State) (links : Links) (gone : List Peer) → t ≡ forget_each gone (record s { neighbours = links }) →
+    links ≡ tick_of now s.neighbours → gone ≡ gone_of now s.neighbours →
+    ((peer : Peer) (nominal : ℕ) → cost_of peer nominal (tick_of now s.neighbours) ≡ cost_of peer nominal s.neighbours) → gone_of now s.neighbours ≡ [] →
+    KeepsRoutes s t
+ticked_routes now s t links gone is ticked left same none =
+    let after : State = record s { neighbours = links } in
+    let here : t ≡ after = is ∙ ap (λ peers. forget_each peers after) (left ∙ none) in
+    parts_routes s t (λ prefix. ap (selected_at prefix) here)
+    (ap cost_at here ∙ (λ i peer. (ap (cost_of peer (nominal_cost peer.iface s)) ticked ∙ same peer (nominal_cost peer.iface s)) i))
+
+-- The other deadlines concern no route.
+pub timed_routes : (now : ℕ) (s t u v : State) → t ≡ requests_ticked now s → u ≡ interfaces_ticked now t → v ≡ sources_ticked now u → KeepsRoutes s v
+timed_routes now s t u v requests timers collected =
+    timers_routes now s v (collected ∙ ap (sources_ticked now) (timers ∙ ap (interfaces_ticked now) requests))
