@@ -22,6 +22,9 @@ use std::{env, io};
 /// The source address that is used if none is given: a link-local one, as most Babel speakers have.
 const DEFAULT_SOURCE: &str = "fe80::1";
 
+/// How many octets of the output are written at a time.
+const WRITE_LEN: usize = 65_536;
+
 /// Why the arguments can't be read.
 #[derive(Clone, Copy, Debug)]
 pub(crate) enum ArgumentsError {
@@ -79,7 +82,9 @@ fn try_run<F: AllocGlobal + Files + Net + Clock, R: Read + Drop, W: Write + Drop
     out: W,
     err: &mut E,
 ) -> Result<Status, LineFault> {
-    let mut out = BufWriter::new(rt.alloc(), out).map_err(LineFault::of_writing)?;
+    let mut out = BufWriter::with_capacity(rt.alloc(), WRITE_LEN, out).map_err(
+        LineFault::of_writing,
+    )?;
     run_command(rt, arguments, input, &mut out, err)
 }
 

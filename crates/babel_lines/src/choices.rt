@@ -20,19 +20,18 @@ pub struct Choice {
     pub seqno: Seqno,
 }
 
-/// A prefix whose selected route is another than the one that was last printed. `None`: it has no
-/// route.
-pub fn select_line(time: u64, prefix: &Prefix, choice: &Option<Choice>) -> Line
-    ensures { result ≡ line (select_text time prefix.now choice.now) }
+/// The line becomes that of a prefix whose selected route is another than the one that was last printed. `None`: it has
+/// no route.
+pub fn set_select(text: &mut Line, time: u64, prefix: &Prefix, choice: &Option<Choice>)
+    ensures { text.new ≡ line (select_text time prefix.now choice.now) }
 {
-    let mut line = Line::new();
-    line.push_u64(time);
-    line.push_str(" select ");
-    line.push_prefix(prefix);
-    line.push_str(" ");
-    push_choice(&mut line, choice);
-    line.push_str("\n");
-    line
+    text.truncate(0);
+    text.push_u64(time);
+    text.push_str(" select ");
+    text.push_prefix(prefix);
+    text.push_str(" ");
+    push_choice(text, choice);
+    text.push_str("\n");
 }
 
 /// The selected route of a prefix at the end.

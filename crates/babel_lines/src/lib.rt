@@ -1,4 +1,5 @@
-//! The lines of the reports on a log, each put together in one `Line` with its line feed.
+//! The lines of the reports on a log, each put together in one `Line` with its line feed. Those that are written for the
+//! lines of a log take the place of what was in a `Line`, which is used again and again.
 //!
 //! `notes` has the lines of a datagram, `choices` those of the selected routes, and `routes` the line of
 //! one route.
@@ -9,6 +10,6 @@ mod notes;
 mod parts;
 mod routes;
 
-pub use choices::{Choice, select_line, table_line};
-pub use notes::{cost_refused_line, moment_line, out_line, push_tlv, refused_line};
+pub use choices::{Choice, set_select, table_line};
+pub use notes::{push_tlv, set_cost_refused, set_moment, set_out, set_refused};
 pub use routes::{RouteLine, RouteStatus, route_line};

@@ -10,15 +10,14 @@ use babel_packet::{Content, Placed};
 use babel_state::{RecvFault, SetCostFault, Target, Verdict};
 use babel_value::Line;
 
-/// The moment with which each line of a datagram begins.
-pub fn moment_line(time: u64) -> Line
-    ensures text { result ≡ moment_text time }
-    ensures short { length result ≤ longest_moment }
+/// The line becomes the moment with which each line of a datagram begins.
+pub fn set_moment(line: &mut Line, time: u64)
+    ensures text { line.new ≡ moment_text time }
+    ensures short { length line.new ≤ longest_moment }
 {
-    let mut line = Line::new();
+    line.truncate(0);
     line.push_u64(time);
     line.push_str(" ");
-    line
 }
 
 /// Appends what became of a TLV to the moment: a message with its verdict, `state`, or `ignored` and the reason.
@@ -70,16 +69,15 @@ fn push_verdict(line: &mut Line, verdict: &Verdict)
     }
 }
 
-/// A datagram that was refused.
-pub fn refused_line(time: u64, fault: RecvFault) -> Line
-    ensures { result ≡ line (refused_text time fault) }
+/// The line becomes that of a datagram that was refused.
+pub fn set_refused(text: &mut Line, time: u64, fault: RecvFault)
+    ensures { text.new ≡ line (refused_text time fault) }
 {
-    let mut line = Line::new();
-    line.push_u64(time);
-    line.push_str(" refused ");
-    push_refusal(&mut line, fault);
-    line.push_str("\n");
-    line
+    text.truncate(0);
+    text.push_u64(time);
+    text.push_str(" refused ");
+    push_refusal(text, fault);
+    text.push_str("\n");
 }
 
 /// Appends the code of the fault, with the offset after `P5`.
@@ -96,16 +94,15 @@ fn push_refusal(line: &mut Line, fault: RecvFault)
     }
 }
 
-/// A cost that was refused.
-pub fn cost_refused_line(time: u64, fault: SetCostFault) -> Line
-    ensures { result ≡ line (cost_refused_text time fault) }
+/// The line becomes that of a cost that was refused.
+pub fn set_cost_refused(text: &mut Line, time: u64, fault: SetCostFault)
+    ensures { text.new ≡ line (cost_refused_text time fault) }
 {
-    let mut line = Line::new();
-    line.push_u64(time);
-    line.push_str(" refused ");
-    push_cost_refusal(&mut line, fault);
-    line.push_str("\n");
-    line
+    text.truncate(0);
+    text.push_u64(time);
+    text.push_str(" refused ");
+    push_cost_refusal(text, fault);
+    text.push_str("\n");
 }
 
 /// Appends the code of the fault.
@@ -120,18 +117,17 @@ fn push_cost_refusal(line: &mut Line, fault: SetCostFault)
     }
 }
 
-/// A datagram that the speaker sends.
-pub fn out_line(time: u64, target: &Target, messages: usize) -> Line
-    ensures { result ≡ line (out_text time target.now messages) }
+/// The line becomes that of a datagram that the speaker sends.
+pub fn set_out(text: &mut Line, time: u64, target: &Target, messages: usize)
+    ensures { text.new ≡ line (out_text time target.now messages) }
 {
-    let mut line = Line::new();
-    line.push_u64(time);
-    line.push_str(" out ");
-    push_target(&mut line, target);
-    line.push_str(" ");
-    line.push_usize(messages);
-    line.push_str("\n");
-    line
+    text.truncate(0);
+    text.push_u64(time);
+    text.push_str(" out ");
+    push_target(text, target);
+    text.push_str(" ");
+    text.push_usize(messages);
+    text.push_str("\n");
 }
 
 /// Appends an interface, and the address or `all`.

@@ -1,5 +1,5 @@
 -- One more neighbour that a tick takes, and what a tick leaves of the order.
-use Rattle.std.proofs.Common.{◌≡◌, ℕ, suc, ◌+◌, ◌<◌, ◌≤◌, Bool, true, false, cond, ◌&&◌, List, [], ◌∷◌, ◌++◌, length, filter, get_or, set, take, drop, Some, None, refl, sym, ap, ◌∙◌, arith, add-one, append_assoc}
+use Rattle.std.proofs.Common.{◌≡◌, ℕ, suc, ◌+◌, ◌<◌, ◌≤◌, Bool, true, false, cond, ◌&&◌, List, [], ◌∷◌, ◌++◌, length, filter, get_or, set, take, drop, Some, None, refl, sym, ap, subst, ◌∙◌, arith, add-one, append_assoc}
 use Rattle.std.specs.List.{cons_option, list_all}
 use Rattle.std.specs.Option.{option_map}
 use Rattle.std.specs.Ordering.{is_lt}
@@ -7,7 +7,7 @@ use Rattle.std.specs.Cmp.{first_so, second_so}
 use Rattle.std.specs.FinMap.{is_sorted}
 use Rattle.std.specs.FinMap.Entries.{below_all}
 use Rattle.std.proofs.Math.Seq.{drop-cons}
-use Rattle.std.proofs.lemmas.List.{drop-set-lt, take_more_set, drop_all, append-nil}
+use Rattle.std.proofs.lemmas.List.{set-get_or, drop-set-lt, take_more_set, drop_all, append-nil}
 use Rattle.babel_value.specs.declared.keys.Peer.{Peer}
 use Rattle.babel_value.specs.Orders.{peer_cmp}
 use Rattle.babel_link.specs.declared.links.Link.{Link}
@@ -42,10 +42,22 @@ module _ (now : ℕ) (es : Links) (i : ℕ) (e : Peer × Link) (within : i < len
       rw (take_more_set es kept y (omega arith), drop-set-lt (i + 1) es kept y (omega arith), append_assoc)
       (ap (λ rest. take kept es ++ rest) (sym (tick_of-kept link stays)) ∙ so_far)
 
+  -- An entry that stays as it is, after none that is gone, isn't written.
+  pub set_here : (kept : ℕ) → kept ≡ i → set es kept e ≡ es
+  set_here kept here = ap (λ k. set es k e) here ∙ ap (set es i) read ∙ set-get_or es i e
+
+  pub stays_here : (kept : ℕ) (whole : Links) → kept ≡ i → ticked_link now e.1 ≡ Some e.1 → take kept es ++ tick_of now (drop i es) ≡ whole → take (kept + 1) es ++ tick_of now (drop (i + 1) es) ≡ whole
+  stays_here kept whole here stays so_far =
+      subst (λ (links : Links). take (kept + 1) links ++ tick_of now (drop (i + 1) links) ≡ whole) (set_here kept here)
+      (stays_more kept e.1 whole (omega arith) stays so_far)
+
   -- It adds nothing to what is gone.
+  pub goes_none : (link : Link) (gone whole : List Peer) → ticked_link now e.1 ≡ Some link → gone ++ gone_of now (drop i es) ≡ whole → gone ++ gone_of now (drop (i + 1) es) ≡ whole
+  goes_none link gone whole stays so_far = ap (λ rest. gone ++ rest) (sym (gone_of-kept link stays)) ∙ so_far
+
   pub goes_same : (kept : ℕ) (link : Link) (gone whole : List Peer) → kept ≤ i → ticked_link now e.1 ≡ Some link → gone ++ gone_of now (drop i es) ≡ whole → gone ++ gone_of now (drop (i + 1) (set es kept (e.0, link))) ≡ whole
   goes_same kept link gone whole late stays so_far =
-      rw (drop-set-lt (i + 1) es kept (e.0, link) (omega arith)) (ap (λ rest. gone ++ rest) (sym (gone_of-kept link stays)) ∙ so_far)
+      rw (drop-set-lt (i + 1) es kept (e.0, link) (omega arith)) (goes_none link gone whole stays so_far)
 
   -- An entry that goes leaves what stays, and is the next that is gone.
   pub stays_same : (before whole : Links) → ticked_link now e.1 ≡ None → before ++ tick_of now (drop i es) ≡ whole → before ++ tick_of now (drop (i + 1) es) ≡ whole

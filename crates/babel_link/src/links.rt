@@ -244,14 +244,24 @@ impl Link {
         }
     }
 
-    /// The link after a tick; `None` if that flushes the neighbour.
+    /// The link after the deadlines that are due were handled; `None` if that flushes the neighbour.
     #[tactic(auto, unfolding(crate::specs::Links::ticked_link))]
-    pub(crate) fn ticked(self, now: u64) -> Option<Link>
+    fn handled(self, now: u64) -> Option<Link>
         ensures { result ≡ ticked_link now self }
     {
         let link = self.fired(now, false)?;
         let link = link.fired(now, true)?;
         Some(link.expired(now))
+    }
+
+    /// The link after a tick; `None` if that flushes the neighbour.
+    pub(crate) fn ticked(self, now: u64) -> Option<Link>
+        ensures { result ≡ ticked_link now self }
+    {
+        if now < self.due() {
+            return Some(self);
+        }
+        self.handled(now)
     }
 
     /// The moment from which the txcost is too old; the greatest one if there is none.
@@ -311,7 +321,10 @@ impl Link {
     pub(crate) fn keeps_cost(&self, now: u64) -> bool
         ensures { IsTrue result → KeepsCost now self.now }
     {
-        match self.ticked(now) {
+        if now < self.due() {
+            return true;
+        }
+        match self.handled(now) {
             Some(after) => after.costs_as(self),
             None => false,
         }

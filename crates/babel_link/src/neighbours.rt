@@ -72,6 +72,13 @@ fn tick_links(
     let mut kept = 0;
     let mut due = u64::MAX;
     for place in 0..links.len() {
+        let quiet_until = links[place].1.due();
+        if kept == place && now < quiet_until {
+            // It stays as it is and where it is: nothing is copied.
+            due = due.min(quiet_until);
+            kept += 1;
+            continue;
+        }
         let (peer, link) = links[place];
         match link.ticked(now) {
             Some(link) => {

@@ -4,12 +4,11 @@ use Rattle.std.specs.Io.{StartsWith}
 use Rattle.std.specs.Io.KnownBytes.{Consumes, IsAtEnd}
 use Rattle.std.specs.Cmp.Lexicographic.{pointwise}
 use Rattle.std.specs.List.{position_or_len, before_first, after_first}
-use Rattle.hex.specs.Hex.{decode_sized}
-use Rattle.hex.specs.declared.FromHexError.{FromHexError}
 use Rattle.babel_value.specs.declared.addresses.Addr.{Addr}
 use Rattle.babel_value.specs.Texts.{IsAddrText}
 use Rattle.babel_text.specs.Lines.{max_line_len}
 use Rattle.babel_text.specs.Numbers.{IsNumberText}
+use Rattle.babel_text.specs.Octets.{hex_octets}
 use Rattle.babel_text.specs.declared.errors.LineFault.{LineFault}
 use Rattle.babel_text.specs.declared.errors.LineFault.TheVariants as faults
 use Rattle.babel_replay.specs.declared.log_lines.Action.{Action}
@@ -83,17 +82,6 @@ after_blank text = after_first (λ octet. octet == 32) text
 
 abbrev pub IsWord : List ℕ → List ℕ → Type 0
 IsWord text word = pointwise nat_eq text word ≡ true
-
--- Octets as two digits each, if there is room for them. None are written as `-`, and the empty text has no octets.
-abbrev pub octets_or_none : Result (List ℕ) FromHexError → Option (List ℕ)
-octets_or_none (Ok octets) = Some octets
-octets_or_none (Err fault) = None
-
-abbrev pub hex_octets : ℕ → List ℕ → Option (List ℕ)
-hex_octets room text =
-    if pointwise nat_eq text (codes "-") then Some []
-    else if length text / 2 == 0 || nat_lt room (length text / 2) then None
-    else octets_or_none (decode_sized text (length text / 2))
 
 -- ---- what a line means
 

@@ -3,10 +3,11 @@
 ghost use Rattle.std.specs.Prelude.{◌≡◌, None, Some, length, MatchOption, IfOk, IfErr};
 ghost use Rattle.babel_value.specs.Texts.{IsAddrText};
 ghost use Rattle.babel_text.specs.Numbers.{IsNumberText};
-ghost use Rattle.babel_replay.specs.LogLines.{is_skipped_line, HasBlank, before_blank, after_blank, HasTwoFields, HasThreeFields, hex_octets, IsReceiveText, IsCostText, IsLine};
+ghost use Rattle.babel_text.specs.Octets.{hex_octets};
+ghost use Rattle.babel_replay.specs.LogLines.{is_skipped_line, HasBlank, before_blank, after_blank, HasTwoFields, HasThreeFields, IsReceiveText, IsCostText, IsLine};
 ghost use Rattle.babel_replay.specs.LogLines.{IsNumber, IsAddress, IsTickFault, IsReceiveFault, IsCostFault, IsLineFault};
 
-use babel_text::{LineFault, parse_u16, parse_u64};
+use babel_text::{LineFault, parse_octets, parse_u16, parse_u64};
 use babel_value::Addr;
 
 /// A line of a log.
@@ -206,16 +207,8 @@ fn parse_hex<'a>(hex: &str, octets: &'a mut [u8]) -> Result<&'a [u8], LineFault>
     ensures ok { IfOk result (λ read. hex_octets (length octets.old) hex.now ≡ Some read.now) }
     ensures refused { IfErr result (λ fault. (fault ≡ LineFault.Hex) × (hex_octets (length octets.old) hex.now ≡ None)) }
 {
-    if hex == "-" {
-        return Ok(&[]);
-    }
-    let count = hex.len() / 2;
-    if count == 0 || count > octets.len() {
-        return Err(LineFault::Hex);
-    }
-    let front = &mut octets[..count];
-    match hex::decode_to_slice(hex, front) {
-        Ok(()) => Ok(front),
-        Err(_) => Err(LineFault::Hex),
+    match parse_octets(hex.as_bytes(), octets) {
+        Some(read) => Ok(read),
+        None => Err(LineFault::Hex),
     }
 }

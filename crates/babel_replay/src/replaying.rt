@@ -22,13 +22,13 @@ use crate::stepping::{Outcome, step};
 use crate::{Action, Event, LineFault, MAX_LINE_LEN, ReplayFault, parse_line};
 use arrayvec::ArrayVec;
 use babel_lines::{
-    Choice, cost_refused_line, moment_line, out_line, push_tlv, refused_line, select_line,
-    table_line,
+    Choice, push_tlv, set_cost_refused, set_moment, set_out, set_refused, set_select, table_line,
 };
 use babel_packet::{Placed, Refusal, decode};
 use babel_speaker::Speaker;
 use babel_speaker::laws::datagrams_take_items;
 use babel_state::{Config, ConfigFault, Note};
+use babel_tlv::DATAGRAM_LEN;
 use babel_value::{Line, Prefix};
 use std::alloc::{AllocError, Global};
 use std::io::{BufRead, Write};
@@ -87,12 +87,22 @@ pub(crate) fn write_line<W: Write>(out: &mut W, line: &Line) -> Result<(), LineF
     }
 }
 
+/// Room for what is written and sent, which is used again for each line of the log.
+#[derive(Drop)]
+struct Drafts {
+    /// A line of the report.
+    line: Line,
+    /// A datagram.
+    datagram: ArrayVec<u8, DATAGRAM_LEN>,
+}
+
 /// A speaker, and what was seen of it.
 #[derive(Drop)]
 struct Replayer {
     alloc: Global,
     speaker: Speaker,
     seen: SeenPrefixes,
+    drafts: Drafts,
 }
 
 impl Replayer {
@@ -108,6 +118,10 @@ impl Replayer {
                 alloc,
                 speaker,
                 seen: SeenPrefixes::new(alloc),
+                drafts: Drafts {
+                    line: Line::new(),
+                    datagram: ArrayVec::new(),
+                },
             }),
             Err(fault) => Err(fault),
         }
@@ -268,7 +282,7 @@ impl Replayer {
     {
         let added = self.write_outcome(time, placed, outcome, out)?;
         self.write_selections(time, changed || added, out)?;
-        send_datagrams(&mut self.speaker, time, out)
+        send_datagrams(&mut self.speaker, &mut self.drafts, time, out)
     }
 
     /// Writes what became of a line, and adds the prefixes of the Updates that were stored. Returns whether one of them
@@ -290,15 +304,17 @@ impl Replayer {
         match outcome {
             Outcome::Silent => Ok(false),
             Outcome::Notes(notes) => {
-                write_notes(time, placed, notes, out)?;
+                write_notes(&mut self.drafts.line, time, placed, notes, out)?;
                 Ok(self.seen.add_stored(placed, notes))
             }
             Outcome::Refused(fault) => {
-                write_line(out, &refused_line(time, *fault))?;
+                set_refused(&mut self.drafts.line, time, *fault);
+                write_line(out, &self.drafts.line)?;
                 Ok(false)
             }
             Outcome::CostRefused(fault) => {
-                write_line(out, &cost_refused_line(time, *fault))?;
+                set_cost_refused(&mut self.drafts.line, time, *fault);
+                write_line(out, &self.drafts.line)?;
                 Ok(false)
             }
         }
@@ -390,7 +406,8 @@ impl Replayer {
             return Ok(());
         }
         self.seen.set(index, choice);
-        write_line(out, &select_line(time, &prefix, &choice))
+        set_select(&mut self.drafts.line, time, &prefix, &choice);
+        write_line(out, &self.drafts.line)
     }
 
     /// What is printed of the prefix's selected route.
@@ -429,6 +446,7 @@ impl Replayer {
 
 /// Writes a line for each TLV.
 fn write_notes<W: Write>(
+    line: &mut Line,
     time: u64,
     placed: &[Placed],
     notes: &[Note],
@@ -437,30 +455,35 @@ fn write_notes<W: Write>(
     ensures written { OnOk result (Appends (W.contents out.old) (W.contents out.new) (note_lines time placed.now notes.now)) }
     ensures failed { IfErr result (λ fault. fault ≡ LineFault.Write) }
 {
-    let mut line = moment_line(time);
+    set_moment(line, time);
     let start = line.octets().len();
     for (place, note) in placed.iter().zip(notes) {
         line.truncate(start);
-        push_tlv(&mut line, place, &note.verdict);
-        write_line(out, &line)?;
+        push_tlv(line, place, &note.verdict);
+        write_line(out, line)?;
     }
     Ok(())
 }
 
 /// Takes datagrams from the speaker until there is none, and writes an `out` line for each.
-fn send_datagrams<W: Write>(speaker: &mut Speaker, time: u64, out: &mut W) -> Result<(), LineFault>
+fn send_datagrams<W: Write>(
+    speaker: &mut Speaker,
+    drafts: &mut Drafts,
+    time: u64,
+    out: &mut W,
+) -> Result<(), LineFault>
     ensures kept { KeepsRoutes speaker.old speaker.new }
     ensures sent { OnOk result (Sends time speaker.old speaker.new (W.contents out.old) (W.contents out.new)) }
     ensures failed { IfErr result (λ fault. fault ≡ LineFault.Write) }
 {
     datagrams_take_items();
-    let mut datagram = ArrayVec::new();
     for _ in 0..speaker.pending_count() + 1 {
-        let Some(target) = speaker.next_datagram(time, &mut datagram) else {
+        let Some(target) = speaker.next_datagram(time, &mut drafts.datagram) else {
             return Ok(());
         };
-        let messages = count_messages(&datagram);
-        write_line(out, &out_line(time, &target, messages))?;
+        let messages = count_messages(&drafts.datagram);
+        set_out(&mut drafts.line, time, &target, messages);
+        write_line(out, &drafts.line)?;
     }
     Ok(())
 }

@@ -107,8 +107,7 @@ impl SeenPrefixes {
         if self.is_at(next, &prefix) {
             self.last = next;
         } else {
-            self.add(prefix);
-            self.last = self.table.get_index_of(&prefix).unwrap_or(0);
+            self.search_or_add(prefix);
         }
     }
 
@@ -116,19 +115,21 @@ impl SeenPrefixes {
     fn is_at(&self, index: usize, prefix: &Prefix) -> bool
         ensures { IsTrue result → with_seen prefix.now self.now.entries ≡ self.now.entries }
     {
-        let Some(seen) = self.get(index) else {
-            return false;
-        };
-        prefix.cmp(&seen.0).is_eq()
+        match self.table.get_index(index) {
+            Some((seen, _)) => prefix.cmp(seen).is_eq(),
+            None => false,
+        }
     }
 
-    /// Adds a prefix, for which there is room.
-    fn add(&mut self, prefix: Prefix)
+    /// Searches for a prefix, and adds it unless it was seen.
+    fn search_or_add(&mut self, prefix: Prefix)
         requires { 0 < self.old.room }
         ensures seen { self.new.entries ≡ with_seen prefix self.old.entries }
         ensures room { self.old.room ≤ self.new.room + 1 }
     {
-        if !self.table.contains_key(&prefix) {
+        let found = self.table.get_index_of(&prefix);
+        self.last = found.unwrap_or(self.table.len());
+        if found.is_none() {
             let _ = self.table.insert(prefix, None);
         }
     }

@@ -3,7 +3,7 @@
 use crate::Status;
 use crate::one::{read_source, write_meaning};
 use babel_packet::{Refusal, decode};
-use babel_text::{LineFault, MAX_LINE_LEN};
+use babel_text::{LineFault, MAX_LINE_LEN, parse_octets};
 use babel_value::Addr;
 use std::alloc::Global;
 use std::io::{BufRead, BufReader, Read, Write};
@@ -140,7 +140,9 @@ impl Shower {
             return Ok(());
         }
         let (source, hex) = parse_line(line, self.source)?;
-        let datagram = decode_hex(hex, octets)?;
+        let Some(datagram) = parse_octets(hex, octets) else {
+            return Err(LineFault::Hex);
+        };
         self.write_head(number, source, out)?;
         match decode(self.alloc, datagram, source) {
             Err(Refusal::Memory) => Err(LineFault::Memory),
@@ -206,20 +208,4 @@ fn parse_line(line: &[u8], source: Addr) -> Result<(Addr, &[u8]), LineFault> {
         return Err(LineFault::Address);
     };
     Ok((read_source(text)?, &line[blank + 1..]))
-}
-
-/// Reads the octets into the front of `octets`, and returns that front.
-fn decode_hex<'a>(hex: &[u8], octets: &'a mut [u8]) -> Result<&'a [u8], LineFault> {
-    if let [b'-'] = hex {
-        return Ok(&[]);
-    }
-    let count = hex.len() / 2;
-    if count == 0 || count > octets.len() {
-        return Err(LineFault::Hex);
-    }
-    let front = &mut octets[..count];
-    match hex::decode_to_slice(hex, front) {
-        Ok(()) => Ok(front),
-        Err(_) => Err(LineFault::Hex),
-    }
 }

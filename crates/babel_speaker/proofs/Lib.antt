@@ -6,3 +6,4 @@ pub mod SettledMessages
 pub mod FirstFits
 pub mod SettledSends
 pub mod TakenItems
+pub mod RequestsKept

@@ -13,7 +13,7 @@ use babel_state::{Item, Verdict};
 use babel_value::{Distance, Peer, Source};
 
 /// Handles a message of a neighbour. Unless `changed` is `true` then, the selected routes are reported as before. It is
-/// always `true` after the rarer messages.
+/// always `true` after a retraction of all routes. A request leaves it as it is.
 fn handle_from_neighbour(
     core: &mut Core,
     now: u64,
@@ -59,14 +59,8 @@ fn handle_from_neighbour(
             *changed = true;
             core.handle_retract_all(now, peer, scratch)
         }
-        Message::RouteRequest { prefix } => {
-            *changed = true;
-            core.handle_route_request(peer, prefix)
-        }
-        Message::DumpRequest => {
-            *changed = true;
-            core.handle_dump_request(peer)
-        }
+        Message::RouteRequest { prefix } => core.handle_route_request(peer, prefix),
+        Message::DumpRequest => core.handle_dump_request(peer),
         Message::SeqnoRequest {
             prefix,
             router,
@@ -77,7 +71,6 @@ fn handle_from_neighbour(
                 prefix: *prefix,
                 router: *router,
             };
-            *changed = true;
             core.handle_seqno_request(now, peer, &source, *seqno, *hops)
         }
         _ => Verdict::Taken,
@@ -104,7 +97,6 @@ pub(crate) fn handle_message(
 {
     match message {
         Message::AckRequest { opaque, .. } => {
-            *changed = true;
             core.queue(Item::Ack {
                 peer: *peer,
                 opaque: *opaque,

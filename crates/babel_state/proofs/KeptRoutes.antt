@@ -103,7 +103,7 @@ selected_routes p entries s t old new is before after alike prefix =
         (selected_after prefix p (with_entries entries s)
         ∙ ap (λ b. cond b (choice_at s.sources (cost_at s) p (announces p s) (with_entries entries s).routes) (selected_at prefix s)) other)
 
-kept_routes : (s t : State) → kept_of t ≡ kept_of s → KeepsRoutes s t
+pub kept_routes : (s t : State) → kept_of t ≡ kept_of s → KeepsRoutes s t
 unfolding kept_of selected_route
 kept_routes s t same prefix = ap (selected_route prefix) same
 

@@ -1,5 +1,6 @@
 pub mod Readings
 pub mod Numbers
+pub mod Octets
 pub mod Prefixes
 pub mod RouterIds
 pub mod Lines

@@ -7,10 +7,12 @@
 mod errors;
 pub mod laws;
 mod numbers;
+mod octets;
 mod prefixes;
 mod router_ids;
 
 pub use errors::{LineFault, MAX_LINE_LEN};
 pub use numbers::{parse_u8, parse_u16, parse_u64};
+pub use octets::parse_octets;
 pub use prefixes::{parse_network, parse_prefix};
 pub use router_ids::parse_router_id;

@@ -1,35 +1,60 @@
--- The digits of a number: decimal ones two at a time, and up to four hexadecimal ones.
-use Rattle.std.proofs.Common.{◌≡◌, ℕ, suc, ◌+◌, ◌/◌, ◌%◌, ◌^◌, ◌<◌, ◌≤◌, Bool, true, false, cond, eqb, List, [], ◌∷◌, ◌++◌, refl, sym, ap, ◌∙◌, arith, append_assoc}
+-- The digits of a number: up to five decimal ones, and up to four hexadecimal ones.
+use Rattle.std.proofs.Common.{◌≡◌, ℕ, suc, ⊎_elim, append-nil, ◌+◌, ◌/◌, ◌%◌, ◌^◌, ◌<◌, ◌≤◌, Bool, true, false, cond, eqb, List, [], ◌∷◌, ◌++◌, refl, sym, ap, ◌∙◌, arith, append_assoc}
 use Rattle.std.proofs.lemmas.Fmt.{decimal_digit, decimal_step}
-use Rattle.std.proofs.lemmas.Bool.{ne_eqb}
+use Rattle.std.proofs.lemmas.Bool.{ne_eqb, cases_lt, lt-ltb}
+use Rattle.std.specs.Prelude.{nat_lt, if◌then◌else◌}
+use Rattle.babel_value.specs.Lines.{last_digit, last_hex_digit}
 use Rattle.std.specs.Fmt.{decimal, digits, digits_onto, digit_glyph}
 
-abbrev pub pair : ℕ → List ℕ
-pair n = (48 + n / 10) ∷ (48 + n % 10) ∷ []
+-- A number in decimal, and nothing for 0.
+abbrev front : ℕ → List ℕ
+front n = if nat_lt 0 n then decimal n else []
 
-pub decimal_two : (n : ℕ) → 10 ≤ n → n < 100 → decimal n ≡ pair n
-decimal_two n low high = rw (decimal_step n low (omega arith), decimal_digit (n / 10) (omega arith))
+decimal_last : (n : ℕ) → n < 65536 → front (n / 10) ++ (48 + n % 10) ∷ [] ≡ decimal n
+decimal_last n high = ⊎_elim
+    (λ small.
+    let none : n / 10 ≡ 0 = omega arith in
+    let last : n % 10 ≡ n = omega arith in rw (none, last) (sym (decimal_digit n small)))
+    (λ large.
+    let some : 0 < n / 10 = omega arith in
+    let fits : n < 2 ^ 64 = omega arith in rw (lt-ltb 0 (n / 10) some) (sym (decimal_step n large fits)))
+    (cases_lt n 10)
 
-decimal_pair : (n : ℕ) → 100 ≤ n → n < 2 ^ 64 → decimal n ≡ decimal (n / 100) ++ pair (n % 100)
-decimal_pair n low high =
-    let a : n / 10 / 10 ≡ n / 100 = omega arith in
-    let b : n / 10 % 10 ≡ n % 100 / 10 = omega arith in
-    let c : n % 10 ≡ n % 100 % 10 = omega arith in
-    rw (decimal_step n (omega arith) high, decimal_step (n / 10) (omega arith) (omega arith), append_assoc, a, b, ← c)
+front_last : (n : ℕ) → n < 65536 → front (n / 10) ++ last_digit n ≡ front n
+front_last n high = ⊎_elim
+    (λ some. rw (lt-ltb 0 n some) (decimal_last n high))
+    (λ none. let nothing : n ≡ 0 = omega arith in rw nothing refl)
+    (cases_lt 0 n)
 
-pub decimal_four : (xs : List ℕ) (n : ℕ) → 100 ≤ n → n < 10000 → (xs ++ decimal (n / 100)) ++ pair (n % 100) ≡ xs ++ decimal n
-decimal_four xs n low high = append_assoc xs (decimal (n / 100)) (pair (n % 100)) ∙ ap (λ (t : List ℕ). xs ++ t) (sym (decimal_pair n low (omega arith)))
+module _ (xs ys : List ℕ) (n : ℕ) (high : n < 65536) (is : ys ≡ xs ++ front (n / 10)) where
+  grows : ys ++ last_digit n ≡ xs ++ front n
+  grows = ap (λ (t : List ℕ). t ++ last_digit n) is ∙ append_assoc xs (front (n / 10)) (last_digit n) ∙ ap (λ (t : List ℕ). xs ++ t) (front_last n high)
 
-pub decimal_five : (xs : List ℕ) (n : ℕ) → 10000 ≤ n → n < 65536 →
-    ((xs ++ ((48 + n / 10000) ∷ [])) ++ pair (n / 100 % 100)) ++ pair (n % 100) ≡ xs ++ decimal n
-decimal_five xs n low high =
-    let first : decimal (n / 100 / 100) ≡ (48 + n / 10000) ∷ [] =
-    let e : n / 100 / 100 ≡ n / 10000 = omega arith in ap decimal e ∙ decimal_digit (n / 10000) (omega arith) in
-    let front : decimal (n / 100) ≡ ((48 + n / 10000) ∷ []) ++ pair (n / 100 % 100) =
-    decimal_pair (n / 100) (omega arith) (omega arith) ∙ ap (λ (t : List ℕ). t ++ pair (n / 100 % 100)) first in
-    ap (λ (t : List ℕ). t ++ pair (n % 100)) (append_assoc xs ((48 + n / 10000) ∷ []) (pair (n / 100 % 100)) ∙ ap (λ (t : List ℕ). xs ++ t) (sym front))
-    ∙ append_assoc xs (decimal (n / 100)) (pair (n % 100))
-    ∙ ap (λ (t : List ℕ). xs ++ t) (sym (decimal_pair n (omega arith) (omega arith)))
+  ends : ys ++ (48 + n % 10) ∷ [] ≡ xs ++ decimal n
+  ends = ap (λ (t : List ℕ). t ++ (48 + n % 10) ∷ []) is ∙ append_assoc xs (front (n / 10)) _ ∙ ap (λ (t : List ℕ). xs ++ t) (decimal_last n high)
+
+begins : (xs : List ℕ) (n : ℕ) → n < 10 → xs ++ last_digit n ≡ xs ++ front n
+begins xs n small =
+    let none : n / 10 ≡ 0 = omega arith in grows xs xs n (omega arith) (sym (append-nil xs) ∙ ap (λ (m : ℕ). xs ++ front m) (sym none))
+
+-- One digit more of the number's first ones.
+next : (xs ys : List ℕ) (m n : ℕ) → n < 65536 → m ≡ n / 10 → ys ≡ xs ++ front m → ys ++ last_digit n ≡ xs ++ front n
+next xs ys m n high same is = grows xs ys n high (is ∙ ap (λ (k : ℕ). xs ++ front k) same)
+
+pub decimal_of_three : (xs : List ℕ) (n : ℕ) → n < 1000
+    → ((xs ++ last_digit (n / 100)) ++ last_digit (n / 10)) ++ (48 + n % 10) ∷ [] ≡ xs ++ decimal n
+decimal_of_three xs n high =
+    let one = begins xs (n / 100) (omega arith) in
+    let two = next xs _ (n / 100) (n / 10) (omega arith) (omega arith) one in ends xs _ n (omega arith) two
+
+pub decimal_of_five : (xs : List ℕ) (n : ℕ) → n < 65536
+    → ((((xs ++ last_digit (n / 10000)) ++ last_digit (n / 1000)) ++ last_digit (n / 100)) ++ last_digit (n / 10)) ++ (48 + n % 10) ∷ []
+    ≡ xs ++ decimal n
+decimal_of_five xs n high =
+    let one = begins xs (n / 10000) (omega arith) in
+    let two = next xs _ (n / 10000) (n / 1000) (omega arith) (omega arith) one in
+    let three = next xs _ (n / 1000) (n / 100) (omega arith) (omega arith) two in
+    let four = next xs _ (n / 100) (n / 10) (omega arith) (omega arith) three in ends xs _ n high four
 
 from_onto : (n : ℕ) → digits 16 false n ≡ digits_onto 64 16 false n []
 unfolding digits
@@ -68,3 +93,41 @@ hex_four n low high =
     ∙ last (n / 16 / 16 / 16) _ 60 (omega arith)
     ∙ ap (λ (d : ℕ). digit_glyph false d ∷ digit_glyph false (n / 16 / 16 % 16) ∷ digit_glyph false (n / 16 % 16) ∷ digit_glyph false (n % 16) ∷ []) f
     ∙ ap (λ (d : ℕ). digit_glyph false (n / 4096) ∷ digit_glyph false d ∷ digit_glyph false (n / 16 % 16) ∷ digit_glyph false (n % 16) ∷ []) e
+
+-- ---- the digits before the last one
+
+no_digit : (n : ℕ) → n ≡ 0 → last_hex_digit n ≡ []
+no_digit n none = ap last_hex_digit none
+
+a_digit : (n : ℕ) → 0 < n → last_hex_digit n ≡ digit_glyph false (n % 16) ∷ []
+a_digit n some = ap (λ (b : Bool). if b then digit_glyph false (n % 16) ∷ [] else []) (lt-ltb 0 n some)
+
+module _ (xs : List ℕ) (n : ℕ) where
+  abbrev pushed : List ℕ
+  pushed = ((xs ++ last_hex_digit (n / 4096)) ++ last_hex_digit (n / 256)) ++ last_hex_digit (n / 16)
+
+  one_digit : n < 16 → pushed ++ digit_glyph false (n % 16) ∷ [] ≡ xs ++ digits 16 false n
+  one_digit high =
+      rw (no_digit (n / 4096) (omega arith), no_digit (n / 256) (omega arith), no_digit (n / 16) (omega arith), append-nil, append-nil, append-nil)
+      (ap (λ (t : List ℕ). xs ++ t) (sym (hex_one n high)))
+
+  two_digits : 16 ≤ n → n < 256 → pushed ++ digit_glyph false (n % 16) ∷ [] ≡ xs ++ digits 16 false n
+  two_digits low high =
+      rw (no_digit (n / 4096) (omega arith), no_digit (n / 256) (omega arith), a_digit (n / 16) (omega arith), append-nil, append-nil, append_assoc)
+      (ap (λ (t : List ℕ). xs ++ t) (sym (hex_two n low high)))
+
+  three_digits : 256 ≤ n → n < 4096 → pushed ++ digit_glyph false (n % 16) ∷ [] ≡ xs ++ digits 16 false n
+  three_digits low high =
+      rw (no_digit (n / 4096) (omega arith), a_digit (n / 256) (omega arith), a_digit (n / 16) (omega arith), append-nil, append_assoc, append_assoc)
+      (ap (λ (t : List ℕ). xs ++ t) (sym (hex_three n low high)))
+
+  four_digits : 4096 ≤ n → n < 65536 → pushed ++ digit_glyph false (n % 16) ∷ [] ≡ xs ++ digits 16 false n
+  four_digits low high =
+      let first : n / 4096 % 16 ≡ n / 4096 = omega arith in
+      rw (a_digit (n / 4096) (omega arith), a_digit (n / 256) (omega arith), a_digit (n / 16) (omega arith), append_assoc, append_assoc, append_assoc, first)
+      (ap (λ (t : List ℕ). xs ++ t) (sym (hex_four n low high)))
+
+  pub hex_of_four : n < 65536 → pushed ++ digit_glyph false (n % 16) ∷ [] ≡ xs ++ digits 16 false n
+  hex_of_four high = ⊎_elim one_digit
+      (λ two. ⊎_elim (two_digits two) (λ three. ⊎_elim (three_digits three) (λ four. four_digits four high) (cases_lt n 4096)) (cases_lt n 256))
+      (cases_lt n 16)

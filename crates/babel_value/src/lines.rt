@@ -1,34 +1,39 @@
 //! Lines of text, put together before they are written at once.
 
-ghost use Rattle.std.specs.Prelude.{◌≡◌, ◌+◌, ◌*◌, ◌/◌, ◌%◌, ◌<◌, ◌≤◌, [], ◌∷◌, ◌++◌, false, Some, codes, length, slice_index, take};
+ghost use Rattle.std.specs.Prelude.{if◌then◌else◌, ◌≡◌, ◌+◌, ◌*◌, ◌/◌, ◌%◌, ◌<◌, ◌≤◌, [], ◌∷◌, ◌++◌, false, Some, codes, length, slice_index, take};
 ghost use Rattle.std.specs.Fmt.{decimal, digits, digit_glyph};
 ghost use Rattle.babel_value.specs.Texts.{addr_text, ipv4_text, groups_text, group_text, prefix_text, router_text};
-ghost use Rattle.babel_value.specs.Lines.{line_room};
+ghost use Rattle.babel_value.specs.Lines.{line_room, last_digit, last_hex_digit};
 
 use crate::{Addr, Prefix, RouterId};
-use arrayvec::ArrayVec;
 use itoa::Buffer;
+use std::cmp::min;
 use std::fmt;
 use std::marker::Model;
 
 /// How many octets a line has room for.
 pub const LINE_ROOM: usize = 256;
 
+/// The hexadecimal digits, in lower case.
+const HEX_DIGITS: [u8; 16] = *b"0123456789abcdef";
+
 /// A line of text of at most `LINE_ROOM` octets. What is printed often is put together here and written by
 /// one call.
 #[derive(Drop)]
 pub struct Line {
-    octets: ArrayVec<u8, LINE_ROOM>,
+    octets: [u8; LINE_ROOM],
+    len: usize,
 }
 
 impl Model for Line {
-    ghost use Rattle.std.specs.Prelude.{List, ℕ};
+    ghost use Rattle.std.specs.Prelude.{List, ℕ, ◌≤◌, take};
+    ghost use Rattle.babel_value.specs.Lines.{line_room};
 
     ghost Value = { List ℕ };
 
-    ghost view = { λ l. l.octets.items };
+    ghost view = { λ l. take l.len l.octets };
 
-    ghost inverse = { λ octets. record { octets = record { items = octets } } };
+    ghost invariant = { λ l. l.len ≤ line_room };
 }
 
 impl Line {
@@ -38,7 +43,8 @@ impl Line {
         ensures { result ≡ [] }
     {
         Line {
-            octets: ArrayVec::new(),
+            octets: [0; LINE_ROOM],
+            len: 0,
         }
     }
 
@@ -56,8 +62,21 @@ impl Line {
         requires room { length self.old + length octets.now ≤ line_room }
         ensures text { self.new ≡ self.old ++ octets.now }
     {
-        // It is pushed, since there is room.
-        let _ = self.octets.try_extend_from_slice(octets);
+        let end = self.len + octets.len();
+        self.octets[self.len..end].copy_from_slice(octets);
+        self.len = end;
+    }
+
+    /// Appends an octet if it counts. It is written in any case, so that nothing branches on it.
+    #[inline(always)]
+    fn push_if(&mut self, counts: bool, octet: u8)
+        requires room { length self.old + 1 ≤ line_room }
+        ensures text { self.new ≡ self.old ++ (if counts then octet ∷ [] else []) }
+        ensures short { length self.new ≤ length self.old + 1 }
+    {
+        let len = self.len;
+        self.octets[len] = octet;
+        self.len = len + usize::from(counts);
     }
 
     /// The octets of the line.
@@ -65,7 +84,7 @@ impl Line {
     pub fn octets(&self) -> &[u8]
         ensures { result.now ≡ self.now }
     {
-        self.octets.as_slice()
+        &self.octets[..self.len]
     }
 
     /// Leaves only the first `len` octets of the line.
@@ -73,7 +92,7 @@ impl Line {
     pub fn truncate(&mut self, len: usize)
         ensures { self.new ≡ take len self.old }
     {
-        self.octets.truncate(len);
+        self.len = min(self.len, len);
     }
 
     /// Appends a number in decimal.
@@ -104,16 +123,42 @@ impl Line {
         ensures text { self.new ≡ self.old ++ decimal number }
         ensures short { length self.new ≤ length self.old + 5 }
     {
-        if number < 100 {
-            self.push_first(number);
-        } else if number < 10_000 {
-            self.push_first(number / 100);
-            self.push_pair(number % 100);
-        } else {
-            self.push_octets(&[b'0' + (number / 10_000) as u8]);
-            self.push_pair(number / 100 % 100);
-            self.push_pair(number % 100);
-        }
+        self.push_digit(number / 10_000);
+        self.push_digit(number / 1000);
+        self.push_digit(number / 100);
+        self.push_digit(number / 10);
+        self.push_ones(number);
+    }
+
+    /// Appends a number in decimal.
+    pub fn push_u8(&mut self, number: u8)
+        requires room { length self.old + 3 ≤ line_room }
+        ensures text { self.new ≡ self.old ++ decimal number }
+        ensures short { length self.new ≤ length self.old + 3 }
+    {
+        let number = u16::from(number);
+        self.push_digit(number / 100);
+        self.push_digit(number / 10);
+        self.push_ones(number);
+    }
+
+    /// Appends the last decimal digit of a number, but nothing if the number is 0.
+    #[inline(always)]
+    fn push_digit(&mut self, number: u16)
+        requires room { length self.old + 1 ≤ line_room }
+        ensures text { self.new ≡ self.old ++ last_digit number }
+        ensures short { length self.new ≤ length self.old + 1 }
+    {
+        self.push_if(number > 0, b'0' + (number % 10) as u8);
+    }
+
+    /// Appends the last decimal digit of a number.
+    #[inline(always)]
+    fn push_ones(&mut self, number: u16)
+        requires room { length self.old + 1 ≤ line_room }
+        ensures text { self.new ≡ self.old ++ (48 + number % 10) ∷ [] }
+    {
+        self.push_if(true, b'0' + (number % 10) as u8);
     }
 
     /// Appends a text, such as the name of a field, and a number in decimal.
@@ -138,52 +183,29 @@ impl Line {
         self.push_field(second, other);
     }
 
-    /// Appends a number of one or two digits.
-    #[inline(always)]
-    fn push_first(&mut self, number: u16)
-        requires small { number < 100 }
-        requires room { length self.old + 2 ≤ line_room }
-        ensures text { self.new ≡ self.old ++ decimal number }
-        ensures short { length self.new ≤ length self.old + 2 }
-    {
-        if number < 10 {
-            self.push_octets(&[b'0' + number as u8]);
-        } else {
-            self.push_pair(number);
-        }
-    }
-
-    /// Appends two decimal digits.
-    #[inline(always)]
-    fn push_pair(&mut self, number: u16)
-        requires small { number < 100 }
-        requires room { length self.old + 2 ≤ line_room }
-        ensures text { self.new ≡ self.old ++ (48 + number / 10) ∷ (48 + number % 10) ∷ [] }
-    {
-        let tens = b'0' + (number / 10) as u8;
-        let ones = b'0' + (number % 10) as u8;
-        self.push_octets(&[tens, ones]);
-    }
-
     /// Appends a number in hexadecimal, in lower case.
     fn push_hex(&mut self, number: u16)
         requires room { length self.old + 4 ≤ line_room }
         ensures text { self.new ≡ self.old ++ digits 16 false number }
         ensures short { length self.new ≤ length self.old + 4 }
     {
-        let ones = hex_digit(number % 16);
-        if number < 0x10 {
-            return self.push_octets(&[ones]);
+        if number == 0 {
+            return self.push_str("0");
         }
-        let sixteens = hex_digit(number / 0x10 % 16);
-        if number < 0x100 {
-            return self.push_octets(&[sixteens, ones]);
-        }
-        let third = hex_digit(number / 0x100 % 16);
-        if number < 0x1000 {
-            return self.push_octets(&[third, sixteens, ones]);
-        }
-        self.push_octets(&[hex_digit(number / 0x1000), third, sixteens, ones]);
+        self.push_hex_digit(number / 0x1000);
+        self.push_hex_digit(number / 0x100);
+        self.push_hex_digit(number / 0x10);
+        self.push_if(true, hex_digit(number % 16));
+    }
+
+    /// Appends the last hexadecimal digit of a number, but nothing if the number is 0.
+    #[inline(always)]
+    fn push_hex_digit(&mut self, number: u16)
+        requires room { length self.old + 1 ≤ line_room }
+        ensures text { self.new ≡ self.old ++ last_hex_digit number }
+        ensures short { length self.new ≤ length self.old + 1 }
+    {
+        self.push_if(number > 0, hex_digit(number % 16));
     }
 
     /// Appends four groups of an IPv6 address, from this octet on.
@@ -209,13 +231,13 @@ impl Line {
         ensures short { length self.new ≤ length self.old + 23 }
     {
         let [a, b, c, d] = octets;
-        self.push_u16(u16::from(a));
+        self.push_u8(a);
         self.push_str(".");
-        self.push_u16(u16::from(b));
+        self.push_u8(b);
         self.push_str(".");
-        self.push_u16(u16::from(c));
+        self.push_u8(c);
         self.push_str(".");
-        self.push_u16(u16::from(d));
+        self.push_u8(d);
     }
 
     /// Appends an address.
@@ -242,7 +264,7 @@ impl Line {
     {
         self.push_addr(&prefix.addr());
         self.push_str("/");
-        self.push_u16(u16::from(prefix.length()));
+        self.push_u8(prefix.length());
     }
 
     /// Appends a router-id.
@@ -264,7 +286,7 @@ impl fmt::Display for Line {
 
     #[inline]
     fn fmt<W: fmt::Write>(&self, f: &mut fmt::Formatter<W>) -> fmt::Result {
-        match str::from_utf8(self.octets.as_slice()) {
+        match str::from_utf8(self.octets()) {
             Ok(text) => f.write_str(text),
             Err(_) => Err(fmt::Error),
         }
@@ -277,12 +299,7 @@ fn hex_digit(digit: u16) -> u8
     requires { digit < 16 }
     ensures { result ≡ digit_glyph false digit }
 {
-    let digit = digit as u8;
-    if digit < 10 {
-        b'0' + digit
-    } else {
-        b'a' - 10 + digit
-    }
+    HEX_DIGITS[digit as usize]
 }
 
 /// The number in the two octets from this index on.

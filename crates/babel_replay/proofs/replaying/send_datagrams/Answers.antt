@@ -22,7 +22,7 @@ loop-preserved g c = (
       (counted_of (transport_at c.in-Some.target.iface c.loop.speaker) c.next_datagram.new.out.items c.deref.result.now
       (draft_at c.args.time c.loop.speaker).messages c.count_messages-messages.result c.in-Some.ensures.octets c.deref.ensures.0 c.count_messages-messages.ensures)
       c.next_datagram.ensures.state
-      (subst (Appends (g.W.Write.contents c.loop.out) (g.W.Write.contents c.write_line.new.out)) c.out_line.ensures c.in_ok-write_line.ensures.written),
+      (subst (Appends (g.W.Write.contents c.loop.out) (g.W.Write.contents c.write_line.new.out)) c.set_out.ensures c.in_ok-write_line.ensures.written),
   fewer_left c.datagrams_take_items.ensures c.loop.counter (length c.args.speaker.now.pending.items) c.args.time c.loop.speaker c.in-Some.target
       c.next_datagram.new.self c.loop.invariant.1 c.in-Some.ensures.target c.next_datagram.ensures.state,
   routes_through c.args.speaker.now c.loop.speaker c.next_datagram.new.self c.loop.invariant.2 c.next_datagram.ensures.kept,
