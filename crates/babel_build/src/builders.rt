@@ -63,6 +63,17 @@ impl Builder {
         }
     }
 
+    /// Begins another datagram in place of this one. It is the same as a new builder, but no octet is moved.
+    pub fn begin(&mut self, source: Addr)
+        ensures empty { self.new ≡ record { source = source; body = [] } }
+        ensures silent { HasEncoded self.new [] }
+    {
+        one_more_message();
+        self.source = source;
+        self.octets.truncate(HEADER_LEN);
+        self.state = ParserState::new(source);
+    }
+
     /// Adds the message in few octets (RFC 8966, section 4.5), if its TLVs fit. Otherwise it returns
     /// `false`, and nothing has changed.
     #[must_use]
@@ -86,26 +97,45 @@ impl Builder {
         fits
     }
 
-    /// The datagram: the header with the length of the body, and the body.
+    /// Writes the datagram to `out`, in place of what was there: the header with the length of the body, and the
+    /// body.
+    pub fn write_to(&self, out: &mut ArrayVec<u8, DATAGRAM_LEN>)
+        ensures octets { out.new.items ≡ datagram self.now.body }
+        // The datagram means the messages that were added.
+        ensures means { (decoded : List Message) → HasEncoded self.now decoded → Means out.new.items self.now.source decoded }
+    {
+        one_more_message();
+        copy_to(&self.octets, out);
+        set_length(out);
+    }
+
+    /// The datagram, as [`Builder::write_to`] writes it.
     pub fn finish(self) -> ArrayVec<u8, DATAGRAM_LEN>
         ensures octets { result.items ≡ datagram self.body }
-        // The datagram means the messages that were added.
         ensures means { (decoded : List Message) → HasEncoded self decoded → Means result.items self.source decoded }
     {
         one_more_message();
-        with_length(self.octets)
+        let mut octets = self.octets;
+        set_length(&mut octets);
+        octets
     }
 }
 
-/// The octets, with the length of the body in the header.
-fn with_length(octets: Datagram) -> Datagram
-    requires { IsBegun octets.items }
-    ensures { result.items ≡ datagram (drop datagram_header_len octets.items) }
+/// Makes the second the same as the first.
+fn copy_to(octets: &Datagram, out: &mut Datagram)
+    ensures { out.new.items ≡ octets.now.items }
 {
-    let mut octets = octets;
+    out.clear();
+    out.try_extend_from_slice(octets.as_slice()).unwrap();
+}
+
+/// Writes the length of the body into the header.
+fn set_length(octets: &mut Datagram)
+    requires { IsBegun octets.old.items }
+    ensures { octets.new.items ≡ datagram (drop datagram_header_len octets.old.items) }
+{
     let length = octets.len() - HEADER_LEN;
     let [high, low] = octets_of(length as u16);
     octets[2] = high;
     octets[3] = low;
-    octets
 }

@@ -8,3 +8,5 @@ pub mod StaleReselections
 pub mod SettledSends
 pub mod Restoring
 pub mod RoutesKept
+pub mod SentUpdates
+pub mod Expiries

@@ -1,7 +1,8 @@
 -- If the cost of one link changed, the selections of the prefixes to which its neighbour has no route stay current.
-use Rattle.std.specs.Prelude.{◌≡◌, ℕ, Bool, true, false, cond, ◌&&◌, [], ◌∷◌, map, filter, IfSome, ⊤, nat_eq, nat_lt, Option, Some, None, if◌then◌else◌}
+use Rattle.std.specs.Prelude.{◌≡◌, ◌≢◌, ℕ, Bool, true, false, cond, ◌&&◌, List, [], ◌∷◌, map, filter, IfSome, ⊤, nat_eq, nat_lt, Option, Some, None, if◌then◌else◌}
 use Rattle.std.specs.Option.{option_map, option_map_or}
-use Rattle.std.specs.Ordering.{eq_by_cmp, is_lt}
+use Rattle.std.specs.Ordering.{eq_by_cmp, is_eq, is_lt}
+use Rattle.std.specs.Cmp.{tied_itself}
 use Rattle.std.specs.FinMap.{find, put}
 use Rattle.std.proofs.Common.{refl, sym, ◌∙◌, ap, subst}
 use Rattle.std.proofs.lemmas.Bool.{or_parts, false≢true, eqb-true}
@@ -9,12 +10,12 @@ use Rattle.babel_value.specs.declared.keys.Peer.{Peer}
 use Rattle.babel_value.specs.Metrics.{metric_sum}
 use Rattle.babel_value.specs.Orders.{prefix_cmp, peer_cmp}
 use Rattle.babel_value.specs.Prefixes.{PrefixValue}
-use Rattle.babel_value.proofs.OrderLaws.{prefix_total}
+use Rattle.babel_value.proofs.OrderLaws.{prefix_total, peer_total}
 use Rattle.babel_link.specs.declared.links.Link.{Link}
 use Rattle.babel_link.specs.declared.marks.Heard.{Heard}
 use Rattle.babel_link.specs.declared.marks.Heard.TheVariants.{Kept, Flush}
 use Rattle.babel_link.specs.Links.{hello_link, ihu_link}
-use Rattle.babel_link.specs.Neighbours.{Links, link_of, hello_of, hello_verdict, ihu_of}
+use Rattle.babel_link.specs.Neighbours.{Links, link_of, hello_of, hello_verdict, ihu_of, tick_of, gone_of, KeepsOtherCosts}
 use Rattle.babel_table.specs.Firsts.{first_from, first_of}
 use Rattle.babel_table.proofs.LookupLemmas.{eq_turned}
 use Rattle.babel_route.specs.declared.routes.entries.Selection.{Selection}
@@ -24,6 +25,7 @@ use Rattle.babel_route.specs.Selections.{is_of, routes_of, is_candidate, is_feas
 use Rattle.babel_state.specs.Sameness.{has_prefix}
 use Rattle.babel_state.specs.State.{State, announces, cost_at, nominal_cost, selected_at}
 use Rattle.babel_state.specs.Hellos.{hears, forgets_flushed}
+use Rattle.babel_state.specs.Ticks.{forget_each}
 use Rattle.babel_state.specs.CurrentSelections.{AreCurrent}
 use Rattle.babel_state.specs.SettledLaws.{with_ihu}
 use Rattle.babel_state.proofs.SettledLemmas.{other_cost}
@@ -135,3 +137,25 @@ ihu_others now peer rxcost interval s t is current = subst (AreOthersCurrent pee
     by : (o : Option Link) → AreOthersCurrent peer (with_links (option_map_or (λ link. put peer_cmp peer (ihu_link now rxcost interval link) s.neighbours) o s.neighbours) s)
     by None = unchanged_others peer s current
     by (Some link) = put_others peer (ihu_link now rxcost interval link) s current
+
+-- ---- after a tick
+
+-- It flushes no neighbour, and leaves the cost of each link but this one's.
+pub ticked_others : (now : ℕ) (peer : Peer) (s t : State) (links : Links) (gone : List Peer) → t ≡ forget_each gone (with_links links s) →
+    links ≡ tick_of now s.neighbours → gone ≡ gone_of now s.neighbours →
+    KeepsOtherCosts peer s.neighbours (tick_of now s.neighbours) → gone_of now s.neighbours ≡ [] →
+    AreCurrent s → AreOthersCurrent peer t
+ticked_others now peer s t links gone is ticked left others none current =
+    subst (AreOthersCurrent peer) (sym (is ∙ ap (λ peers. forget_each peers (with_links links s)) (left ∙ none) ∙ ap (λ ls. with_links ls s) ticked)) after
+  where
+    u : State
+    u = with_links (tick_of now s.neighbours) s
+
+    differs : (q : Peer) → eq_by_cmp peer_cmp q peer ≡ false → q ≢ peer
+    differs q other same = false≢true (sym other ∙ ap (λ p. eq_by_cmp peer_cmp p peer) same ∙ ap is_eq (tied_itself peer_total peer))
+
+    after : AreOthersCurrent peer u
+    after p absent =
+        current p
+        ∙ same_choice s.sources (cost_at s) (cost_at u) p (announces p s) (selected_at p s) s.routes.entries
+        (all_same s.sources (cost_at s) (cost_at u) peer (λ q other. sym (others q (nominal_cost q.iface s) (differs q other))) p s.routes.entries absent)

@@ -164,18 +164,23 @@ has_filtered p f (q ∷ ps) passes has = by (eq_by_cmp prefix_cmp p q) (f q) ref
     by false true same kept has rest = rw same (rest has)
     by false false same kept has rest = rest has
 
+-- The others of these prefixes are current.
+pub gathered_reselected : (now : ℕ) (s t : State) (ps : List PrefixValue) (set : PrefixSet) → is_sorted route_cmp s.routes.entries ≡ true → is_sorted prefix_cmp s.routes.selections ≡ true → ((p : PrefixValue) → has_prefix p ps ≡ false → IsCurrentAt p s) → set ≡ gathered ps [] → t ≡ reselect_each now (prefixes_in set) s → t ≡ reselect_all now s
+gathered_reselected now s t ps set routes selections others gathers is =
+    is ∙ all_reselected now s routes selections set sorted (λ p none. others p (sym (has_ascending p ps) ∙ ap (λ es. has_prefix p (prefixes_in es)) (sym gathers) ∙ none))
+  where
+    sorted : is_sorted prefix_cmp set ≡ true
+    sorted = ap (is_sorted prefix_cmp) gathers ∙ so (is_sorted prefix_cmp (gathered ps [])) (sorted_gathered ps [] tt)
+
 pub stale_from_reselected : (now : ℕ) (peer : Peer) (s t : State) (set : PrefixSet) → is_sorted route_cmp s.routes.entries ≡ true → is_sorted prefix_cmp s.routes.selections ≡ true → AreOthersCurrent peer s → set ≡ gathered (filter (is_stale s.sources (cost_at s) s.announced s.routes) (prefixes_from peer s.routes.entries)) [] → t ≡ reselect_each now (prefixes_in set) s → t ≡ reselect_all now s
 stale_from_reselected now peer s t set routes selections others gathers is =
-    is ∙ all_reselected now s routes selections set sorted (λ p none. by p (has_prefix p from) (stale p) refl refl (sym (has_ascending p (filter stale from)) ∙ ap (λ es. has_prefix p (prefixes_in es)) (sym gathers) ∙ none))
+    gathered_reselected now s t (filter stale from) set routes selections (λ p none. by p (has_prefix p from) (stale p) refl refl none) gathers is
   where
     from : List PrefixValue
     from = prefixes_from peer s.routes.entries
 
     stale : PrefixValue → Bool
     stale = is_stale s.sources (cost_at s) s.announced s.routes
-
-    sorted : is_sorted prefix_cmp set ≡ true
-    sorted = ap (is_sorted prefix_cmp) gathers ∙ so (is_sorted prefix_cmp (gathered (filter stale from) [])) (sorted_gathered (filter stale from) [] tt)
 
     by : (p : PrefixValue) (has not_current : Bool) → has_prefix p from ≡ has → stale p ≡ not_current → has_prefix p (filter stale from) ≡ false → IsCurrentAt p s
     by p false not_current is_from is_stale none = others p is_from

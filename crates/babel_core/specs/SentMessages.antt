@@ -8,6 +8,7 @@ use Rattle.babel_route.specs.Currency.{is_current}
 use Rattle.babel_sources.specs.Distances.{improves_on}
 use Rattle.babel_state.specs.declared.items.Outgoing.{Outgoing}
 use Rattle.babel_state.specs.declared.items.Outgoing.TheVariants as outgoings
+use Rattle.babel_state.specs.declared.items.Target.{Target}
 use Rattle.babel_state.specs.State.{State, announces, cost_at, pair_at}
 use Rattle.babel_state.specs.OutgoingMessages.{is_source_too_many}
 use Rattle.babel_state.specs.NextDatagram.{Draft}
@@ -21,6 +22,11 @@ HasRoomFor s message = Unit {0}
 abbrev pub HasRoom : State → Outgoing → Type 0
 HasRoom s (outgoings.Message target message) = HasRoomFor s message
 HasRoom s out = Unit {0}
+
+-- It is a message to this target.
+abbrev pub IsMessageTo : Target → Outgoing → Type 0
+IsMessageTo target (outgoings.Message to message) = to ≡ target
+IsMessageTo target out = ⊥
 
 -- A message that is sent changes the pair of its source: it's an Update that is better than the pair (RFC 8966, section 3.7.3).
 abbrev pub changes_a_pair : Message → State → Bool

@@ -9,7 +9,7 @@ ghost use Rattle.babel_value.specs.Addresses.{family_of};
 ghost use Rattle.babel_state.specs.State.{interface_at, is_neighbour};
 ghost use Rattle.babel_state.specs.OutgoingMessages.{to_peer, outgoing_ihu, outgoing_finite, outgoing_update, outgoing, outgoing_over, is_source_too_many};
 ghost use Rattle.babel_state.specs.Limits.{longest_hello};
-ghost use Rattle.babel_core.specs.SentMessages.{HasRoom};
+ghost use Rattle.babel_core.specs.SentMessages.{HasRoom, IsMessageTo};
 
 use crate::Core;
 use babel_packet::Message;
@@ -132,6 +132,24 @@ impl Core {
             Some(_) => Outgoing::Message(to_peer(peer), Message::Ack { opaque }),
             None => Outgoing::Nothing,
         }
+    }
+
+    /// The target of an Update, or of a retraction, that is certainly sent: its interface has an address of the
+    /// prefix's family, and the source table has room. `None` only means that this takes a search, or that the item is of
+    /// another kind.
+    #[tactic(auto, using(crate::proofs::SentUpdates::certain_message))]
+    pub fn certain_target(&self, item: &Item) -> Option<Target>
+        ensures { IfSome result (λ target. IsMessageTo target (outgoing self.now item.now)) }
+    {
+        let Item::Update { target, prefix } = *item else {
+            return None;
+        };
+        if self.sources.len() == SOURCE_PLACES {
+            return None;
+        }
+        let interface = self.interface_entry(target.iface)?;
+        let _ = address_of(prefix.family(), &interface)?;
+        Some(target)
     }
 
     /// The message that the item means now. The searches begin at the cursor.

@@ -254,7 +254,7 @@ impl Core {
 
     /// Selects the routes of the prefixes again, one after the other. Since the prefixes rise, that is one walk over
     /// the tables.
-    fn reselect_each(&mut self, now: u64, prefixes: &Scratch)
+    pub(crate) fn reselect_each(&mut self, now: u64, prefixes: &Scratch)
         ensures { self.new ≡ reselect_each now (prefixes_in prefixes.now) self.old }
     {
         let mut cursor = Cursor::new();

@@ -150,7 +150,11 @@ impl Core {
         if stored.is_err() {
             return None;
         }
-        Some(self.select_near(&source.prefix, cursor))
+        let route = cursor.entry;
+        let selected = self.select_near(&source.prefix, cursor);
+        // The choice leaves the cursor after the routes of the prefix. The next update begins at this one's route.
+        cursor.entry = route;
+        Some(selected)
     }
 
     /// Stores an update and judges it against the distance that its source had. Unless `changed` is `true` then, the

@@ -46,9 +46,22 @@ fn try_net<R: Read + Drop, W: Write>(
     let Scenario { configs, events } = read_scenario(alloc, octets.as_slice())?;
     let mut hops = Hops::new(alloc, configs.as_slice())?;
     let mut network = Network::new(alloc, configs)?;
+    // Without the room each datagram takes its own, and is refused if there is none.
+    let _ = network.reserve(count_emits(events.as_slice()));
     let refused = write_events(events.as_slice(), &mut network, &mut hops, out)?;
     out.flush().map_err(LineFault::of_writing)?;
     Ok(refused)
+}
+
+/// How many datagrams the events may send.
+fn count_emits(events: &[Event]) -> usize {
+    let mut count = 0usize;
+    for event in events {
+        if let Event::Emit { .. } = event {
+            count = count.saturating_add(1);
+        }
+    }
+    count
 }
 
 /// Runs the events, up to the first that is refused.

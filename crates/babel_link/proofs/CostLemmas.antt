@@ -1,15 +1,18 @@
--- A tick that keeps each link and its cost changes no cost.
-use Rattle.std.proofs.Common.{◌≡◌, ℕ, Bool, true, false, cond, [], ◌∷◌, All, Some, refl}
+-- A tick that keeps each link and its cost changes no cost; if it keeps the costs of all links but one, at most that one's.
+use Rattle.std.proofs.Common.{◌≡◌, ◌≢◌, ℕ, Bool, true, false, cond, [], ◌∷◌, All, Option, Some, None, is_some, refl, ◌∙◌}
 use Rattle.std.specs.FinMap.{find}
 use Rattle.std.specs.Option.{option_map_or}
-use Rattle.std.specs.Ordering.{eq_by_cmp}
-use Rattle.std.proofs.lemmas.List.Elements.{All-head, All-tail}
+use Rattle.std.specs.Ordering.{eq_by_cmp, is_eq}
+use Rattle.std.specs.declared.cmp.Ordering.{Ordering}
+use Rattle.std.specs.declared.cmp.Ordering.TheVariants.{Less, Equal, Greater}
+use Rattle.std.proofs.lemmas.List.Elements.{All-head, All-tail, All-weaker}
 use Rattle.babel_value.specs.declared.keys.Peer.{Peer}
 use Rattle.babel_value.specs.Metrics.{infinity}
 use Rattle.babel_value.specs.Orders.{peer_cmp}
+use Rattle.babel_value.proofs.OrderLaws.{peer_exact}
 use Rattle.babel_link.specs.declared.links.Link.{Link}
-use Rattle.babel_link.specs.Links.{link_cost, KeepsCost}
-use Rattle.babel_link.specs.Neighbours.{Links, tick_of, gone_of, cost_of}
+use Rattle.babel_link.specs.Links.{ticked_link, link_cost, KeepsCost}
+use Rattle.babel_link.specs.Neighbours.{Links, tick_of, gone_of, cost_of, KeepsOtherCosts}
 
 module _ (now : ℕ) where
   abbrev pub Keeps : Peer × Link → Type 0
@@ -35,3 +38,45 @@ module _ (now : ℕ) where
   none_gone (e ∷ es) all =
       let first : Keeps e = All-head Keeps e es all in
       rw first.stays (none_gone es (All-tail Keeps e es all))
+
+  -- A tick keeps the link, and its cost unless it's the one to this neighbour.
+  pub record KeepsOther (peer : Peer) (e : Peer × Link) : Type 0 where
+    pub after : Link
+    pub stays : ticked_link now e.1 ≡ Some after
+    pub same : e.0 ≢ peer → (nominal : ℕ) → link_cost nominal after ≡ link_cost nominal e.1
+
+  pub keeps_other : (peer : Peer) (e : Peer × Link) → Keeps e → KeepsOther peer e
+  keeps_other peer e keeps = record { after = keeps.after; stays = keeps.stays; same = λ other. keeps.same }
+
+  pub all_keep_other : (peer : Peer) (es : Links) → All Keeps es → All (KeepsOther peer) es
+  all_keep_other peer es all = All-weaker Keeps (KeepsOther peer) (keeps_other peer) es all
+
+  -- The link whose cost may change.
+  pub changed_stays : (peer : Peer) (e : Peer × Link) → e.0 ≡ peer → is_some (ticked_link now e.1) ≡ true → KeepsOther peer e
+  changed_stays peer e here stays = by (ticked_link now e.1) refl stays
+    where
+      by : (o : Option Link) → ticked_link now e.1 ≡ o → is_some o ≡ true → KeepsOther peer e
+      by (Some link) is some = record { after = link; stays = is; same = λ other. absurd (other here) }
+      by None is some = cc
+
+  pub other_costs_kept : (peer : Peer) (es : Links) → All (KeepsOther peer) es → KeepsOtherCosts peer es (tick_of now es)
+  unfolding tick_of cost_of
+  other_costs_kept peer [] all q nominal other = refl
+  other_costs_kept peer (e ∷ es) all q nominal other =
+      let first : KeepsOther peer e = All-head (KeepsOther peer) e es all in
+      rw first.stays (by (peer_cmp q e.0) refl first (other_costs_kept peer es (All-tail (KeepsOther peer) e es all) q nominal other))
+    where
+      by : (r : Ordering) → peer_cmp q e.0 ≡ r → (first : KeepsOther peer e) →
+          option_map_or (link_cost nominal) (find peer_cmp q (tick_of now es)) infinity ≡ option_map_or (link_cost nominal) (find peer_cmp q es) infinity →
+          option_map_or (link_cost nominal) (cond (is_eq r) (Some first.after) (find peer_cmp q (tick_of now es))) infinity
+          ≡ option_map_or (link_cost nominal) (cond (is_eq r) (Some e.1) (find peer_cmp q es)) infinity
+      by Less is first rest = rest
+      by Equal is first rest = first.same (λ at. other (peer_exact q e.0 is ∙ at)) nominal
+      by Greater is first rest = rest
+
+  pub none_gone_but : (peer : Peer) (es : Links) → All (KeepsOther peer) es → gone_of now es ≡ []
+  unfolding gone_of
+  none_gone_but peer [] all = refl
+  none_gone_but peer (e ∷ es) all =
+      let first : KeepsOther peer e = All-head (KeepsOther peer) e es all in
+      rw first.stays (none_gone_but peer es (All-tail (KeepsOther peer) e es all))

@@ -80,3 +80,7 @@ KeepsOrder change = (links : Links) → IsTrue (is_sorted peer_cmp links) → Is
 -- No other neighbour than this one differs (profile).
 abbrev pub ChangesOnly : Peer → Links → Links → Type 0
 ChangesOnly peer old new = (q : Peer) → q ≢ peer → find peer_cmp q new ≡ find peer_cmp q old
+
+-- The link to each other neighbour than this one costs what it did, whatever the nominal cost (profile).
+abbrev pub KeepsOtherCosts : Peer → Links → Links → Type 0
+KeepsOtherCosts peer old new = (q : Peer) (nominal : ℕ) → q ≢ peer → cost_of q nominal new ≡ cost_of q nominal old

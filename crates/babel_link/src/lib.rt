@@ -6,6 +6,7 @@
 //! `Neighbours::new` takes memory.
 #![tactic(auto)]
 
+mod changes;
 mod errors;
 pub mod laws;
 mod links;
@@ -15,6 +16,7 @@ mod peers;
 mod words;
 
 pub use babel_value::Memory;
+pub use changes::CostChanges;
 pub use errors::Full;
 pub use links::{History, Link, Timer};
 pub use marks::{Heard, Marks};

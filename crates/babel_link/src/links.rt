@@ -1,6 +1,6 @@
 //! What is known of one neighbour (RFC 8966, section 3.2.4).
 
-ghost use Rattle.std.specs.Prelude.{◌≡◌, ◌<◌, ℕ, false, Some, None, IsTrue};
+ghost use Rattle.std.specs.Prelude.{◌≡◌, ◌<◌, ℕ, false, Some, None, is_some, IsTrue};
 ghost use Rattle.std.specs.Option.{option_and_then, option_map_or};
 ghost use Rattle.babel_link.specs.Links.{new_link, history_of, with_history, hello_timer, first_history, later_history, fired_history, link_verdict, hello_link, ihu_link, unless_silent, fired_link, expired_link, ticked_link, link_rxcost, link_cost, is_heard, is_up_history, is_txcost_due, IsQuietUntil, KeepsCost};
 ghost use Rattle.babel_value.specs.Moments.{later, hold_time};
@@ -262,6 +262,13 @@ impl Link {
             return Some(self);
         }
         self.handled(now)
+    }
+
+    /// Whether a tick leaves the neighbour: it isn't flushed.
+    pub(crate) fn stays(&self, now: u64) -> bool
+        ensures { result ≡ is_some (ticked_link now self.now) }
+    {
+        self.ticked(now).is_some()
     }
 
     /// The moment from which the txcost is too old; the greatest one if there is none.

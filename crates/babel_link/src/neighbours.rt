@@ -1,15 +1,16 @@
 //! The table of neighbours (RFC 8966, section 3.2.4).
 
-ghost use Rattle.std.specs.Prelude.{◌≡◌, ℕ, ◌+◌, ◌<◌, ◌≤◌, ◌↔◌, [], IsTrue, IsFalse, IsErr, IfOk, IfErr, OnOk, OnErr, IsNone, length, IfSome, is_some, count_by, insert, slice_get};
+ghost use Rattle.std.specs.Prelude.{◌≡◌, ◌≢◌, ℕ, ◌+◌, ◌<◌, ◌≤◌, ◌↔◌, [], IsTrue, IsFalse, IsErr, IfOk, IfErr, OnOk, OnErr, IsNone, length, IfSome, is_some, count_by, insert, slice_get};
 ghost use Rattle.std.specs.FinMap.{find, put, is_sorted};
 ghost use Rattle.std.specs.Option.{option_map};
 ghost use Rattle.std.specs.Vec.{vec_len, vec_capacity};
 ghost use Rattle.babel_value.specs.declared.keys.Peer.{Peer};
 ghost use Rattle.babel_value.specs.Orders.{peer_cmp};
-ghost use Rattle.babel_link.specs.Neighbours.{max_neighbours, link_of, hello_of, hello_verdict, ihu_of, tick_of, gone_of, rxcost_of, cost_of, are_ascending, comes_before, peers_of, AreQuietUntil};
+ghost use Rattle.babel_link.specs.Neighbours.{max_neighbours, link_of, hello_of, hello_verdict, ihu_of, tick_of, gone_of, rxcost_of, cost_of, are_ascending, comes_before, peers_of, AreQuietUntil, KeepsOtherCosts};
+ghost use Rattle.babel_link.specs.declared.changes.CostChanges.TheVariants.{Nothing, One, Several};
 ghost use Rattle.babel_link.specs.Places.{IsPlaceOf, IsGapFor};
 
-use crate::{Full, Heard, Link, Memory, Peers};
+use crate::{CostChanges, Full, Heard, Link, Memory, Peers};
 use arrayvec::ArrayVec;
 use babel_value::{Metric, Peer, Seqno};
 use std::alloc::Global;
@@ -258,21 +259,31 @@ impl Neighbours {
         true
     }
 
-    /// Whether a tick at this moment would flush no neighbour and leave the cost of each link as it is. `false` only
-    /// means that this isn't known.
-    pub fn keep_costs(&self, now: u64) -> bool
-        ensures costs { IsTrue result → (peer : Peer) (nominal : ℕ) → cost_of peer nominal (tick_of now self.now) ≡ cost_of peer nominal self.now }
-        ensures gone { IsTrue result → gone_of now self.now ≡ [] }
+    /// What a tick at this moment would change of the links' costs. `Several` only means that this isn't known. Before
+    /// the first deadline it looks at no neighbour.
+    pub fn cost_changes(&self, now: u64) -> CostChanges
+        ensures costs { result ≡ Nothing → (peer : Peer) (nominal : ℕ) → cost_of peer nominal (tick_of now self.now) ≡ cost_of peer nominal self.now }
+        ensures others { (peer : Peer) → result ≡ One peer → KeepsOtherCosts peer self.now (tick_of now self.now) }
+        ensures gone { result ≢ Several → gone_of now self.now ≡ [] }
     {
         if now < self.due {
-            return true;
+            return CostChanges::Nothing;
         }
+        let mut changed = None;
         for place in 0..self.links.len() {
-            if !self.links[place].1.keeps_cost(now) {
-                return false;
+            let (peer, link) = &self.links[place];
+            if link.keeps_cost(now) {
+                continue;
             }
+            if changed.is_some() || !link.stays(now) {
+                return CostChanges::Several;
+            }
+            changed = Some(*peer);
         }
-        true
+        match changed {
+            Some(peer) => CostChanges::One(peer),
+            None => CostChanges::Nothing,
+        }
     }
 
     /// The cost of receiving from the peer over an interface of this nominal cost (RFC 8966,

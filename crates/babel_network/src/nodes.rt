@@ -20,7 +20,7 @@ use babel_net::{Event, NetFault, StepFault};
 use babel_route::Selection;
 use babel_speaker::Speaker;
 use babel_state::{Config, Selected};
-use babel_value::{Addr, Prefix};
+use babel_value::{Addr, Memory, Prefix};
 use std::alloc::Global;
 use std::marker::Model;
 
@@ -56,6 +56,16 @@ impl Nodes {
             speakers,
             sent: Record::new(alloc),
         })
+    }
+
+    /// Reserves the room for this many more datagrams of the usual length.
+    pub fn reserve(&mut self, datagrams: usize) -> Result<(), Memory>
+        ensures { self.new ≡ self.old }
+    {
+        match self.sent.reserve(datagrams) {
+            Ok(()) => Ok(()),
+            Err(_) => Err(Memory),
+        }
     }
 
     /// Makes the event's step, or refuses it and changes nothing. If `changed` is `false` then, the selected routes are

@@ -54,6 +54,9 @@ impl<'a> Sent<'a> {
     }
 }
 
+/// How many octets a datagram has that names a few prefixes. It only says how much room `Record::reserve` makes.
+const USUAL_LEN: usize = 64;
+
 /// A recorded datagram: its node, its source address, and where its octets are.
 #[derive(Clone, Copy)]
 pub(crate) struct Place {
@@ -69,6 +72,8 @@ pub(crate) struct Place {
 pub struct Record {
     places: Vec<Place>,
     octets: Vec<u8>,
+    // The datagram that was sent last. It only keeps its room, so that none is made for each datagram.
+    last: ArrayVec<u8, DATAGRAM_LEN>,
 }
 
 impl Model for Record {
@@ -91,7 +96,16 @@ impl Record {
         Record {
             places: Vec::new(alloc),
             octets: Vec::new(alloc),
+            last: ArrayVec::new(),
         }
+    }
+
+    /// Reserves the room for this many more datagrams of the usual length.
+    pub fn reserve(&mut self, datagrams: usize) -> Result<(), AllocError>
+        ensures { self.new ≡ self.old }
+    {
+        self.places.reserve(datagrams)?;
+        self.octets.reserve(datagrams.saturating_mul(USUAL_LEN))
     }
 
     /// The datagram of the number, if there is one.
@@ -121,10 +135,9 @@ impl Record {
         if reserve(&mut self.places, &mut self.octets).is_err() {
             return Err(StepFault::Memory);
         }
-        let mut octets = ArrayVec::new();
-        if let Some(source) = send(speaker, node, now, &mut octets) {
-            let octets = octets.as_slice();
-            push(&mut self.places, &mut self.octets, node, source, octets);
+        if let Some(source) = send(speaker, node, now, &mut self.last) {
+            let sent = self.last.as_slice();
+            push(&mut self.places, &mut self.octets, node, source, sent);
         }
         Ok(())
     }

@@ -1,4 +1,5 @@
 pub mod Costs
+pub mod DueRoutes
 pub mod Intervals
 pub mod LinkChanges
 pub mod Reaching

@@ -38,7 +38,7 @@ impl<'a> Costs for LinkCosts<'a> {
     }
 }
 
-/// What a Hello or an IHU changed of all that selections depend on.
+/// What a Hello, an IHU or a tick changed of all that selections depend on.
 #[derive(Clone, Copy, Debug, PartialEq, Eq)]
 pub enum LinkChange {
     /// Nothing.

@@ -8,6 +8,7 @@ ghost use Rattle.babel_route.specs.Rooms.{most_listed_prefixes};
 ghost use Rattle.babel_route.specs.Routes.{is_from};
 ghost use Rattle.babel_state.specs.Sameness.{has_prefix};
 ghost use Rattle.babel_state.specs.State.{gathered, prefixes_in};
+ghost use Rattle.babel_parts.specs.DueRoutes.{prefixes_due};
 ghost use Rattle.babel_parts.specs.LinkChanges.{prefixes_from};
 ghost use Rattle.babel_parts.specs.StalePrefixes.{is_stale};
 
@@ -127,6 +128,18 @@ impl Scratch {
         }
     }
 
+    /// Adds the prefix of each route that is due.
+    fn insert_due(&mut self, routes: &Routes, now: u64)
+        requires room { length self.old + length routes.now.entries ≤ most_listed_prefixes }
+        ensures { self.new ≡ gathered (prefixes_due now routes.now.entries) self.old }
+    {
+        for route in routes.routes() {
+            if route.1.deadline <= now {
+                self.insert(route.0.prefix);
+            }
+        }
+    }
+
     /// Adds the announced prefixes.
     fn insert_announced(&mut self, announced: &Announced)
         requires room { length self.old + length announced.now ≤ most_listed_prefixes }
@@ -193,6 +206,15 @@ impl Scratch {
         let _routes = routes.len();
         self.clear();
         self.insert_stale_from(routes, peer, announced, sources, costs);
+    }
+
+    /// Makes the set that of the prefixes that have a route which is due.
+    pub fn gather_due(&mut self, routes: &Routes, now: u64)
+        ensures { self.new ≡ gathered (prefixes_due now routes.now.entries) [] }
+    {
+        let _routes = routes.len();
+        self.clear();
+        self.insert_due(routes, now);
     }
 
     /// Makes the set that of the prefixes that are announced or selected.

@@ -1,3 +1,4 @@
+pub mod Blanks
 pub mod Comparing
 pub mod Ending
 pub mod Lines

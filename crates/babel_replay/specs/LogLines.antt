@@ -1,5 +1,5 @@
 -- The lines of a log (profile): `<time> in <iface> <source> <hex>`, `<time> tick` or `<time> cost <iface> <n>`. One blank separates two fields.
-use Rattle.std.specs.Prelude.{◌≡◌, ◌≢◌, ◌<◌, ◌+◌, ◌==◌, ◌||◌, ◌/◌, ◌⊎◌, ⊤, ℕ, Bool, true, List, [], ◌∷◌, ◌++◌, All, length, slice_index, Option, Some, None, IfSome, Ok, Err, Result, codes, nat_eq, nat_lt, IsUtf8, if◌then◌else◌}
+use Rattle.std.specs.Prelude.{◌≡◌, ◌≢◌, ◌<◌, ◌+◌, ◌==◌, ◌||◌, ◌⊎◌, ⊤, ℕ, Bool, true, List, [], ◌∷◌, ◌++◌, All, length, slice_index, Option, Some, None, IfSome, codes, nat_eq, IsUtf8, if◌then◌else◌}
 use Rattle.std.specs.Io.{StartsWith}
 use Rattle.std.specs.Io.KnownBytes.{Consumes, IsAtEnd}
 use Rattle.std.specs.Cmp.Lexicographic.{pointwise}
@@ -92,14 +92,17 @@ HasTwoFields fields = HasBlank fields × (¬ (HasBlank (after_blank fields)))
 abbrev pub HasThreeFields : List ℕ → Type 0
 HasThreeFields fields = HasBlank fields × HasTwoFields (after_blank fields)
 
+-- The fields of a datagram: the interface, the source address and the octets.
+abbrev pub IsReceived : ℕ → List ℕ → List ℕ → List ℕ → Action → Type 0
+IsReceived room iface source hex (actions.Receive number addr octets) =
+    IsNumberText 16 iface number × IsAddrText source addr × (hex_octets room hex ≡ Some octets.now)
+IsReceived room iface source hex action = ⊥
+
 -- `<iface> <source> <hex>`
 abbrev pub IsReceiveText : ℕ → List ℕ → Action → Type 0
-IsReceiveText room fields (actions.Receive iface source octets) =
+IsReceiveText room fields action =
     HasThreeFields fields
-    × IsNumberText 16 (before_blank fields) iface
-    × IsAddrText (before_blank (after_blank fields)) source
-    × (hex_octets room (after_blank (after_blank fields)) ≡ Some octets.now)
-IsReceiveText room fields action = ⊥
+    × IsReceived room (before_blank fields) (before_blank (after_blank fields)) (after_blank (after_blank fields)) action
 
 -- `<iface> <n>`
 abbrev pub IsCostText : List ℕ → Action → Type 0
@@ -137,12 +140,17 @@ IsTickFault time found = (¬ (IsNumber 64 time)) × (found ≡ faults.Number)
 abbrev pub IsHexFault : ℕ → List ℕ → LineFault → Type 0
 IsHexFault room text found = (hex_octets room text ≡ None) × (found ≡ faults.Hex)
 
+-- The fault of the first field that can't be read, from the left.
+abbrev pub IsFieldFault : ℕ → List ℕ → List ℕ → List ℕ → List ℕ → LineFault → Type 0
+IsFieldFault room time iface source hex =
+    Unless (IsNumber 64 time) faults.Number
+    (Unless (IsNumber 16 iface) faults.Number
+    (Unless (IsAddress source) faults.Address (IsHexFault room hex)))
+
 abbrev pub IsReceiveFault : ℕ → List ℕ → List ℕ → LineFault → Type 0
 IsReceiveFault room time fields =
     Unless (HasThreeFields fields) faults.Form
-    (Unless (IsNumber 64 time) faults.Number
-    (Unless (IsNumber 16 (before_blank fields)) faults.Number
-    (Unless (IsAddress (before_blank (after_blank fields))) faults.Address (IsHexFault room (after_blank (after_blank fields))))))
+    (IsFieldFault room time (before_blank fields) (before_blank (after_blank fields)) (after_blank (after_blank fields)))
 
 abbrev pub IsCostFault : List ℕ → List ℕ → LineFault → Type 0
 IsCostFault time fields =

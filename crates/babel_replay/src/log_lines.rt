@@ -4,8 +4,8 @@ ghost use Rattle.std.specs.Prelude.{◌≡◌, None, Some, length, MatchOption, 
 ghost use Rattle.babel_value.specs.Texts.{IsAddrText};
 ghost use Rattle.babel_text.specs.Numbers.{IsNumberText};
 ghost use Rattle.babel_text.specs.Octets.{hex_octets};
-ghost use Rattle.babel_replay.specs.LogLines.{is_skipped_line, HasBlank, before_blank, after_blank, HasTwoFields, HasThreeFields, IsReceiveText, IsCostText, IsLine};
-ghost use Rattle.babel_replay.specs.LogLines.{IsNumber, IsAddress, IsTickFault, IsReceiveFault, IsCostFault, IsLineFault};
+ghost use Rattle.babel_replay.specs.LogLines.{is_skipped_line, HasBlank, before_blank, after_blank, HasTwoFields, IsReceived, IsReceiveText, IsCostText, IsLine};
+ghost use Rattle.babel_replay.specs.LogLines.{IsNumber, IsAddress, IsTickFault, IsFieldFault, IsReceiveFault, IsCostFault, IsLineFault};
 
 use babel_text::{LineFault, parse_octets, parse_u16, parse_u64};
 use babel_value::Addr;
@@ -107,7 +107,30 @@ fn parse_receive<'a>(time: &str, fields: &str, octets: &'a mut [u8]) -> Result<E
     ensures action { IfOk result (λ event. IsReceiveText (length octets.old) fields.now event.action) }
     ensures refused { IfErr result (IsReceiveFault (length octets.old) time.now fields.now) }
 {
-    let (iface, source, hex) = receive_fields(fields)?;
+    let Some((iface, rest)) = split_field(fields) else {
+        return Err(LineFault::Form);
+    };
+    let Some((source, hex)) = split_field(rest) else {
+        return Err(LineFault::Form);
+    };
+    match read_receive(time, iface, source, hex, octets) {
+        Ok(event) => Ok(event),
+        Err(fault) => Err(form_first(hex, fault)),
+    }
+}
+
+/// A datagram at the time, from its fields.
+fn read_receive<'a>(
+    time: &str,
+    iface: &str,
+    source: &str,
+    hex: &str,
+    octets: &'a mut [u8],
+) -> Result<Event<'a>, LineFault>
+    ensures time { IfOk result (λ event. IsNumberText 64 time.now event.time) }
+    ensures action { IfOk result (λ event. IsReceived (length octets.old) iface.now source.now hex.now event.action) }
+    ensures refused { IfErr result (IsFieldFault (length octets.old) time.now iface.now source.now hex.now) }
+{
     let time = parse_time(time)?;
     let action = Action::Receive {
         iface: parse_word(iface)?,
@@ -115,6 +138,19 @@ fn parse_receive<'a>(time: &str, fields: &str, octets: &'a mut [u8]) -> Result<E
         octets: parse_hex(hex, octets)?,
     };
     Ok(Event { time, action })
+}
+
+/// The first fault of a line whose last field is `hex`: L1 if that field has a further blank, else the fault given.
+/// A field that is read as octets has no blank, so only a refused line is searched for one.
+fn form_first(hex: &str, fault: LineFault) -> LineFault
+    ensures further { HasBlank hex.now → result ≡ LineFault.Form }
+    ensures last { (¬ (HasBlank hex.now)) → result ≡ fault }
+{
+    if split_field(hex).is_some() {
+        LineFault::Form
+    } else {
+        fault
+    }
 }
 
 /// A cost at the time, from the fields after the word `cost`.
@@ -130,26 +166,6 @@ fn parse_cost<'a>(time: &str, fields: &str) -> Result<Event<'a>, LineFault>
         cost: parse_word(cost)?,
     };
     Ok(Event { time, action })
-}
-
-/// The three fields after the word `in`.
-fn receive_fields(fields: &str) -> Result<(&str, &str, &str), LineFault>
-    ensures parted { IfOk result (λ f. HasThreeFields fields.now) }
-    ensures iface { IfOk result (λ f. f.0.now ≡ before_blank fields.now) }
-    ensures source { IfOk result (λ f. f.1.now ≡ before_blank (after_blank fields.now)) }
-    ensures hex { IfOk result (λ f. f.2.now ≡ after_blank (after_blank fields.now)) }
-    ensures refused { IfErr result (λ fault. (fault ≡ LineFault.Form) × (¬ (HasThreeFields fields.now))) }
-{
-    let Some((iface, rest)) = split_field(fields) else {
-        return Err(LineFault::Form);
-    };
-    let Some((source, hex)) = split_field(rest) else {
-        return Err(LineFault::Form);
-    };
-    if split_field(hex).is_some() {
-        return Err(LineFault::Form);
-    }
-    Ok((iface, source, hex))
 }
 
 /// The two fields after the word `cost`.

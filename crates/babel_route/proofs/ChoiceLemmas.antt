@@ -1,6 +1,6 @@
 -- A walk that keeps the candidate of least rank finds the first one.
-use Rattle.std.proofs.Common.{◌≡◌, ℕ, Bool, true, false, cond, if◌then◌else◌, ◌∷◌, filter, [], Option, Some, None, IfSome, IsSome, option_map, option_and_then, slice_get, refl, sym, ap, subst, ◌∙◌}
-use Rattle.std.proofs.lemmas.Option.{same_Some, none-some}
+use Rattle.std.proofs.Common.{◌≡◌, ℕ, ◌<◌, Bool, true, false, cond, if◌then◌else◌, ◌∷◌, filter, length, [], Option, Some, None, IfSome, IsSome, option_map, option_and_then, slice_get, refl, sym, ap, subst, ◌∙◌}
+use Rattle.std.proofs.lemmas.Option.{same_Some, none-some, slice_get_within}
 use Rattle.std.specs.Option.{option_map_or}
 use Rattle.std.proofs.lemmas.Bool.{false≢true}
 use Rattle.std.specs.declared.cmp.Ordering.{Ordering}
@@ -73,6 +73,11 @@ module _ (cost : Peer → ℕ) (before : Option Peer) (passes : Route → Bool) 
         ap (λ (c : Candidate). over (slice_get es c.place) rest) is ∙ ap (λ o. over o rest) known.at ∙ step false (sym compared ∙ lt) ∙ ap (λ o. over o (route ∷ rest)) (sym known.at),
         subst (IsMeasured cost es) (sym is) known,
       )
+
+-- a candidate's index is one of the table
+pub places_within : (cost : Peer → ℕ) (es : RouteEntries) (found : Option Candidate) → IfSome found (IsMeasured cost es) → IfSome found (λ old. old.place < length es)
+places_within cost es None known = tt
+places_within cost es (Some old) known = slice_get_within es old.place known.route known.at
 
 -- where something is chosen, the prefix has an entry
 pub chosen_is_known : (order : Route → Route → Ordering) (passes : Route → Bool) (p : PrefixValue) (es routes : RouteEntries) → routes_of p es ≡ routes → IsSome (option_map selection_of (first_of order (filter passes routes))) → has_entry es p ≡ true

@@ -4,7 +4,8 @@
 /// reselected in one walk over the entries, the selections and the sources.
 #[derive(Drop)]
 pub struct Cursor {
-    pub(crate) entry: usize,
+    /// An index in the table of routes.
+    pub entry: usize,
     pub(crate) selection: usize,
     /// The index in the source table, near which its searches begin.
     pub source: usize,

@@ -2,6 +2,7 @@
 //!
 //! - `routes`: the route table with its selections.
 //! - `cursor`: where in the tables the last reselection was.
+//! - `trail`: where the next update is likely to be.
 //! - `laws`: laws of the definitions.
 //!
 //! The route table is over tables of `babel_table`, and takes its whole room when it is made. Afterwards no call
@@ -11,6 +12,7 @@
 mod cursor;
 pub mod laws;
 mod routes;
+mod trail;
 
 pub use cursor::Cursor;
 pub use routes::{
@@ -18,3 +20,4 @@ pub use routes::{
     PrefixRoutes, PrefixWalk, ROUTE_PLACES, RouteKey, RouteTable, Routes, RoutesOver, Selection,
     SelectionTable,
 };
+pub use trail::Trail;

@@ -202,6 +202,13 @@ impl<E: Table<RouteKey, Entry>, S: Table<Prefix, Selection>> RoutesOver<E, S> {
         self.due = least_due(&self.entries);
     }
 
+    /// Whether a route may be due. If it returns `false`, none is; it looks at no route.
+    pub fn may_be_due(&self, now: u64) -> bool
+        ensures { IsFalse result → expired now self.now.entries ≡ self.now.entries }
+    {
+        self.due <= now
+    }
+
     /// Takes the deadlines that are due, each once: a route with a finite metric is retracted and its
     /// hold time begins again, one with an infinite metric goes (RFC 8966, section 3.5.4). Returns `false`
     /// if no deadline is due; then it looks at no route.

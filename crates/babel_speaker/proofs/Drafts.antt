@@ -22,7 +22,7 @@ use Rattle.babel_state.specs.State.{State}
 use Rattle.babel_state.specs.OutgoingMessages.{outgoing}
 use Rattle.babel_state.specs.NextDatagram.{Fits, Draft, is_same_receiver, is_same_target, draft_with, drafted, after_message, without_first}
 use Rattle.babel_speaker.specs.Sending.{built_of, fits_at, draft_to, with_outgoing, is_encodable_outgoing, are_encodable, IsFilling, IsFilled}
-use Rattle.babel_core.specs.SentMessages.{without_front}
+use Rattle.babel_core.specs.SentMessages.{without_front, IsMessageTo}
 
 -- Two receivers that are the same are equal, and so are two targets.
 equal : (o : Ordering) → is_eq o ≡ true → o ≡ Equal
@@ -65,6 +65,13 @@ pub add_taken : (now : ℕ) (b : Built) (t to : Target) (s s2 : State) (ms : Lis
 add_taken now b t to s s2 ms m out is same fit after =
     let P : Outgoing → Type 0 = λ out. draft_with now (fits_at b) (draft_to t s ms) out ≡ Some (draft_to t s2 (with_outgoing ms out)) in
     subst P is (taken now b t to s ms m same fit ∙ ap (λ u. Some (draft_to t u (ms ++ m ∷ []))) (sym after))
+
+-- A message to another target stays.
+pub other_target : (now : ℕ) (b : Built) (t to : Target) (s : State) (ms : List Message) (out : Outgoing) → IsMessageTo to out → is_same_target t to ≡ false → draft_with now (fits_at b) (draft_to t s ms) out ≡ None
+unfolding draft_with
+other_target now b t to s ms outgoings.Nothing sent other = absurd sent
+other_target now b t to s ms outgoings.LeftOut sent other = absurd sent
+other_target now b t to s ms (outgoings.Message to2 m) sent other = rw (sent, other) refl
 
 -- A message that is added is encoded after the others.
 pub add_encoded : (built : Built) (ms : List Message) (m : Message) (out : Outgoing) (to : Target) → outgoings.Message to m ≡ out → (is_encodable m ≡ true → HasEncoded built (ms ++ m ∷ [])) → is_encodable_outgoing out ≡ true → HasEncoded built (with_outgoing ms out)

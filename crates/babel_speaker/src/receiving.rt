@@ -6,13 +6,13 @@ ghost use Rattle.babel_value.specs.declared.keys.Peer.{Peer};
 ghost use Rattle.babel_state.specs.Addresses.{source_fault};
 ghost use Rattle.babel_state.specs.CurrentSelections.{AreCurrent};
 ghost use Rattle.babel_state.specs.KeptRoutes.{KeepsRoutes};
-ghost use Rattle.babel_state.specs.Messages.{after_places, notes_of, IsRecvFault, Receives};
+ghost use Rattle.babel_state.specs.Messages.{handle_content, after_places, notes_of, IsRecvFault, Receives};
 
 use crate::messages::handle_content;
 use babel_core::Core;
-use babel_packet::{Placed, Reason, Refusal, decode};
+use babel_packet::{Content, Message, Placed, Reason, Refusal, decode};
 use babel_parts::Scratch;
-use babel_route::Cursor;
+use babel_route::{Cursor, Trail};
 use babel_state::{Note, RecvFault, Verdict};
 use babel_value::{Addr, Distance, Peer};
 use std::alloc::Global;
@@ -30,6 +30,57 @@ fn push_note(notes: &mut Vec<Note>, offset: usize, verdict: Verdict)
     notes.push_reserved(Note { offset, verdict });
 }
 
+/// Whether it is an update of a prefix, or its retraction.
+fn is_update(content: &Content) -> bool {
+    matches!(
+        content,
+        Content::Message(Message::Update { .. }) | Content::Message(Message::Retraction { .. })
+    )
+}
+
+/// Whether an update with this verdict was looked for in the tables, and is there.
+fn is_placed(verdict: &Verdict) -> bool {
+    matches!(verdict, Verdict::Taken | Verdict::Unfeasible(_))
+}
+
+/// Handles one of the contents, as `handle_content`. An Update is looked for where it is likely to be.
+fn handle_next(
+    core: &mut Core,
+    now: u64,
+    peer: &Peer,
+    content: &Content,
+    settled: &mut bool,
+    changed: &mut bool,
+    scratch: &mut Scratch,
+    trail: &mut Trail,
+) -> Verdict
+    requires settled { IsTrue settled.old → AreCurrent core.old }
+    ensures state { (core.new, result) ≡ handle_content now peer.now content.now core.old }
+    ensures current { IsTrue settled.new → AreCurrent core.new }
+    ensures kept { IsFalse changed.new → KeepsRoutes core.old core.new }
+{
+    let is_update = is_update(content);
+    let mut cursor = if is_update {
+        trail.next()
+    } else {
+        Cursor::new()
+    };
+    let verdict = handle_content(
+        core,
+        now,
+        peer,
+        content,
+        settled,
+        changed,
+        scratch,
+        &mut cursor,
+    );
+    if is_update && is_placed(&verdict) {
+        trail.push(cursor);
+    }
+    verdict
+}
+
 /// Handles the TLVs of a datagram, each wholly before the next, and writes a note for each.
 fn handle_places(
     core: &mut Core,
@@ -40,6 +91,7 @@ fn handle_places(
     settled: &mut bool,
     changed: &mut bool,
     scratch: &mut Scratch,
+    trail: &mut Trail,
 )
     requires settled { IsTrue settled.old → AreCurrent core.old }
     requires room { vec_len notes.old + length placed.now ≤ vec_capacity notes.old }
@@ -48,10 +100,10 @@ fn handle_places(
     ensures current { IsTrue settled.new → AreCurrent core.new }
     ensures kept { IsFalse changed.new → KeepsRoutes core.old core.new }
 {
-    let mut cursor = Cursor::new();
+    trail.begin();
     for place in placed {
         let mut differs = false;
-        let verdict = handle_content(
+        let verdict = handle_next(
             core,
             now,
             peer,
@@ -59,7 +111,7 @@ fn handle_places(
             settled,
             &mut differs,
             scratch,
-            &mut cursor,
+            trail,
         );
         *changed = *changed || differs;
         push_note(notes, place.offset, verdict);
@@ -77,6 +129,7 @@ fn take_places(
     settled: &mut bool,
     changed: &mut bool,
     scratch: &mut Scratch,
+    trail: &mut Trail,
 ) -> Result<Vec<Note>, RecvFault>
     requires settled { IsTrue settled.old → AreCurrent core.old }
     ensures state { OnOk result (core.new ≡ after_places now peer.now placed.now core.old) }
@@ -91,7 +144,7 @@ fn take_places(
         Err(_) => return Err(RecvFault::Refused(Refusal::Memory)),
     };
     handle_places(
-        core, now, peer, placed, &mut notes, settled, changed, scratch,
+        core, now, peer, placed, &mut notes, settled, changed, scratch, trail,
     );
     Ok(notes)
 }
@@ -110,6 +163,7 @@ pub(crate) fn receive(
     settled: &mut bool,
     changed: &mut bool,
     scratch: &mut Scratch,
+    trail: &mut Trail,
 ) -> Result<Vec<Note>, RecvFault>
     requires settled { IsTrue settled.old → AreCurrent core.old }
     ensures ok { IfOk result (λ notes. Receives now (record { iface = iface; addr = source }) (source_fault iface source core.old) (meaning octets.now source) core.old core.new notes.items) }
@@ -138,6 +192,7 @@ pub(crate) fn receive(
         settled,
         changed,
         scratch,
+        trail,
     )
 }
 
@@ -152,6 +207,7 @@ pub(crate) fn receive_decoded(
     settled: &mut bool,
     changed: &mut bool,
     scratch: &mut Scratch,
+    trail: &mut Trail,
 ) -> Result<Vec<Note>, RecvFault>
     requires settled { IsTrue settled.old → AreCurrent core.old }
     ensures ok { IfOk result (λ notes. Receives now (record { iface = iface; addr = source }) (source_fault iface source core.old) (Ok placed.now) core.old core.new notes.items) }
@@ -167,5 +223,7 @@ pub(crate) fn receive_decoded(
         iface,
         addr: source,
     };
-    take_places(core, alloc, now, &peer, placed, settled, changed, scratch)
+    take_places(
+        core, alloc, now, &peer, placed, settled, changed, scratch, trail,
+    )
 }

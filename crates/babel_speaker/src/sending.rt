@@ -63,6 +63,17 @@ fn skip_silent(core: &mut Core, cursor: &mut Cursor) -> Option<(Target, Message)
     None
 }
 
+/// Whether the item's message certainly goes to another target.
+#[tactic(auto, using(crate::proofs::Drafts::other_target))]
+fn goes_elsewhere(core: &Core, item: &Item, target: &Target) -> bool
+    ensures { (now : ℕ) (b : Built) (ms : List Message) → IsTrue result → draft_with now (fits_at b) (draft_to target.now core.now ms) (outgoing core.now item.now) ≡ None }
+{
+    match core.certain_target(item) {
+        Some(to) => !is_same_target(target, &to),
+        None => false,
+    }
+}
+
 /// Adds the message of an item to the datagram. False: it has another target or doesn't fit, and
 /// nothing has changed.
 #[tactic(auto, unfolding(babel_state::specs::NextDatagram::draft_with), using(crate::proofs::Drafts::same_target, crate::proofs::Drafts::built_more, crate::proofs::SettledSends::left_out_current))]
@@ -83,6 +94,10 @@ fn add_item(
     ensures pending { core.new.pending ≡ core.old.pending }
     ensures current { IsTrue settled.new → AreCurrent core.new }
 {
+    // The message is not needed to see that it goes elsewhere.
+    if goes_elsewhere(core, item, &target) {
+        return false;
+    }
     match core.outgoing(item, cursor) {
         Outgoing::Message(to, message) => {
             if !is_same_target(&target, &to) || !builder.add(&message) {
@@ -119,7 +134,8 @@ fn fill(
 }
 
 /// Takes the next datagram from the pending items: its octets are written to `out`, in place of
-/// what was there, and its target is returned. `None`: no item means a message, and `out` is empty.
+/// what was there, and its target is returned. `None`: no item means a message, and `out` is empty. It is built in
+/// `builder`, whatever was there.
 ///
 /// A settled speaker stays so unless an Update that is sent changes the feasibility distance of its source.
 ///
@@ -129,6 +145,7 @@ pub(crate) fn next_datagram(
     core: &mut Core,
     now: u64,
     out: &mut ArrayVec<u8, DATAGRAM_LEN>,
+    builder: &mut Builder,
     settled: &mut bool,
 ) -> Option<Target>
     requires settled { IsTrue settled.old → AreCurrent core.old }
@@ -148,12 +165,12 @@ pub(crate) fn next_datagram(
     let Some(source) = core.transport(target.iface) else {
         return None;
     };
-    let mut builder = Builder::new(source);
+    builder.begin(source);
     // The first message always fits.
     let _ = builder.add(&message);
     core.send_message(now, target, &message, settled, &mut cursor);
     core.remove_first_item();
-    fill(core, now, target, &mut builder, settled, &mut cursor);
-    *out = builder.finish();
+    fill(core, now, target, builder, settled, &mut cursor);
+    builder.write_to(out);
     Some(target)
 }

@@ -21,9 +21,11 @@ ghost use Rattle.babel_speaker.specs.Sending.{are_encodable, fits_by, HaveTransp
 use crate::receiving::{receive, receive_decoded};
 use crate::sending::next_datagram;
 use arrayvec::ArrayVec;
+use babel_build::Builder;
 use babel_core::Core;
 use babel_packet::Placed;
 use babel_parts::Scratch;
+use babel_route::Trail;
 use babel_state::{
     Config, ConfigFault, NotAnnounced, Note, RecvFault, RestoreFault, SetCostFault, Target,
     TooManyPrefixes,
@@ -101,6 +103,7 @@ impl SettledCore {
         octets: &[u8],
         changed: &mut bool,
         scratch: &mut Scratch,
+        trail: &mut Trail,
     ) -> Result<Vec<Note>, RecvFault>
         ensures ok { IfOk result (λ notes. Receives now (record { iface = iface; addr = source }) (source_fault iface source self.old) (meaning octets.now source) self.old self.new notes.items) }
         ensures refused { IfErr result (λ fault. IsRecvFault (source_fault iface source self.old) (meaning octets.now source) fault) }
@@ -118,6 +121,7 @@ impl SettledCore {
             &mut settled,
             changed,
             scratch,
+            trail,
         );
         self.is_settled = settled;
         notes
@@ -133,6 +137,7 @@ impl SettledCore {
         placed: &[Placed],
         changed: &mut bool,
         scratch: &mut Scratch,
+        trail: &mut Trail,
     ) -> Result<Vec<Note>, RecvFault>
         ensures ok { IfOk result (λ notes. Receives now (record { iface = iface; addr = source }) (source_fault iface source self.old) (Ok placed.now) self.old self.new notes.items) }
         ensures refused { IfErr result (λ fault. IsRecvFault (source_fault iface source self.old) (Ok placed.now) fault) }
@@ -150,6 +155,7 @@ impl SettledCore {
             &mut settled,
             changed,
             scratch,
+            trail,
         );
         self.is_settled = settled;
         notes
@@ -210,6 +216,7 @@ impl SettledCore {
         &mut self,
         now: u64,
         out: &mut ArrayVec<u8, DATAGRAM_LEN>,
+        builder: &mut Builder,
     ) -> Option<Target>
         ensures state { self.new ≡ (next_datagram now (fits_by self.old) self.old).state }
         ensures target { result ≡ (next_datagram now (fits_by self.old) self.old).target }
@@ -222,7 +229,7 @@ impl SettledCore {
             return None;
         }
         let mut settled = self.is_settled;
-        let target = next_datagram(&mut self.core, now, out, &mut settled);
+        let target = next_datagram(&mut self.core, now, out, builder, &mut settled);
         self.is_settled = settled;
         target
     }

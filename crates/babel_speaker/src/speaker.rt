@@ -30,9 +30,10 @@ ghost use Rattle.babel_speaker.specs.Sending.{fits_by, MeansFrom};
 use crate::SettledCore;
 use crate::decoded::decoded_are_encodable;
 use arrayvec::ArrayVec;
+use babel_build::Builder;
 use babel_packet::Placed;
 use babel_parts::Scratch;
-use babel_route::{Entry, Selection};
+use babel_route::{Entry, Selection, Trail};
 use babel_state::laws::{
     calls_move, datagrams_send, items_mean_messages, restarts_are_seen, selected_routes_are_good,
     selections_are_current, selections_stay_current, states_are_well_formed,
@@ -56,6 +57,9 @@ pub struct Speaker {
     alloc: Global,
     core: SettledCore,
     scratch: Scratch,
+    trail: Trail,
+    // Each datagram is built here, so that its room isn't moved.
+    builder: Builder,
 }
 
 impl Model for Speaker {
@@ -112,6 +116,8 @@ impl Speaker {
                 alloc,
                 core,
                 scratch,
+                trail: Trail::new(),
+                builder: Builder::new(Addr::default()),
             }),
             Err(_) => Err(ConfigFault::Memory),
         }
@@ -183,6 +189,8 @@ impl Speaker {
                 alloc,
                 core,
                 scratch,
+                trail: Trail::new(),
+                builder: Builder::new(Addr::default()),
             }),
             Err(_) => Err(RestoreFault::Config(ConfigFault::Memory)),
         }
@@ -230,8 +238,16 @@ impl Speaker {
         decoded_are_encodable(octets, &source);
         let alloc = self.alloc;
         let scratch = &mut self.scratch;
-        self.core
-            .receive(alloc, now, iface, source, octets, changed, scratch)
+        self.core.receive(
+            alloc,
+            now,
+            iface,
+            source,
+            octets,
+            changed,
+            scratch,
+            &mut self.trail,
+        )
     }
 
     /// The same for a datagram that is decoded already: `placed` is what `decode` returned.
@@ -257,8 +273,16 @@ impl Speaker {
         decoded_are_encodable(octets, &source);
         let alloc = self.alloc;
         let scratch = &mut self.scratch;
-        self.core
-            .receive_decoded(alloc, now, iface, source, placed, changed, scratch)
+        self.core.receive_decoded(
+            alloc,
+            now,
+            iface,
+            source,
+            placed,
+            changed,
+            scratch,
+            &mut self.trail,
+        )
     }
 
     /// Takes all deadlines that are due (RFC 8966, sections 3.2.5, 3.4, 3.5.4, 3.7.1 and 3.8.2.1).
@@ -363,7 +387,7 @@ impl Speaker {
         datagrams_send();
         selections_stay_current();
         items_mean_messages();
-        self.core.next_datagram(now, out)
+        self.core.next_datagram(now, out, &mut self.builder)
     }
 
     /// The selected route of the prefix, with its metric by the present cost of the link (RFC 8966,

@@ -1,6 +1,6 @@
 //! The choice among the candidates of a prefix (RFC 8966, section 3.6).
 
-ghost use Rattle.std.specs.Prelude.{◌≡◌, ℕ, true, not, drop, slice_get, option_and_then, Option, IsSome, Some, None, option_map, if◌then◌else◌};
+ghost use Rattle.std.specs.Prelude.{◌≡◌, ◌<◌, ℕ, true, not, drop, length, slice_get, option_and_then, Option, IfSome, IsSome, Some, None, option_map, if◌then◌else◌};
 ghost use Rattle.std.specs.List.{filter, list_all};
 ghost use Rattle.std.specs.Option.{option_map_or};
 ghost use Rattle.std.specs.Ordering.{is_lt};
@@ -16,6 +16,7 @@ use crate::{Cursor, Entry, RouteKey, Selection};
 use babel_sources::{SourceEntry, SourcesOver};
 use babel_table::{Table, places_below_near};
 use babel_value::{Metric, Peer, Prefix, Source};
+use std::cmp::Ordering;
 
 /// The costs of the links to the neighbours now (RFC 8966, section 3.4.3).
 pub trait Costs {
@@ -147,6 +148,8 @@ fn first_of_two<E: Table<RouteKey, Entry>>(
     new: Candidate,
     before: Option<Peer>,
 ) -> Candidate
+    requires found { IfSome found (λ old. old.place < length (E.entries entries.now)) }
+    requires new { new.place < length (E.entries entries.now) }
     ensures { result ≡ option_map_or (λ old. if is_lesser_rank (rank_at (E.entries entries.now) before new.metric new.place) (rank_at (E.entries entries.now) before old.metric old.place) then new else old) found new }
 {
     match found {
@@ -155,21 +158,27 @@ fn first_of_two<E: Table<RouteKey, Entry>>(
     }
 }
 
-/// Whether a candidate comes before another one.
+/// Whether a candidate comes before another one. Their metrics mostly differ, and then no rank is made from the table.
 fn comes_before<E: Table<RouteKey, Entry>>(
     entries: &E,
     one: &Candidate,
     other: &Candidate,
     before: Option<Peer>,
 ) -> bool
+    requires one { one.now.place < length (E.entries entries.now) }
+    requires other { other.now.place < length (E.entries entries.now) }
     ensures { result ≡ is_lesser_rank (rank_at (E.entries entries.now) before one.now.metric one.now.place) (rank_at (E.entries entries.now) before other.now.metric other.now.place) }
 {
-    match (
-        rank_at(entries, one, before),
-        rank_at(entries, other, before),
-    ) {
-        (Some(one), Some(other)) => one.cmp(&other).is_lt(),
-        _ => true,
+    match one.metric.cmp(&other.metric) {
+        Ordering::Less => true,
+        Ordering::Greater => false,
+        Ordering::Equal => match (
+            rank_at(entries, one, before),
+            rank_at(entries, other, before),
+        ) {
+            (Some(one), Some(other)) => one.cmp(&other).is_lt(),
+            _ => true,
+        },
     }
 }
 
@@ -199,7 +208,12 @@ fn candidate_metric<T: Table<Source, SourceEntry>, C: Costs>(
 ) -> Option<Metric>
     ensures { result ≡ (if is_candidate sources.now (C.cost_of costs.now) route.now then Some (route_metric (C.cost_of costs.now) route.now) else None) }
 {
-    let metric = route.1.distance.metric.add(costs.cost(&route.0.peer));
+    let advertised = route.1.distance.metric;
+    if !advertised.is_finite() {
+        // Whatever its cost is: the neighbour need not be looked up.
+        return None;
+    }
+    let metric = advertised.add(costs.cost(&route.0.peer));
     if metric.is_finite() && is_feasible(route, sources, near) {
         Some(metric)
     } else {

@@ -29,19 +29,19 @@ returns-in_default-transport-clause-state c = sym (ap (λ (d : Draft). d.state) 
 pub returns-in_default-transport-clause-target : goal.returns-in_default-transport-clause-target
 returns-in_default-transport-clause-target c = sym (ap (λ (d : Draft). d.target) (stays c))
 
-begins : (c : goal.After-finish) → (fits (empty_datagram c.in-Some-transport.source) c.in-Some.message ≡ true) × (c.add.new.self ≡ built_of (empty_datagram c.in-Some-transport.source) (c.in-Some.message ∷ []))
-begins c = first_added c.new-builder.result c.add.new.self c.in-Some-transport.source c.in-Some.message c.add.result c.new-builder.ensures.empty c.add.ensures.fits c.add.ensures.alone c.add.ensures.added
+begins : (c : goal.After-write_to) → (fits (empty_datagram c.in-Some-transport.source) c.in-Some.message ≡ true) × (c.add.new.self ≡ built_of (empty_datagram c.in-Some-transport.source) (c.in-Some.message ∷ []))
+begins c = first_added c.begin.new.self c.add.new.self c.in-Some-transport.source c.in-Some.message c.add.result c.begin.ensures.empty c.add.ensures.fits c.add.ensures.alone c.add.ensures.added
 
-at : (c : goal.After-finish) → transport_at c.in-Some.target.iface c.args.core.now ≡ Some c.in-Some-transport.source
+at : (c : goal.After-write_to) → transport_at c.in-Some.target.iface c.args.core.now ≡ Some c.in-Some-transport.source
 at c = ap (λ (xs : List InterfaceEntry). option_and_then transport_of (slice_get xs c.in-Some.target.iface)) (sym c.skip_silent.ensures.interfaces) ∙ sym c.in-Some-transport.ensures
 
-next : (c : goal.After-finish) → next_datagram c.args.now (fits_by c.args.core.now) c.args.core.now
+next : (c : goal.After-write_to) → next_datagram c.args.now (fits_by c.args.core.now) c.args.core.now
     ≡ drafted c.args.now (fits_at (empty_datagram c.in-Some-transport.source)) c.remove_first_item.new.self.pending.items (draft_to c.in-Some.target c.remove_first_item.new.self (c.in-Some.message ∷ []))
 next c =
     next_begins c.args.now c.args.core.now c.skip_silent.new.core c.send_message.new.self c.remove_first_item.new.self c.in-Some.target c.in-Some.message c.in-Some-transport.source
     (c.skip_silent.ensures.draft c.args.now _) (sym c.in-Some.ensures.message) (at c) (begins c).0 c.send_message.ensures.state c.send_message.ensures.pending c.remove_first_item.ensures
 
-filled : (c : goal.After-finish) → IsFilled (empty_datagram c.in-Some-transport.source) (c.in-Some.message ∷ []) c.in-Some.target
+filled : (c : goal.After-write_to) → IsFilled (empty_datagram c.in-Some-transport.source) (c.in-Some.message ∷ []) c.in-Some.target
     (drafted c.args.now (fits_at (empty_datagram c.in-Some-transport.source)) c.remove_first_item.new.self.pending.items (draft_to c.in-Some.target c.remove_first_item.new.self (c.in-Some.message ∷ [])))
     c.fill.new.core c.add.new.self c.fill.new.builder
 filled c = c.fill.ensures.filled (empty_datagram c.in-Some-transport.source) (c.in-Some.message ∷ []) (begins c).1
@@ -54,8 +54,8 @@ returns-clause-target c = (filled c).goes_to ∙ sym (ap (λ (d : Draft). d.targ
 
 pub returns-clause-octets : goal.returns-clause-octets
 returns-clause-octets c =
-    filled_means c.in-Some-transport.source _ (c.in-Some.message ∷ []) c.in-Some.target _ _ c.fill.new.core c.add.new.self c.fill.new.builder c.finish.result.items (filled c) (next c) (at c)
-    (alone_encoded c.add.new.self c.in-Some.message (c.add.ensures.decoded [] c.new-builder.ensures.silent (c.add.ensures.alone (ap (λ (b : Built). b.body) c.new-builder.ensures.empty)))) c.finish.ensures.means
+    filled_means c.in-Some-transport.source _ (c.in-Some.message ∷ []) c.in-Some.target _ _ c.fill.new.core c.add.new.self c.fill.new.builder c.write_to.new.out.items (filled c) (next c) (at c)
+    (alone_encoded c.add.new.self c.in-Some.message (c.add.ensures.decoded [] c.begin.ensures.silent (c.add.ensures.alone (ap (λ (b : Built). b.body) c.begin.ensures.empty)))) c.write_to.ensures.means
 
 pub returns-in_default-clause-none : goal.returns-in_default-clause-none
 returns-in_default-clause-none c = λ transports. (

@@ -4,10 +4,13 @@ use Rattle.babel_route.specs.Routes.{Route, RouteEntries}
 use Rattle.babel_route.specs.Selections.{is_candidate, preference, routes_of, route_metric}
 use Rattle.babel_route.specs.declared.routes.choices.Candidate.{Candidate}
 use Rattle.babel_table.specs.Firsts.{first_from}
-use Rattle.babel_route.proofs.ChoiceLemmas.{measured, unmeasured, left_out, IsMeasured, found_more}
+use Rattle.babel_route.proofs.ChoiceLemmas.{measured, unmeasured, left_out, IsMeasured, found_more, places_within}
 use Rattle.babel_route.proofs.RunLemmas.{run_step, run_end}
 use Rattle.babel_route.proofs.routes.choices.first_from.Goals.{in-Some-candidate_metric, in_default-candidate_metric}
 use Rattle.babel_route.proofs.routes.choices.first_from.Goals as goal
+
+pub first_of_two-requires-clause-found : goal.first_of_two-requires-clause-found
+first_of_two-requires-clause-found g c = places_within (g.C.Costs.cost_of c.args.costs.now) (g.E.Table.entries c.args.entries.now) c.loop-place.first c.loop-place.invariant.measured
 
 pub loop-place-preserved : goal.loop-place-preserved
 loop-place-preserved g c =

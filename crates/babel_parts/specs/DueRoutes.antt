@@ -1,0 +1,9 @@
+-- What the deadlines of routes may concern (RFC 8966, section 3.5.4).
+use Rattle.std.specs.Prelude.{ℕ, List, map, nat_le}
+use Rattle.std.specs.List.{filter}
+use Rattle.babel_value.specs.Prefixes.{PrefixValue}
+use Rattle.babel_route.specs.Routes.{RouteEntries}
+
+-- The prefixes that have a route which is due.
+abbrev pub prefixes_due : ℕ → RouteEntries → List PrefixValue
+prefixes_due now es = map (λ e. e.0.prefix) (filter (λ e. nat_le e.1.deadline now) es)
