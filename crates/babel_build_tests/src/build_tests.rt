@@ -6,7 +6,7 @@ ghost use Rattle.babel_packet.specs.BodyMeanings.{Means};
 
 use arrayvec::ArrayVec;
 use babel_build::*;
-use babel_packet::{Content, Message, decode};
+use babel_packet::{Content, Message, Placed, decode};
 use babel_tlv::DATAGRAM_LEN;
 use babel_value::{Addr, Metric, Prefix, RouterId, Seqno};
 use std::alloc::Global;
@@ -65,10 +65,27 @@ fn check_datagram(
     wanted: &str,
 ) -> Result<(), Fail> {
     let datagram = built(source, messages).ok_or("all fit")?;
-    let octets = hex::encode(alloc, datagram.as_slice())?;
+    check_octets(rt, alloc, source, &datagram, wanted)?;
+    check_meaning(rt, decode(alloc, &datagram, source)?.as_slice(), messages)
+}
+
+/// The source and the octets are written so.
+fn check_octets(
+    rt: &impl Abort,
+    alloc: Global,
+    source: Addr,
+    datagram: &[u8],
+    wanted: &str,
+) -> Result<(), Fail> {
+    let octets = hex::encode(alloc, datagram)?;
     assert_eq!(rt; format!(in alloc; "{source} {octets}")?.as_str(), wanted);
+    Ok(())
+}
+
+/// The places that aren't parser state are these messages.
+fn check_meaning(rt: &impl Abort, places: &[Placed], messages: &[Message]) -> Result<(), Fail> {
     let mut count = 0;
-    for place in decode(alloc, &datagram, source)?.as_slice() {
+    for place in places {
         if place.content != Content::State {
             let message = messages.get(count).ok_or("no more messages")?;
             assert_eq!(rt; place.content, Content::Message(*message));
@@ -111,8 +128,14 @@ fn updates(rt: HostRuntime) -> Result<(), Fail> {
         SOURCE,
         &[retraction],
         "192.168.0.1 2a02000e080c0180100006400000ffff0a09",
-    )?;
-    // Each family has its own default prefix and next hop; both have one router-id.
+    )
+}
+
+// Each family has its own default prefix and next hop; both have one router-id.
+#[test]
+fn updates_of_both_families(rt: HostRuntime) -> Result<(), Fail> {
+    let alloc = rt.alloc();
+    let sixteen = prefix(Addr::V4([10, 1, 0, 0]), 16)?;
     let other_hop = Addr::V4([10, 0, 0, 1]);
     let documentation = ipv6(0x2001, 0xdb8, 0, 0);
     let host = prefix(ipv6(0x2001, 0xdb8, 2, 5), 128)?;

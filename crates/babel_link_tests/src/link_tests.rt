@@ -22,7 +22,12 @@ fn deadlines_of_hellos(rt: HostRuntime) -> Result<(), Fail> {
     neighbours.hello(0, peer(1), false, Seqno(7), 401)?;
     assert_eq!(rt; neighbours.rxcost(peer(1), NOMINAL), Metric::INFINITE);
     neighbours.hello(0, peer(1), false, Seqno(8), 401)?;
-    // Missed at 601, and again at 1002: then 0 0 1 1.
+    check_rxcosts(&rt, &mut neighbours, &mut gone);
+    Ok(())
+}
+
+/// A mark is missed at 601, and again at 1002: then 0 0 1 1.
+fn check_rxcosts(rt: &impl Abort, neighbours: &mut Neighbours, gone: &mut ArrayVec<Peer, 64>) {
     for (now, rxcost) in [
         (600, NOMINAL),
         (601, NOMINAL),
@@ -30,29 +35,37 @@ fn deadlines_of_hellos(rt: HostRuntime) -> Result<(), Fail> {
         (0, NOMINAL),
         (1002, Metric::INFINITE),
     ] {
-        neighbours.tick(now, &mut gone);
+        neighbours.tick(now, gone);
         assert_eq!(rt; neighbours.rxcost(peer(1), NOMINAL), rxcost, "at {now}");
     }
-    Ok(())
 }
 
 #[test]
 fn deadlines_of_ihus(rt: HostRuntime) -> Result<(), Fail> {
     let mut neighbours = Neighbours::new(rt.alloc())?;
     let mut gone = ArrayVec::<Peer, 64>::new();
-    assert!(rt; !neighbours.ihu(0, peer(1), Metric(96), 1200));
-    assert!(rt; !neighbours.known(peer(1)));
+    check_stranger(&rt, &mut neighbours);
     for seqno in [7, 8] {
         neighbours.hello(0, peer(1), true, Seqno(seqno), 0)?;
     }
+    check_ihu(&rt, &mut neighbours, &mut gone);
+    Ok(())
+}
+
+/// An IHU of a node from which no Hello came.
+fn check_stranger(rt: &impl Abort, neighbours: &mut Neighbours) {
+    assert!(rt; !neighbours.ihu(0, peer(1), Metric(96), 1200));
+    assert!(rt; !neighbours.known(peer(1)));
+}
+
+fn check_ihu(rt: &impl Abort, neighbours: &mut Neighbours, gone: &mut ArrayVec<Peer, 64>) {
     assert_eq!(rt; neighbours.cost(peer(1), NOMINAL), Metric::INFINITE);
     assert!(rt; neighbours.ihu(0, peer(1), Metric(96), 1200));
     for (now, cost) in [(4199, Metric(96)), (4200, Metric::INFINITE)] {
-        neighbours.tick(now, &mut gone);
+        neighbours.tick(now, gone);
         assert_eq!(rt; neighbours.cost(peer(1), NOMINAL), cost, "at {now}");
         assert_eq!(rt; neighbours.rxcost(peer(1), NOMINAL), NOMINAL);
     }
-    Ok(())
 }
 
 #[test]

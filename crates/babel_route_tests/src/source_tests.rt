@@ -49,7 +49,7 @@ fn better_pairs_are_kept(rt: HostRuntime) -> Result<(), Fail> {
 /// Also run by `rt try --test --fail-alloc N` for each N: a table whose allocation fails returns
 /// `Memory`, and is made when it is asked for again.
 #[test]
-fn tables_without_memory(rt: HostRuntime) -> Result<(), Fail> {
+fn sources_without_memory(rt: HostRuntime) -> Result<(), Fail> {
     let sources = match Sources::new(rt.alloc()) {
         Ok(sources) => sources,
         Err(fault) => {
@@ -58,6 +58,12 @@ fn tables_without_memory(rt: HostRuntime) -> Result<(), Fail> {
         }
     };
     assert_eq!(rt; sources.len(), 0);
+    Ok(())
+}
+
+/// The same of the route table, which also has the selections.
+#[test]
+fn routes_without_memory(rt: HostRuntime) -> Result<(), Fail> {
     let routes = match Routes::new(rt.alloc()) {
         Ok(routes) => routes,
         Err(fault) => {

@@ -81,15 +81,20 @@ fn metrics_stop_at_infinity(rt: HostRuntime) {
 }
 
 #[test]
-fn router_ids(rt: HostRuntime) -> Result<(), Fail> {
+fn router_ids_in_text(rt: HostRuntime) -> Result<(), Fail> {
     let octets = [0, 0, 0, 0, 10, 1, 0, 0xff];
     let router = RouterId::new(octets).ok_or("not reserved")?;
     assert_eq!(rt; router.octets(), octets);
     assert_eq!(rt; router.to_string(rt.alloc())?.as_str(), "000000000a0100ff");
-    assert!(rt; RouterId::new([0; 8]).is_none());
-    assert!(rt; RouterId::new([255; 8]).is_none());
-    assert!(rt; RouterId::new([255, 255, 255, 255, 255, 255, 255, 254]).is_some());
     Ok(())
+}
+
+#[test]
+fn reserved_router_ids(rt: HostRuntime) {
+    for octet in [0, 255] {
+        assert!(rt; RouterId::new([octet; 8]).is_none());
+    }
+    assert!(rt; RouterId::new([255, 255, 255, 255, 255, 255, 255, 254]).is_some());
 }
 
 /// The prefix of an address in text.
@@ -113,6 +118,11 @@ fn prefixes_clear_what_does_not_count(rt: HostRuntime) -> Result<(), Fail> {
         let text = prefix(addr, length)?.to_string(rt.alloc())?;
         assert_eq!(rt; text.as_str(), kept);
     }
+    Ok(())
+}
+
+#[test]
+fn prefixes_have_an_address_and_a_length(rt: HostRuntime) {
     assert!(rt; Prefix::new(Addr::V4([10, 0, 0, 0]), 33).is_none());
     assert!(rt; Prefix::new(Addr::V6([0; 16]), 129).is_none());
     let prefix = Prefix::new_unchecked(Addr::V4([10, 1, 0, 0]), 16);
@@ -120,7 +130,6 @@ fn prefixes_clear_what_does_not_count(rt: HostRuntime) -> Result<(), Fail> {
     assert_eq!(rt; prefix.length(), 16);
     assert_eq!(rt; prefix.family(), Family::Ipv4);
     assert_eq!(rt; Addr::V6([0; 16]).width(), 128);
-    Ok(())
 }
 
 #[test]
