@@ -7,7 +7,8 @@ ghost use Rattle.babel_packet.specs.Meaning.{meaning};
 ghost use Rattle.babel_bench.specs.Calls.{IsLastOffset, address_of, offset_of_last};
 
 use babel_build::Builder;
-use babel_packet::{Content, Placed, Refusal, decode};
+use babel_message::{Content, Placed, Refusal};
+use babel_packet::decode;
 use babel_value::Addr;
 use std::alloc::Global;
 use std::io;

@@ -4,8 +4,8 @@ use Rattle.babel_value.specs.declared.addresses.Addr.{Addr}
 use Rattle.babel_tlv.specs.Layout.{datagram_len}
 use Rattle.babel_tlv.specs.Spelling.{spelled}
 use Rattle.babel_tlv.specs.Split.{fault_of}
-use Rattle.babel_packet.specs.declared.messages.Message.{Message}
-use Rattle.babel_packet.specs.Layout.{magic, version, datagram_header_len}
+use Rattle.babel_message.specs.declared.messages.Message.{Message}
+use Rattle.babel_message.specs.Layout.{magic, version, datagram_header_len}
 use Rattle.babel_packet.specs.Payloads.{kind_of, payload_of}
 use Rattle.babel_packet.specs.declared.parser_state.ParserState.{ParserState}
 use Rattle.babel_packet.specs.BodyMeanings.{BodyMeans, state_after}

@@ -4,9 +4,9 @@
 
 ghost use Rattle.std.specs.Prelude.{◌≡◌, List, [], ◌∷◌, ◌++◌, true, drop, IsTrue};
 ghost use Rattle.std.specs.Bool.{OnTrue, OnFalse};
-ghost use Rattle.babel_packet.specs.declared.messages.Message.{Message};
+ghost use Rattle.babel_message.specs.declared.messages.Message.{Message};
 ghost use Rattle.babel_packet.specs.Encodable.{is_encodable};
-ghost use Rattle.babel_packet.specs.Layout.{datagram_header_len};
+ghost use Rattle.babel_message.specs.Layout.{datagram_header_len};
 ghost use Rattle.babel_packet.specs.BodyMeanings.{Means, datagram};
 ghost use Rattle.babel_build.specs.Built.{HasEncoded, IsBegun, fits, added};
 
@@ -14,8 +14,9 @@ use crate::fields::octets_of;
 use crate::messages::put_message;
 use crate::tlvs::Datagram;
 use arrayvec::ArrayVec;
+use babel_message::{HEADER_LEN, MAGIC, Message, VERSION};
+use babel_packet::ParserState;
 use babel_packet::laws::{compressed_is_read, fields_are_whole, one_more_message};
-use babel_packet::{HEADER_LEN, MAGIC, Message, ParserState, VERSION};
 use babel_tlv::DATAGRAM_LEN;
 use babel_value::Addr;
 use std::marker::Model;
@@ -32,7 +33,7 @@ pub struct Builder {
 
 impl Model for Builder {
     ghost use Rattle.std.specs.Prelude.{◌≡◌, ◌≤◌, drop, length};
-    ghost use Rattle.babel_packet.specs.Layout.{datagram_header_len};
+    ghost use Rattle.babel_message.specs.Layout.{datagram_header_len};
     ghost use Rattle.babel_build.specs.Built.{Built, IsBegun, IsKept};
 
     ghost Value = { Built };

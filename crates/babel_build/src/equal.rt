@@ -4,7 +4,7 @@ ghost use Rattle.std.specs.Prelude.{◌≡◌, ◌+◌, ◌≤◌, ◌&&◌, len
 ghost use Rattle.std.specs.Str.{bytes_eq};
 ghost use Rattle.std.specs.Int.{from_be_bytes};
 
-use babel_packet::layout::addresses::IPV6_LEN;
+use babel_message::layout::addresses::IPV6_LEN;
 
 /// The octets of half an IPv6 address.
 const HALF: usize = IPV6_LEN / 2;

@@ -2,12 +2,12 @@
 
 ghost use Rattle.std.specs.Prelude.{◌≡◌, ◌≤◌, take, drop, length};
 ghost use Rattle.babel_value.specs.Addresses.{width_of};
-ghost use Rattle.babel_packet.specs.Layout.{ipv6_len};
+ghost use Rattle.babel_message.specs.Layout.{ipv6_len};
 ghost use Rattle.babel_packet.specs.Prefixes.{octets_of as octets_taken};
 ghost use Rattle.babel_packet.specs.Payloads.{two, octets, is_link_local as is_in_link_local, encoding, encoded, prefix_encoding as family_encoding};
 
-use babel_packet::layout::addresses::{IPV6_LEN, LINK_LOCAL_LEN};
-use babel_packet::{AE_IPV4, AE_IPV6, AE_LINK_LOCAL};
+use babel_message::layout::addresses::{IPV6_LEN, LINK_LOCAL_LEN};
+use babel_message::{AE_IPV4, AE_IPV6, AE_LINK_LOCAL};
 use babel_value::{Addr, Prefix};
 use byteorder::{BigEndian, ByteOrder};
 

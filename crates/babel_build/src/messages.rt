@@ -3,7 +3,7 @@
 
 ghost use Rattle.std.specs.Prelude.{◌≡◌, ◌++◌, length, take};
 ghost use Rattle.std.specs.Bool.{OnTrue, OnFalse};
-ghost use Rattle.babel_packet.specs.declared.messages.Message.TheVariants as messages;
+ghost use Rattle.babel_message.specs.declared.messages.Message.TheVariants as messages;
 ghost use Rattle.babel_packet.specs.Compressed as compressed;
 ghost use Rattle.babel_packet.specs.Compressed.{router_id_before, next_hop_before, state_with};
 ghost use Rattle.babel_build.specs.Built.{is_room};
@@ -13,8 +13,9 @@ use crate::tlvs::{
     Datagram, put_ack, put_ack_request, put_dump_request, put_hello, put_ihu, put_next_hop,
     put_retract_all, put_route_request, put_router_id, put_seqno_request, put_update,
 };
-use babel_packet::layout::update::{SETS_PREFIX, SETS_ROUTER_ID};
-use babel_packet::{Message, ParserState};
+use babel_message::Message;
+use babel_message::layout::update::{SETS_PREFIX, SETS_ROUTER_ID};
+use babel_packet::ParserState;
 use babel_value::{Addr, Metric, Prefix, RouterId, Seqno};
 
 /// Appends the TLVs of a message, if they fit. Otherwise some of them may have been appended.

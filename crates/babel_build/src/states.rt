@@ -8,8 +8,8 @@ ghost use Rattle.babel_packet.specs.Compressed as compressed;
 ghost use Rattle.babel_packet.specs.Compressed.{default_for, with_default, with_router, with_hop};
 
 use crate::equal::{are_equal4, are_equal8, are_equal16};
+use babel_message::layout::addresses::{IPV4_LEN, IPV6_LEN, ROUTER_ID_LEN};
 use babel_packet::ParserState;
-use babel_packet::layout::addresses::{IPV4_LEN, IPV6_LEN, ROUTER_ID_LEN};
 use babel_value::{Addr, RouterId};
 
 /// Whether the router-id is set already.

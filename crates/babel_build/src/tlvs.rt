@@ -3,8 +3,8 @@
 ghost use Rattle.std.specs.Prelude.{◌≡◌, ◌<◌, ◌≤◌, ◌+◌, [], ◌∷◌, ◌++◌, length};
 ghost use Rattle.std.specs.Bool.{OnTrue, OnFalse};
 ghost use Rattle.babel_tlv.specs.Spelling.{spelled};
-ghost use Rattle.babel_packet.specs.Layout as layout;
-ghost use Rattle.babel_packet.specs.declared.messages.Message.TheVariants as messages;
+ghost use Rattle.babel_message.specs.Layout as layout;
+ghost use Rattle.babel_message.specs.declared.messages.Message.TheVariants as messages;
 ghost use Rattle.babel_packet.specs.Payloads.{router_id_payload, next_hop_payload, two, prefix_encoding, prefix_written};
 ghost use Rattle.babel_packet.specs.Compressed.{update_fields as fields_of_update, update_payload};
 ghost use Rattle.babel_build.specs.Built.{is_room, one_tlv};
@@ -12,12 +12,13 @@ ghost use Rattle.babel_build.specs.Built.{is_room, one_tlv};
 use crate::fields::{encoded, octets_of, prefix_encoding, reached};
 use crate::states::omitted;
 use arrayvec::ArrayVec;
-use babel_packet::layout::hello::UNICAST;
-use babel_packet::layout::{seqno_request, update};
-use babel_packet::{
-    ACK, ACK_REQUEST, AE_WILDCARD, HELLO, IHU, NEXT_HOP, ParserState, ROUTE_REQUEST, ROUTER_ID,
-    SEQNO_REQUEST, UPDATE,
+use babel_message::layout::hello::UNICAST;
+use babel_message::layout::{seqno_request, update};
+use babel_message::{
+    ACK, ACK_REQUEST, AE_WILDCARD, HELLO, IHU, NEXT_HOP, ROUTE_REQUEST, ROUTER_ID, SEQNO_REQUEST,
+    UPDATE,
 };
+use babel_packet::ParserState;
 use babel_tlv::{DATAGRAM_LEN, MAX_PAYLOAD_LEN, TLV_HEADER_LEN};
 use babel_value::{Addr, Metric, Prefix, RouterId, Seqno};
 

@@ -10,9 +10,9 @@ use Rattle.babel_value.specs.Prefixes.{PrefixValue}
 use Rattle.babel_value.proofs.OrderLaws.{prefix_total}
 use Rattle.babel_table.proofs.LookupLemmas.{eq_turned}
 use Rattle.babel_table.specs.Firsts.{first_of}
-use Rattle.babel_route.specs.RouteKeys.{route_cmp}
-use Rattle.babel_route.specs.Routes.{RouteEntries, expired}
-use Rattle.babel_route.specs.Selections.{is_of, routes_of, is_candidate, preference, peer_before, selection_of}
+use Rattle.babel_choice.specs.RouteKeys.{route_cmp}
+use Rattle.babel_choice.specs.Routes.{RouteEntries, expired}
+use Rattle.babel_choice.specs.Choices.{is_of, routes_of, is_candidate, preference, peer_before, selection_of}
 use Rattle.babel_state.specs.CurrentSelections.{AreCurrent, IsCurrentAt}
 use Rattle.babel_state.specs.Reselection.{reselect_each, reselect_all}
 use Rattle.babel_state.specs.Sameness.{has_prefix}

@@ -1,12 +1,8 @@
 pub mod Retractions
 pub mod TickLists
-pub mod FirstStates
 pub mod QuietTicks
 pub mod Settling
 pub mod LinkChanges
 pub mod StaleReselections
-pub mod SettledSends
-pub mod Restoring
 pub mod RoutesKept
-pub mod SentUpdates
 pub mod Expiries

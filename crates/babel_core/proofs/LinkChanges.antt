@@ -18,10 +18,10 @@ use Rattle.babel_link.specs.Links.{hello_link, ihu_link}
 use Rattle.babel_link.specs.Neighbours.{Links, link_of, hello_of, hello_verdict, ihu_of, tick_of, gone_of, KeepsOtherCosts}
 use Rattle.babel_table.specs.Firsts.{first_from, first_of}
 use Rattle.babel_table.proofs.LookupLemmas.{eq_turned}
-use Rattle.babel_route.specs.declared.routes.entries.Selection.{Selection}
-use Rattle.babel_route.specs.Routes.{Route, RouteEntries, is_from}
+use Rattle.babel_choice.specs.declared.entries.Selection.{Selection}
+use Rattle.babel_choice.specs.Routes.{Route, RouteEntries, is_from}
 use Rattle.babel_sources.specs.Sources.{Sources}
-use Rattle.babel_route.specs.Selections.{is_of, routes_of, is_candidate, is_feasible_route, preference, rank_cmp, is_change, selection_of, peer_before, choice}
+use Rattle.babel_choice.specs.Choices.{is_of, routes_of, is_candidate, is_feasible_route, preference, rank_cmp, is_change, selection_of, peer_before, choice}
 use Rattle.babel_state.specs.Sameness.{has_prefix}
 use Rattle.babel_state.specs.State.{State, announces, cost_at, nominal_cost, selected_at}
 use Rattle.babel_state.specs.Hellos.{hears, forgets_flushed}

@@ -10,7 +10,8 @@ use Rattle.babel_state.specs.declared.items.Item.{Item}
 use Rattle.babel_state.specs.Queueing.{queued}
 use Rattle.babel_state.specs.State.{State}
 use Rattle.babel_state.specs.Ticks.{is_due_request, waited, repeated_items, all_repeated_items, requests_ticked, is_due, fired, timer_items, all_timer_items, interfaces_ticked}
-use Rattle.babel_parts.specs.TickItems.{has_due_timer, has_due_update, timers_of, all_timers_of}
+use Rattle.babel_parts.specs.DueTimers.{has_due_timer, has_due_update}
+use Rattle.babel_steps.specs.TickItems.{timers_of, all_timers_of}
 
 neither : (a b : Bool) → (a || b) ≡ false → (a ≡ false) × (b ≡ false)
 neither true b none = cc

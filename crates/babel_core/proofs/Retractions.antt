@@ -1,7 +1,7 @@
 -- A retraction of all changes nothing if the neighbour advertised nothing.
 use Rattle.std.proofs.Common.{◌≡◌, ℕ, Bool, true, false, ◌||◌, [], ◌∷◌, refl, ap, if◌then◌else◌}
 use Rattle.babel_value.specs.declared.keys.Peer.{Peer}
-use Rattle.babel_route.specs.Routes.{RouteEntries, is_from, has_routes_from, retracted_entry, retracted_all}
+use Rattle.babel_choice.specs.Routes.{RouteEntries, is_from, has_routes_from, retracted_entry, retracted_all}
 
 pub retracted_none : (now : ℕ) (peer : Peer) (es : RouteEntries) → has_routes_from peer es ≡ false → retracted_all now peer es ≡ es
 retracted_none now peer [] none = refl

@@ -4,8 +4,8 @@ use Rattle.std.proofs.Common.{refl, sym, ◌∙◌, ap, true≢false}
 use Rattle.babel_value.specs.declared.keys.Peer.{Peer}
 use Rattle.babel_value.specs.Prefixes.{PrefixValue}
 use Rattle.babel_link.specs.Neighbours.{Links, tick_of, gone_of, cost_of}
-use Rattle.babel_route.specs.declared.routes.entries.Selection.{Selection}
-use Rattle.babel_route.specs.Routes.{RouteEntries}
+use Rattle.babel_choice.specs.declared.entries.Selection.{Selection}
+use Rattle.babel_choice.specs.Routes.{RouteEntries}
 use Rattle.babel_state.specs.State.{State, PrefixSet, prefixes_in, nominal_cost, cost_at, selected_at, with_entries}
 use Rattle.babel_state.specs.Reselection.{select, reselect_each}
 use Rattle.babel_state.specs.Ticks.{forget_each, requests_ticked, interfaces_ticked, sources_ticked}

@@ -4,7 +4,7 @@ use Rattle.std.specs.FinMap.{is_sorted}
 use Rattle.std.proofs.Common.{sym, ap, ◌∙◌, subst}
 use Rattle.babel_value.specs.declared.keys.Peer.{Peer}
 use Rattle.babel_value.specs.Orders.{prefix_cmp}
-use Rattle.babel_route.specs.RouteKeys.{route_cmp}
+use Rattle.babel_choice.specs.RouteKeys.{route_cmp}
 use Rattle.babel_route.specs.Selections.{IsCurrent}
 use Rattle.babel_state.specs.State.{State}
 use Rattle.babel_state.specs.Reselection.{reselect_all}

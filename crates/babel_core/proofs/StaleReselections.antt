@@ -12,10 +12,11 @@ use Rattle.babel_value.proofs.OrderLaws.{prefix_total, prefix_exact}
 use Rattle.babel_table.specs.Entries.{with_value}
 use Rattle.babel_table.proofs.LookupLemmas.{equal}
 use Rattle.babel_table.proofs.PlaceLemmas.{holds, so, sorted_put, sorted_without}
-use Rattle.babel_route.specs.declared.routes.entries.Selection.{Selection}
+use Rattle.babel_choice.specs.declared.entries.Selection.{Selection}
 use Rattle.babel_route.specs.Currency.{is_current}
-use Rattle.babel_route.specs.RouteKeys.{route_cmp}
-use Rattle.babel_route.specs.Selections.{RoutesValue, Selections, IsCurrent, selection_at, choice_at, prefixes_of}
+use Rattle.babel_choice.specs.RouteKeys.{route_cmp}
+use Rattle.babel_choice.specs.Choices.{Selections}
+use Rattle.babel_route.specs.Selections.{RoutesValue, IsCurrent, selection_at, choice_at, prefixes_of}
 use Rattle.babel_route.proofs.CurrencyLemmas.{same_selection}
 use Rattle.babel_route.proofs.CurrentLemmas.{settled, still_current, idle_current}
 use Rattle.babel_state.specs.Sameness.{has_prefix}

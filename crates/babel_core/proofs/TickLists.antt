@@ -9,7 +9,7 @@ use Rattle.babel_state.specs.PendingRequests.{PendingRequests}
 use Rattle.babel_state.specs.Reselection.{request_items, unfeasible_peers}
 use Rattle.babel_state.specs.State.{State, reachable_prefixes}
 use Rattle.babel_state.specs.Ticks.{is_due_request, is_last, requested_again, repeated_items, all_repeated_items, timer_items, all_timer_items}
-use Rattle.babel_parts.specs.TickItems.{receivers_of, all_repeats_of, all_timers_of}
+use Rattle.babel_steps.specs.TickItems.{receivers_of, all_repeats_of, all_timers_of}
 
 same_receivers : (resend : Resend) (prefix : PrefixValue) (s : State) → receivers_of resend prefix s.sources s.routes.entries ≡ requested_again resend prefix s
 unfolding unfeasible_peers

@@ -2,17 +2,12 @@
 //! state and the steps are those of `babel_state`.
 //!
 //! Each module adds methods to `Core`: `hellos`, `updates` and `seqno_requests` handle messages, and `ticks` what time
-//! brings. `reselection` has what follows from each of them. `outgoing` and `sending` are for the messages that are sent.
+//! brings. `reselection` has what follows from each of them. How a state is made and what it sends is in `babel_calls`.
 #![tactic(auto)]
 
-mod calls;
 mod causes;
 mod hellos;
-mod making;
-mod outgoing;
 mod reselection;
-mod restarts;
-mod sending;
 mod seqno_requests;
 mod sources;
 mod speaker_core;

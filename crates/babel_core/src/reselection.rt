@@ -13,11 +13,11 @@ ghost use Rattle.babel_parts.specs.declared.link_costs.LinkChange.TheVariants.{N
 
 use crate::Core;
 use crate::causes::UnfeasibleUpdate;
-use babel_parts::queueing::{has_unfeasible, queue_requests_to_unfeasible, queue_updates_to_all};
-use babel_parts::reselection::{are_alike, is_same_origin, is_selected_peer, seqno_after};
+use babel_choice::{Cursor, Selection};
 use babel_parts::{LinkChange, LinkCosts, Scratch};
-use babel_route::{Cursor, Selection};
 use babel_state::{Item, REQUEST_HOPS, Resend, Target};
+use babel_steps::queueing::{has_unfeasible, queue_requests_to_unfeasible, queue_updates_to_all};
+use babel_steps::reselection::{are_alike, is_same_origin, is_selected_peer, seqno_after};
 use babel_value::{Peer, Prefix, Seqno, Source};
 
 impl Core {
@@ -29,7 +29,7 @@ impl Core {
     }
 
     /// Queues an update of the prefix to all on each interface.
-    pub(crate) fn queue_updates_to_all(&mut self, prefix: &Prefix)
+    pub fn queue_updates_to_all(&mut self, prefix: &Prefix)
         ensures { self.new ≡ queue (updates_to_all prefix.now self.old) self.old }
     {
         queue_updates_to_all(&mut self.pending, self.interfaces.len(), *prefix);
@@ -96,7 +96,7 @@ impl Core {
     }
 
     /// Selects the route of the prefix again (RFC 8966, section 3.6). Returns the old and the new selection.
-    pub(crate) fn select(&mut self, prefix: &Prefix) -> (Option<Selection>, Option<Selection>)
+    pub fn select(&mut self, prefix: &Prefix) -> (Option<Selection>, Option<Selection>)
         ensures state { self.new ≡ select prefix.now self.old }
         ensures old { result.0 ≡ selected_at prefix.now self.old }
         ensures new { result.1 ≡ selected_at prefix.now self.new }

@@ -4,10 +4,10 @@ ghost use Rattle.std.specs.Prelude.{◌≡◌, ◌≤◌, Some};
 ghost use Rattle.babel_state.specs.SeqnoRequests.{handle_route_request, handle_dump_request, raised, outcomes, requested_of_own, receiver, forward, requested_of_route, handle_seqno_request};
 
 use crate::Core;
-use babel_parts::queueing::queue_updates_of;
-use babel_parts::seqno_requests::{outcomes, receiver};
-use babel_route::Selection;
+use babel_choice::Selection;
 use babel_state::{Resend, Verdict};
+use babel_steps::queueing::queue_updates_of;
+use babel_steps::seqno_requests::{outcomes, receiver};
 use babel_value::{Peer, Prefix, Seqno, Source};
 
 impl Core {

@@ -2,9 +2,10 @@
 
 ghost use Rattle.std.specs.Prelude.{◌≡◌};
 
+use babel_choice::{Entry, Selection};
 use babel_link::Neighbours;
 use babel_parts::{Announced, Interfaces, PendingItems, RequestTable};
-use babel_route::{Entry, Routes, Selection};
+use babel_route::Routes;
 use babel_sources::Sources;
 use babel_state::InterfaceEntry;
 use babel_value::{Distance, Metric, Peer, Prefix, RouterId, Seqno, Source};
@@ -13,18 +14,30 @@ use std::marker::Model;
 /// The state of a speaker. A clause sees it as the `State` that the steps are defined on.
 #[derive(Drop)]
 pub struct Core {
-    pub(crate) router: RouterId,
-    pub(crate) collects: bool,
-    pub(crate) seqno: Seqno,
-    pub(crate) raises: u64,
-    pub(crate) announced: Announced,
-    pub(crate) interfaces: Interfaces,
-    pub(crate) neighbours: Neighbours,
-    pub(crate) sources: Sources,
-    pub(crate) routes: Routes,
-    pub(crate) requests: RequestTable,
-    pub(crate) pending: PendingItems,
-    pub(crate) left_out: u64,
+    /// The own router-id.
+    pub router: RouterId,
+    /// Whether entries of the source table are collected (RFC 8966, section 3.2.5).
+    pub collects: bool,
+    /// The own seqno.
+    pub seqno: Seqno,
+    /// How often the own seqno grew.
+    pub raises: u64,
+    /// The announced prefixes.
+    pub announced: Announced,
+    /// The interfaces (RFC 8966, section 3.2.3).
+    pub interfaces: Interfaces,
+    /// The neighbour table (RFC 8966, section 3.2.4).
+    pub neighbours: Neighbours,
+    /// The source table (RFC 8966, section 3.2.5).
+    pub sources: Sources,
+    /// The route table, and the selected routes (RFC 8966, section 3.2.6).
+    pub routes: Routes,
+    /// The pending seqno requests (RFC 8966, section 3.2.7).
+    pub requests: RequestTable,
+    /// The pending items, from the oldest on.
+    pub pending: PendingItems,
+    /// How many Updates were left out since the source table had no room.
+    pub left_out: u64,
 }
 
 impl Model for Core {
@@ -85,7 +98,7 @@ impl Core {
     }
 
     /// The cost of receiving from the peer.
-    pub(crate) fn rxcost(&self, peer: &Peer) -> Metric
+    pub fn rxcost(&self, peer: &Peer) -> Metric
         ensures { result ≡ rxcost_at self.now peer.now }
     {
         let nominal = self.interfaces.nominal_cost(peer.iface);
@@ -115,7 +128,7 @@ impl Core {
     }
 
     /// The selected route of the prefix, as its last reselection left it (RFC 8966, section 3.6).
-    pub(crate) fn selected(&self, prefix: &Prefix) -> Option<Selection>
+    pub fn selected(&self, prefix: &Prefix) -> Option<Selection>
         ensures { result ≡ selected_at prefix.now self.now }
     {
         match self.routes.selected(prefix) {

@@ -8,7 +8,7 @@ ghost use Rattle.babel_state.specs.CurrentSelections.{AreCurrent, AreRoutesInOrd
 ghost use Rattle.babel_state.specs.SettledLaws.{AreSelectionsInOrder};
 ghost use Rattle.babel_state.specs.KeptRoutes.{KeepsRoutes};
 ghost use Rattle.babel_parts.specs.LinkChanges.{AreOthersCurrent};
-ghost use Rattle.babel_parts.specs.TickItems.{all_timers_of};
+ghost use Rattle.babel_steps.specs.TickItems.{all_timers_of};
 ghost use Rattle.babel_parts.specs.DueRoutes.{prefixes_due};
 ghost use Rattle.babel_state.specs.Reselection.{reselect_all};
 ghost use Rattle.babel_state.specs.State.{gathered, prefixes_in};
@@ -17,8 +17,8 @@ ghost use Rattle.babel_state.specs.Ticks.{all_timer_items, routes_selected, forg
 use crate::Core;
 use arrayvec::ArrayVec;
 use babel_link::CostChanges;
-use babel_parts::ticks::{queue_all_timers, queue_repeats};
 use babel_parts::{LinkChange, Scratch};
+use babel_steps::ticks::{queue_all_timers, queue_repeats};
 use babel_value::Peer;
 
 impl Core {
@@ -106,7 +106,7 @@ impl Core {
     fn gather_expiring(&self, now: u64, scratch: &mut Scratch)
         ensures { scratch.new ≡ gathered (prefixes_due now self.now.routes.entries) [] }
     {
-        scratch.gather_due(&self.routes, now);
+        scratch.gather_expiring(&self.routes, now);
     }
 
     /// The routes and the selections are in the order of their keys. The call does nothing.

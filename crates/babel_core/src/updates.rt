@@ -11,10 +11,10 @@ ghost use Rattle.babel_state.specs.Updates.{store, is_satisfied, advertise_if_se
 
 use crate::Core;
 use crate::causes::UnfeasibleUpdate;
+use babel_choice::{Cursor, Selection};
 use babel_parts::Scratch;
-use babel_parts::reselection::are_alike;
-use babel_route::{Cursor, Selection};
 use babel_state::Verdict;
+use babel_steps::reselection::are_alike;
 use babel_value::{Addr, Distance, Peer, Prefix, RouterId, Seqno, Source};
 
 /// A finite update as received from a neighbour.

@@ -6,7 +6,7 @@ ghost use Rattle.babel_state.specs.Codes.{set_cost_code};
 ghost use Rattle.babel_lines.specs.Texts.{cost_refused_text, line, longest_moment, moment_text, out_text, refusal_text, refused_text, target_text, tlv_line, verdict_after, verdict_text};
 
 use crate::parts::push_distance;
-use babel_packet::{Content, Placed};
+use babel_message::{Content, Placed};
 use babel_state::{RecvFault, SetCostFault, Target, Verdict};
 use babel_value::Line;
 

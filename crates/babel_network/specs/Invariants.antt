@@ -1,6 +1,6 @@
 -- What holds of every network (profile).
 use Rattle.std.specs.Prelude.{◌≡◌, List, All, None, length, Ok}
-use Rattle.babel_packet.specs.declared.placements.Placed.{Placed}
+use Rattle.babel_message.specs.declared.placements.Placed.{Placed}
 use Rattle.babel_packet.specs.Meaning.{meaning, messages_of}
 use Rattle.babel_state.specs.declared.configs.Config.{Config}
 use Rattle.babel_state.specs.Configs.{config_fault}

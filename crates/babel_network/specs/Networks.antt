@@ -1,8 +1,8 @@
 -- The state of a network, and what is seen of it (profile).
 use Rattle.std.specs.Prelude.{ℕ, List, [], ◌∷◌, ◌++◌, map, slice_set, Result, Ok, Err}
 use Rattle.babel_value.specs.declared.addresses.Addr.{Addr}
-use Rattle.babel_packet.specs.declared.errors.Refusal.{Refusal}
-use Rattle.babel_packet.specs.declared.placements.Placed.{Placed}
+use Rattle.babel_message.specs.declared.errors.Refusal.{Refusal}
+use Rattle.babel_message.specs.declared.placements.Placed.{Placed}
 use Rattle.babel_packet.specs.Meaning.{meaning, messages_of}
 use Rattle.babel_state.specs.declared.configs.Config.{Config}
 use Rattle.babel_state.specs.Seen.{UpdateValue, seen, updates_among}

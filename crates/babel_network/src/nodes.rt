@@ -16,8 +16,8 @@ ghost use Rattle.babel_network.specs.Steps.{Makes, MakesEmit, MakesDeliver, Make
 
 use crate::calls::{call, node_of, receive, restart};
 use crate::sent::Record;
+use babel_choice::Selection;
 use babel_net::{Event, NetFault, StepFault};
-use babel_route::Selection;
 use babel_speaker::Speaker;
 use babel_state::{Config, Selected};
 use babel_value::{Addr, Memory, Prefix};

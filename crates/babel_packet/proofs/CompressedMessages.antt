@@ -7,9 +7,9 @@ use Rattle.babel_value.specs.declared.addresses.Addr.TheVariants.{V4, V6}
 use Rattle.babel_value.specs.Prefixes.{PrefixValue}
 use Rattle.babel_tlv.specs.Spelling.{spelled}
 use Rattle.babel_tlv.specs.Split.{fault_of}
-use Rattle.babel_packet.specs.declared.messages.Message.{Message}
-use Rattle.babel_packet.specs.declared.messages.Message.TheVariants as messages
-use Rattle.babel_packet.specs.declared.placements.Content.TheVariants as contents
+use Rattle.babel_message.specs.declared.messages.Message.{Message}
+use Rattle.babel_message.specs.declared.messages.Message.TheVariants as messages
+use Rattle.babel_message.specs.declared.placements.Content.TheVariants as contents
 use Rattle.babel_packet.specs.RouterIds.{named_router}
 use Rattle.babel_packet.specs.NextHops.{named_hop4, named_hop6}
 use Rattle.babel_packet.specs.LookBack.{update_address}

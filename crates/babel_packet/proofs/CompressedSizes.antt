@@ -6,8 +6,8 @@ use Rattle.babel_value.specs.declared.addresses.Addr.{Addr}
 use Rattle.babel_value.specs.declared.addresses.Addr.TheVariants.{V4, V6}
 use Rattle.babel_value.specs.Prefixes.{PrefixValue}
 use Rattle.babel_tlv.specs.Spelling.{spelled}
-use Rattle.babel_packet.specs.declared.messages.Message.{Message}
-use Rattle.babel_packet.specs.declared.messages.Message.TheVariants as messages
+use Rattle.babel_message.specs.declared.messages.Message.{Message}
+use Rattle.babel_message.specs.declared.messages.Message.TheVariants as messages
 use Rattle.babel_packet.specs.Prefixes.{octets_of}
 use Rattle.babel_packet.specs.declared.parser_state.ParserState.{ParserState}
 use Rattle.babel_packet.specs.Payloads.{octets, is_link_local, encoded, receiver_encoded, prefix_written, router_id_payload, next_hop_payload}

@@ -6,14 +6,14 @@ use Rattle.babel_value.specs.declared.addresses.Addr.{Addr}
 use Rattle.babel_value.specs.declared.addresses.Addr.TheVariants.{V4, V6}
 use Rattle.babel_tlv.specs.Place.{Place}
 use Rattle.babel_tlv.specs.Split.{places_of, fault_of}
-use Rattle.babel_packet.specs.Layout as layout
+use Rattle.babel_message.specs.Layout as layout
 use Rattle.babel_packet.specs.declared.parser_state.ParserState.{ParserState}
-use Rattle.babel_packet.specs.declared.messages.Message.{Message}
-use Rattle.babel_packet.specs.declared.messages.Message.TheVariants as messages
-use Rattle.babel_packet.specs.declared.placements.Content.{Content}
-use Rattle.babel_packet.specs.declared.placements.Content.TheVariants as contents
-use Rattle.babel_packet.specs.declared.placements.Reason.{Reason}
-use Rattle.babel_packet.specs.declared.placements.Reason.TheVariants as reasons
+use Rattle.babel_message.specs.declared.messages.Message.{Message}
+use Rattle.babel_message.specs.declared.messages.Message.TheVariants as messages
+use Rattle.babel_message.specs.declared.placements.Content.{Content}
+use Rattle.babel_message.specs.declared.placements.Content.TheVariants as contents
+use Rattle.babel_message.specs.declared.placements.Reason.{Reason}
+use Rattle.babel_message.specs.declared.placements.Reason.TheVariants as reasons
 use Rattle.babel_packet.specs.Numbers.{octet, word}
 use Rattle.babel_packet.specs.Addresses.{ipv4_at, ipv6_at, link_local_at}
 use Rattle.babel_packet.specs.Contents.{unless, ignored, means}

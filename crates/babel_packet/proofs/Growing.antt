@@ -6,10 +6,10 @@ use Rattle.babel_value.specs.declared.addresses.Addr.{Addr}
 use Rattle.babel_tlv.specs.Place.{Place}
 use Rattle.babel_tlv.specs.Spelling.{spelled}
 use Rattle.babel_tlv.specs.Split.{places_of, fault_of}
-use Rattle.babel_packet.specs.declared.messages.Message.{Message}
-use Rattle.babel_packet.specs.declared.placements.Content.{Content}
-use Rattle.babel_packet.specs.declared.placements.Content.TheVariants as contents
-use Rattle.babel_packet.specs.declared.placements.Placed.{Placed}
+use Rattle.babel_message.specs.declared.messages.Message.{Message}
+use Rattle.babel_message.specs.declared.placements.Content.{Content}
+use Rattle.babel_message.specs.declared.placements.Content.TheVariants as contents
+use Rattle.babel_message.specs.declared.placements.Placed.{Placed}
 use Rattle.babel_packet.specs.LookBack.{before}
 use Rattle.babel_packet.specs.Meaning.{content, content_messages, placed_from, messages_of}
 use Rattle.babel_packet.specs.BodyMeanings.{BodyMeans, is_heeded, are_heeded, placed_of, state_after}

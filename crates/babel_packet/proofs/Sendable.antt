@@ -10,16 +10,16 @@ use Rattle.babel_value.specs.Prefixes.{PrefixValue}
 use Rattle.babel_value.specs.RouterIds.{is_reserved, router_id_of}
 use Rattle.babel_tlv.specs.Place.{Place}
 use Rattle.babel_tlv.specs.Split.{places_at, places_of, fault_of}
-use Rattle.babel_packet.specs.Layout as layout
+use Rattle.babel_message.specs.Layout as layout
 use Rattle.babel_packet.specs.declared.parser_state.ParserState.{ParserState}
-use Rattle.babel_packet.specs.declared.messages.Message.{Message}
-use Rattle.babel_packet.specs.declared.messages.Message.TheVariants as messages
-use Rattle.babel_packet.specs.declared.placements.Content.{Content}
-use Rattle.babel_packet.specs.declared.placements.Content.TheVariants as contents
-use Rattle.babel_packet.specs.declared.placements.Reason.{Reason}
-use Rattle.babel_packet.specs.declared.placements.Reason.TheVariants as reasons
-use Rattle.babel_packet.specs.declared.placements.Placed.{Placed}
-use Rattle.babel_packet.specs.declared.errors.Refusal.{Refusal}
+use Rattle.babel_message.specs.declared.messages.Message.{Message}
+use Rattle.babel_message.specs.declared.messages.Message.TheVariants as messages
+use Rattle.babel_message.specs.declared.placements.Content.{Content}
+use Rattle.babel_message.specs.declared.placements.Content.TheVariants as contents
+use Rattle.babel_message.specs.declared.placements.Reason.{Reason}
+use Rattle.babel_message.specs.declared.placements.Reason.TheVariants as reasons
+use Rattle.babel_message.specs.declared.placements.Placed.{Placed}
+use Rattle.babel_message.specs.declared.errors.Refusal.{Refusal}
 use Rattle.babel_packet.specs.Numbers.{octet, word, has_flag}
 use Rattle.babel_packet.specs.Addresses.{ipv4_at, ipv6_at, link_local_at, link_local_prefix}
 use Rattle.babel_packet.specs.Prefixes.{prefix_octets, is_whole}

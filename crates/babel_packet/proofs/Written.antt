@@ -6,9 +6,9 @@ use Rattle.std.proofs.lemmas.Bool.{le-ltb, le-leb, ne_eqb, ltb-true}
 use Rattle.babel_value.specs.declared.addresses.Addr.{Addr}
 use Rattle.babel_value.specs.declared.addresses.Addr.TheVariants.{V4, V6}
 use Rattle.babel_value.specs.Prefixes.{PrefixValue, cleared}
-use Rattle.babel_packet.specs.declared.messages.Message.{Message}
-use Rattle.babel_packet.specs.declared.messages.Message.TheVariants as messages
-use Rattle.babel_packet.specs.declared.placements.Content.TheVariants as contents
+use Rattle.babel_message.specs.declared.messages.Message.{Message}
+use Rattle.babel_message.specs.declared.messages.Message.TheVariants as messages
+use Rattle.babel_message.specs.declared.placements.Content.TheVariants as contents
 use Rattle.babel_packet.specs.Numbers.{word, has_flag, octet}
 use Rattle.babel_packet.specs.Prefixes.{octets_of, prefix_octets, is_whole}
 use Rattle.babel_packet.specs.Tails.{tail_reason}

@@ -1,9 +1,9 @@
 -- Acknowledgment Request and Acknowledgment (RFC 8966, sections 4.6.3 and 4.6.4).
 use Rattle.std.specs.Prelude.{ℕ, List, length, drop, nat_lt, if◌then◌else◌}
-use Rattle.babel_packet.specs.Layout as layout
-use Rattle.babel_packet.specs.declared.placements.Content.{Content}
-use Rattle.babel_packet.specs.declared.placements.Reason.TheVariants.{Unreadable}
-use Rattle.babel_packet.specs.declared.messages.Message.TheVariants as messages
+use Rattle.babel_message.specs.Layout as layout
+use Rattle.babel_message.specs.declared.placements.Content.{Content}
+use Rattle.babel_message.specs.declared.placements.Reason.TheVariants.{Unreadable}
+use Rattle.babel_message.specs.declared.messages.Message.TheVariants as messages
 use Rattle.babel_packet.specs.Numbers.{word}
 use Rattle.babel_packet.specs.Contents.{means, ignored}
 use Rattle.babel_packet.specs.Tails.{after_tail}

@@ -1,6 +1,6 @@
 -- The octets of an address in a payload, by its encoding (AE; RFC 8966, section 4.1.4).
 use Rattle.std.specs.Prelude.{ℕ, List, [], ◌∷◌, ◌++◌, ◌+◌, slice_range}
-use Rattle.babel_packet.specs.Layout as layout
+use Rattle.babel_message.specs.Layout as layout
 
 -- the octets of an IPv4 address at this offset
 abbrev pub ipv4_at : List ℕ → ℕ → List ℕ

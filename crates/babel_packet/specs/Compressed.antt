@@ -7,9 +7,9 @@ use Rattle.babel_value.specs.Metrics.{infinity}
 use Rattle.babel_value.specs.Prefixes.{PrefixValue}
 use Rattle.babel_tlv.specs.Layout.{header_len}
 use Rattle.babel_tlv.specs.Spelling.{spelled}
-use Rattle.babel_packet.specs.Layout as layout
-use Rattle.babel_packet.specs.declared.messages.Message.{Message}
-use Rattle.babel_packet.specs.declared.messages.Message.TheVariants as messages
+use Rattle.babel_message.specs.Layout as layout
+use Rattle.babel_message.specs.declared.messages.Message.{Message}
+use Rattle.babel_message.specs.declared.messages.Message.TheVariants as messages
 use Rattle.babel_packet.specs.declared.parser_state.ParserState.{ParserState}
 use Rattle.babel_packet.specs.Payloads.{two, octets, prefix_encoding, prefix_written, router_id_payload, next_hop_payload, kind_of, payload_of}
 use Rattle.babel_packet.specs.BodyMeanings.{hop_for}

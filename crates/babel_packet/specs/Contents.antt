@@ -1,10 +1,10 @@
 -- The content of a place of a datagram: its message, state for the places after it, or the reason why it is ignored (RFC 8966, section 4.5).
 use Rattle.std.specs.Prelude.{ℕ, List, [], ◌∷◌, ◌++◌, Option, Some, None}
-use Rattle.babel_packet.specs.declared.placements.Content.{Content}
-use Rattle.babel_packet.specs.declared.placements.Content.TheVariants as contents
-use Rattle.babel_packet.specs.declared.placements.Reason.{Reason}
-use Rattle.babel_packet.specs.declared.placements.Placed.{Placed}
-use Rattle.babel_packet.specs.declared.messages.Message.{Message}
+use Rattle.babel_message.specs.declared.placements.Content.{Content}
+use Rattle.babel_message.specs.declared.placements.Content.TheVariants as contents
+use Rattle.babel_message.specs.declared.placements.Reason.{Reason}
+use Rattle.babel_message.specs.declared.placements.Placed.{Placed}
+use Rattle.babel_message.specs.declared.messages.Message.{Message}
 
 abbrev pub means : Message → Content
 means message = contents.Message message

@@ -2,8 +2,8 @@
 use Rattle.std.specs.Prelude.{◌≡◌, ℕ, List, true, Ok}
 use Rattle.std.specs.List.{AllByRecursion}
 use Rattle.babel_value.specs.declared.addresses.Addr.{Addr}
-use Rattle.babel_packet.specs.declared.messages.Message.{Message}
-use Rattle.babel_packet.specs.declared.placements.Placed.{Placed}
+use Rattle.babel_message.specs.declared.messages.Message.{Message}
+use Rattle.babel_message.specs.declared.placements.Placed.{Placed}
 use Rattle.babel_packet.specs.Meaning.{meaning, messages_of}
 use Rattle.babel_packet.specs.Encodable.{is_encodable, AreOctets, IsAddr, IsMessage}
 

@@ -7,9 +7,9 @@ use Rattle.babel_value.specs.Metrics.{infinity}
 use Rattle.babel_value.specs.Prefixes.{PrefixValue, cleared_addr}
 use Rattle.babel_value.specs.RouterIds.{is_reserved}
 use Rattle.babel_tlv.specs.Layout.{octet_bound}
-use Rattle.babel_packet.specs.Layout as layout
-use Rattle.babel_packet.specs.declared.messages.Message.{Message}
-use Rattle.babel_packet.specs.declared.messages.Message.TheVariants as messages
+use Rattle.babel_message.specs.Layout as layout
+use Rattle.babel_message.specs.declared.messages.Message.{Message}
+use Rattle.babel_message.specs.declared.messages.Message.TheVariants as messages
 
 -- of one family
 abbrev pub are_kin : Addr → Addr → Bool

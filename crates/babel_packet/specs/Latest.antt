@@ -2,7 +2,7 @@
 use Rattle.std.specs.Prelude.{◌≡◌, ℕ, List, [], ◌∷◌, ◌++◌, Option, Some, None, ◌⊎◌}
 use Rattle.babel_value.specs.declared.addresses.Addr.{Addr}
 use Rattle.babel_tlv.specs.Place.{Place}
-use Rattle.babel_packet.specs.Layout as layout
+use Rattle.babel_message.specs.Layout as layout
 use Rattle.babel_packet.specs.NextHops.{named_hop4, named_hop6}
 use Rattle.babel_packet.specs.LookBack.{own_default, default_before, own_router, router_before, source4, source6, hop4_before, hop6_before}
 

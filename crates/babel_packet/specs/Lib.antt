@@ -1,4 +1,3 @@
-pub mod Layout
 pub mod Numbers
 pub mod Contents
 pub mod Tails
@@ -13,7 +12,6 @@ pub mod UpdateFields
 pub mod LookBack
 pub mod Updates
 pub mod Requests
-pub mod Texts
 pub mod Meaning
 pub mod Latest
 pub mod ReasonTable

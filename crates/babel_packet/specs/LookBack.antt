@@ -4,7 +4,7 @@ use Rattle.std.specs.Option.{option_or}
 use Rattle.babel_value.specs.declared.addresses.Addr.{Addr}
 use Rattle.babel_value.specs.declared.addresses.Addr.TheVariants.{V4, V6}
 use Rattle.babel_tlv.specs.Place.{Place}
-use Rattle.babel_packet.specs.Layout as layout
+use Rattle.babel_message.specs.Layout as layout
 use Rattle.babel_packet.specs.declared.parser_state.ParserState.{ParserState}
 use Rattle.babel_packet.specs.Numbers.{octet, has_flag}
 use Rattle.babel_packet.specs.RouterIds.{named_router}

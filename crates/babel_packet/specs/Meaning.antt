@@ -3,14 +3,14 @@ use Rattle.std.specs.Prelude.{◌≡◌, ℕ, ◌+◌, List, [], ◌∷◌, Opti
 use Rattle.babel_value.specs.declared.addresses.Addr.{Addr}
 use Rattle.babel_tlv.specs.Place.{Place}
 use Rattle.babel_tlv.specs.Split.{places_of, fault_of}
-use Rattle.babel_packet.specs.Layout as layout
-use Rattle.babel_packet.specs.declared.messages.Message.{Message}
-use Rattle.babel_packet.specs.declared.placements.Content.{Content}
-use Rattle.babel_packet.specs.declared.placements.Content.TheVariants as contents
-use Rattle.babel_packet.specs.declared.placements.Reason.TheVariants as reasons
-use Rattle.babel_packet.specs.declared.placements.Placed.{Placed}
-use Rattle.babel_packet.specs.declared.errors.Refusal.{Refusal}
-use Rattle.babel_packet.specs.declared.errors.Refusal.TheVariants as refusals
+use Rattle.babel_message.specs.Layout as layout
+use Rattle.babel_message.specs.declared.messages.Message.{Message}
+use Rattle.babel_message.specs.declared.placements.Content.{Content}
+use Rattle.babel_message.specs.declared.placements.Content.TheVariants as contents
+use Rattle.babel_message.specs.declared.placements.Reason.TheVariants as reasons
+use Rattle.babel_message.specs.declared.placements.Placed.{Placed}
+use Rattle.babel_message.specs.declared.errors.Refusal.{Refusal}
+use Rattle.babel_message.specs.declared.errors.Refusal.TheVariants as refusals
 use Rattle.babel_packet.specs.Numbers.{octet, word}
 use Rattle.babel_packet.specs.Contents.{ignored}
 use Rattle.babel_packet.specs.Acks.{ack_request, ack}

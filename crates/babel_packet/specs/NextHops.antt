@@ -1,9 +1,9 @@
 -- Next Hop (RFC 8966, section 4.6.8).
 use Rattle.std.specs.Prelude.{ℕ, ◌+◌, List, Option, Some, None, ◌&&◌, length, drop, nat_le, nat_lt, nat_eq, if◌then◌else◌}
-use Rattle.babel_packet.specs.Layout as layout
-use Rattle.babel_packet.specs.declared.placements.Content.{Content}
-use Rattle.babel_packet.specs.declared.placements.Content.TheVariants as contents
-use Rattle.babel_packet.specs.declared.placements.Reason.TheVariants as reasons
+use Rattle.babel_message.specs.Layout as layout
+use Rattle.babel_message.specs.declared.placements.Content.{Content}
+use Rattle.babel_message.specs.declared.placements.Content.TheVariants as contents
+use Rattle.babel_message.specs.declared.placements.Reason.TheVariants as reasons
 use Rattle.babel_packet.specs.Numbers.{octet}
 use Rattle.babel_packet.specs.Addresses.{ipv4_at, ipv6_at, link_local_at}
 use Rattle.babel_packet.specs.Contents.{ignored}

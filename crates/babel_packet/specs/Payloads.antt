@@ -6,9 +6,9 @@ use Rattle.babel_value.specs.declared.addresses.Addr.TheVariants.{V4, V6}
 use Rattle.babel_value.specs.Metrics.{infinity}
 use Rattle.babel_value.specs.Prefixes.{PrefixValue}
 use Rattle.babel_tlv.specs.Layout.{octet_bound}
-use Rattle.babel_packet.specs.Layout as layout
-use Rattle.babel_packet.specs.declared.messages.Message.{Message}
-use Rattle.babel_packet.specs.declared.messages.Message.TheVariants as messages
+use Rattle.babel_message.specs.Layout as layout
+use Rattle.babel_message.specs.declared.messages.Message.{Message}
+use Rattle.babel_message.specs.declared.messages.Message.TheVariants as messages
 use Rattle.babel_packet.specs.Addresses.{link_local_prefix}
 use Rattle.babel_packet.specs.Prefixes.{octets_of}
 

@@ -7,12 +7,12 @@ use Rattle.babel_value.specs.Metrics.{infinity}
 use Rattle.babel_value.specs.RouterIds.{is_reserved, router_id_of}
 use Rattle.babel_tlv.specs.Place.{Place}
 use Rattle.babel_tlv.specs.Split.{places_of, fault_of}
-use Rattle.babel_packet.specs.Layout as layout
+use Rattle.babel_message.specs.Layout as layout
 use Rattle.babel_packet.specs.declared.parser_state.ParserState.{ParserState}
-use Rattle.babel_packet.specs.declared.placements.Content.{Content}
-use Rattle.babel_packet.specs.declared.placements.Content.TheVariants as contents
-use Rattle.babel_packet.specs.declared.placements.Reason.{Reason}
-use Rattle.babel_packet.specs.declared.placements.Reason.TheVariants as reasons
+use Rattle.babel_message.specs.declared.placements.Content.{Content}
+use Rattle.babel_message.specs.declared.placements.Content.TheVariants as contents
+use Rattle.babel_message.specs.declared.placements.Reason.{Reason}
+use Rattle.babel_message.specs.declared.placements.Reason.TheVariants as reasons
 use Rattle.babel_packet.specs.Numbers.{octet, word}
 use Rattle.babel_packet.specs.Prefixes.{bits_of, octets_of}
 use Rattle.babel_packet.specs.Updates.{update_router}

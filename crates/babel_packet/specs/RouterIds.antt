@@ -1,9 +1,9 @@
 -- Router-Id (RFC 8966, section 4.6.7).
 use Rattle.std.specs.Prelude.{ℕ, List, Option, Some, None, ◌&&◌, length, drop, slice_range, nat_le, nat_lt, nat_eq, if◌then◌else◌}
-use Rattle.babel_packet.specs.Layout as layout
-use Rattle.babel_packet.specs.declared.placements.Content.{Content}
-use Rattle.babel_packet.specs.declared.placements.Content.TheVariants as contents
-use Rattle.babel_packet.specs.declared.placements.Reason.TheVariants.{Unreadable}
+use Rattle.babel_message.specs.Layout as layout
+use Rattle.babel_message.specs.declared.placements.Content.{Content}
+use Rattle.babel_message.specs.declared.placements.Content.TheVariants as contents
+use Rattle.babel_message.specs.declared.placements.Reason.TheVariants.{Unreadable}
 use Rattle.babel_packet.specs.Contents.{ignored}
 use Rattle.babel_packet.specs.Tails.{after_tail}
 

@@ -2,8 +2,8 @@
 use Rattle.std.specs.Prelude.{ℕ, ◌+◌, List, [], ◌∷◌}
 use Rattle.std.specs.Option.{option_or}
 use Rattle.babel_tlv.specs.Place.{Place}
-use Rattle.babel_packet.specs.Layout as layout
-use Rattle.babel_packet.specs.declared.placements.Placed.{Placed}
+use Rattle.babel_message.specs.Layout as layout
+use Rattle.babel_message.specs.declared.placements.Placed.{Placed}
 use Rattle.babel_packet.specs.NextHops.{named_hop4, named_hop6}
 use Rattle.babel_packet.specs.declared.parser_state.ParserState.{ParserState}
 use Rattle.babel_packet.specs.LookBack.{default_after, router_after}

@@ -2,10 +2,10 @@
 use Rattle.std.specs.Prelude.{ℕ, List, [], ◌∷◌, Option, Some, None, nat_le, if◌then◌else◌}
 use Rattle.babel_tlv.specs.Place.{Place}
 use Rattle.babel_tlv.specs.Split.{places_of, fault_of}
-use Rattle.babel_packet.specs.Layout as layout
-use Rattle.babel_packet.specs.declared.placements.Content.{Content}
-use Rattle.babel_packet.specs.declared.placements.Reason.{Reason}
-use Rattle.babel_packet.specs.declared.placements.Reason.TheVariants as reasons
+use Rattle.babel_message.specs.Layout as layout
+use Rattle.babel_message.specs.declared.placements.Content.{Content}
+use Rattle.babel_message.specs.declared.placements.Reason.{Reason}
+use Rattle.babel_message.specs.declared.placements.Reason.TheVariants as reasons
 use Rattle.babel_packet.specs.Contents.{unless}
 
 -- The first sub-TLV of a type that must be understood. None of these types is known here.

@@ -1,6 +1,6 @@
 -- The prefix of an Update (RFC 8966, section 4.6.9).
 use Rattle.std.specs.Prelude.{ℕ, ◌-◌, List, Bool, Option, Some, option_map, replicate, nat_eq, if◌then◌else◌}
-use Rattle.babel_packet.specs.Layout as layout
+use Rattle.babel_message.specs.Layout as layout
 use Rattle.babel_packet.specs.Numbers.{octet}
 use Rattle.babel_packet.specs.Prefixes.{octets_of, prefix_octets, is_whole}
 

@@ -6,10 +6,10 @@ use Rattle.babel_value.specs.declared.addresses.Addr.TheVariants.{V4, V6}
 use Rattle.babel_value.specs.Metrics.{infinity}
 use Rattle.babel_value.specs.Prefixes.{PrefixValue}
 use Rattle.babel_value.specs.RouterIds.{router_id_of}
-use Rattle.babel_packet.specs.Layout as layout
-use Rattle.babel_packet.specs.declared.placements.Content.{Content}
-use Rattle.babel_packet.specs.declared.placements.Reason.TheVariants as reasons
-use Rattle.babel_packet.specs.declared.messages.Message.TheVariants as messages
+use Rattle.babel_message.specs.Layout as layout
+use Rattle.babel_message.specs.declared.placements.Content.{Content}
+use Rattle.babel_message.specs.declared.placements.Reason.TheVariants as reasons
+use Rattle.babel_message.specs.declared.messages.Message.TheVariants as messages
 use Rattle.babel_packet.specs.Numbers.{octet, word}
 use Rattle.babel_packet.specs.Contents.{means, ignored}
 use Rattle.babel_packet.specs.Tails.{after_tail}

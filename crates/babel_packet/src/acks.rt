@@ -4,11 +4,11 @@ ghost use Rattle.std.specs.Prelude.{◌≡◌, ◌<◌, vec_len, vec_capacity};
 ghost use Rattle.babel_packet.specs.Contents.{put};
 ghost use Rattle.babel_packet.specs.Acks.{ack_request, ack};
 
-use crate::layout::{ack as ack_fields, ack_request as request_fields};
 use crate::numbers::word;
 use crate::placements::{push_ignored, push_message};
 use crate::tails::tail_reason;
-use crate::{Message, Placed, Reason};
+use babel_message::layout::{ack as ack_fields, ack_request as request_fields};
+use babel_message::{Message, Placed, Reason};
 
 #[inline]
 #[tactic(auto, unfolding(crate::specs::Acks::ack_request))]

@@ -1,10 +1,10 @@
 //! Addresses by their encoding (RFC 8966, section 4.1.4).
 
 ghost use Rattle.std.specs.Prelude.{◌≡◌, ◌≤◌, ◌+◌, length};
-ghost use Rattle.babel_packet.specs.Layout as layout;
+ghost use Rattle.babel_message.specs.Layout as layout;
 ghost use Rattle.babel_packet.specs.Addresses as addresses;
 
-use crate::layout::addresses::{IPV4_LEN, IPV6_LEN, LINK_LOCAL_LEN};
+use babel_message::layout::addresses::{IPV4_LEN, IPV6_LEN, LINK_LOCAL_LEN};
 
 /// The IPv4 address at this offset.
 #[inline]

@@ -3,7 +3,7 @@
 ghost use Rattle.std.specs.Prelude.{◌≡◌, ◌≤◌, ℕ, List, [], ◌∷◌, ◌++◌, None, true, length};
 ghost use Rattle.babel_value.specs.declared.addresses.Addr.{Addr};
 ghost use Rattle.babel_tlv.specs.Split.{fault_of};
-ghost use Rattle.babel_packet.specs.declared.messages.Message.{Message};
+ghost use Rattle.babel_message.specs.declared.messages.Message.{Message};
 ghost use Rattle.babel_packet.specs.declared.parser_state.ParserState.{ParserState};
 ghost use Rattle.babel_packet.specs.Encodable.{is_encodable, IsMessage};
 ghost use Rattle.babel_packet.specs.BodyMeanings.{BodyMeans, state_after};

@@ -7,7 +7,7 @@
 
 ghost use Rattle.std.specs.Prelude.{◌≡◌, ◌<◌, ◌+◌, ◌^◌, length, IfOk, IfErr, MatchOption, vec_len, vec_capacity};
 ghost use Rattle.babel_tlv.specs.Split.{places_of, fault_of};
-ghost use Rattle.babel_packet.specs.Layout.{datagram_header_len};
+ghost use Rattle.babel_message.specs.Layout.{datagram_header_len};
 ghost use Rattle.babel_packet.specs.Contents.{put};
 ghost use Rattle.babel_packet.specs.Meaning.{meaning, content, body_of, body_meaning, Refuses, header_refusal};
 ghost use Rattle.babel_packet.specs.Running.{after};
@@ -15,11 +15,6 @@ ghost use Rattle.babel_packet.specs.Running.{after};
 use crate::acks::{read_ack, read_ack_request};
 use crate::hellos::read_hello;
 use crate::ihus::read_ihu;
-use crate::layout::header;
-use crate::layout::kinds::{
-    ACK, ACK_REQUEST, HELLO, IHU, NEXT_HOP, PAD_N, PAD1, ROUTE_REQUEST, ROUTER_ID, SEQNO_REQUEST,
-    UPDATE,
-};
 use crate::next_hops::read_next_hop;
 use crate::numbers::word;
 use crate::parser_state::ParserState;
@@ -27,8 +22,12 @@ use crate::placements::push_ignored;
 use crate::requests::{read_route_request, read_seqno_request};
 use crate::router_ids::read_router_id;
 use crate::updates::read_update;
-use crate::{Placed, Reason, Refusal};
-use babel_tlv::{Tlv, split, walk};
+use babel_message::layout::header;
+use babel_message::layout::kinds::{
+    ACK, ACK_REQUEST, HELLO, IHU, NEXT_HOP, PAD_N, ROUTE_REQUEST, ROUTER_ID, SEQNO_REQUEST, UPDATE,
+};
+use babel_message::{Placed, Reason, Refusal};
+use babel_tlv::{PAD1, Tlv, split, walk};
 use babel_value::Addr;
 use std::alloc::Global;
 

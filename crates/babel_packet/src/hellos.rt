@@ -4,11 +4,11 @@ ghost use Rattle.std.specs.Prelude.{◌≡◌, ◌<◌, vec_len, vec_capacity};
 ghost use Rattle.babel_packet.specs.Contents.{put};
 ghost use Rattle.babel_packet.specs.Hellos.{hello};
 
-use crate::layout::hello as fields;
 use crate::numbers::{has_flag, word};
 use crate::placements::{push_ignored, push_message};
 use crate::tails::tail_reason;
-use crate::{Message, Placed, Reason};
+use babel_message::layout::hello as fields;
+use babel_message::{Message, Placed, Reason};
 use babel_value::Seqno;
 
 #[inline]

@@ -1,20 +1,20 @@
 //! I Heard You (RFC 8966, section 4.6.6).
 
 ghost use Rattle.std.specs.Prelude.{◌≡◌, ◌<◌, ◌≤◌, length, vec_len, vec_capacity};
-ghost use Rattle.babel_packet.specs.Layout.{ihu_len};
+ghost use Rattle.babel_message.specs.Layout.{ihu_len};
 ghost use Rattle.babel_packet.specs.Contents.{put};
 ghost use Rattle.babel_packet.specs.Tails.{after_tail};
 ghost use Rattle.babel_packet.specs.Ihus.{ihu, ihu_to};
 
 use crate::addresses::{ipv4_at, ipv6_at, link_local_at};
-use crate::layout::addresses::{
-    AE_IPV4, AE_IPV6, AE_LINK_LOCAL, AE_WILDCARD, IPV4_LEN, IPV6_LEN, LINK_LOCAL_LEN,
-};
-use crate::layout::ihu as fields;
 use crate::numbers::word;
 use crate::placements::{push_ignored, push_message};
 use crate::tails::tail_reason;
-use crate::{Message, Placed, Reason};
+use babel_message::layout::addresses::{
+    AE_IPV4, AE_IPV6, AE_LINK_LOCAL, AE_WILDCARD, IPV4_LEN, IPV6_LEN, LINK_LOCAL_LEN,
+};
+use babel_message::layout::ihu as fields;
+use babel_message::{Message, Placed, Reason};
 use babel_value::{Addr, Metric};
 
 #[inline]

@@ -1,22 +1,22 @@
 //! Next Hop (RFC 8966, section 4.6.8).
 
 ghost use Rattle.std.specs.Prelude.{◌≡◌, ◌<◌, vec_len, vec_capacity};
-ghost use Rattle.babel_packet.specs.declared.placements.Content.TheVariants.{State};
-ghost use Rattle.babel_packet.specs.Layout as layout;
+ghost use Rattle.babel_message.specs.declared.placements.Content.TheVariants.{State};
+ghost use Rattle.babel_message.specs.Layout as layout;
 ghost use Rattle.babel_packet.specs.Contents.{put};
 ghost use Rattle.babel_packet.specs.Tails.{after_tail};
 ghost use Rattle.babel_packet.specs.NextHops.{next_hop};
 ghost use Rattle.babel_packet.specs.Running.{after};
 
 use crate::addresses::{ipv4_at, ipv6_at, link_local_at};
-use crate::layout::addresses::{
-    AE_IPV4, AE_IPV6, AE_LINK_LOCAL, IPV4_LEN, IPV6_LEN, LINK_LOCAL_LEN,
-};
-use crate::layout::next_hop as fields;
 use crate::parser_state::ParserState;
 use crate::placements::{push_ignored, push_state};
 use crate::tails::tail_reason;
-use crate::{Placed, Reason};
+use babel_message::layout::addresses::{
+    AE_IPV4, AE_IPV6, AE_LINK_LOCAL, IPV4_LEN, IPV6_LEN, LINK_LOCAL_LEN,
+};
+use babel_message::layout::next_hop as fields;
+use babel_message::{Placed, Reason};
 
 #[inline]
 #[tactic(auto, unfolding(crate::specs::NextHops::next_hop, crate::specs::NextHops::next_hop_of, crate::specs::RouterIds::named_router, crate::specs::NextHops::named_hop4, crate::specs::NextHops::named_hop6, crate::specs::LookBack::update_address))]

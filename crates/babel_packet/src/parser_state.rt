@@ -1,6 +1,6 @@
 //! The parser state, kept while a datagram is read (RFC 8966, section 4.5).
 
-use crate::layout::addresses::{IPV4_LEN, IPV6_LEN, ROUTER_ID_LEN};
+use babel_message::layout::addresses::{IPV4_LEN, IPV6_LEN, ROUTER_ID_LEN};
 use babel_value::Addr;
 
 /// What earlier TLVs of a datagram set for later ones (RFC 8966, section 4.5).

@@ -3,7 +3,7 @@
 ghost use Rattle.std.specs.Prelude.{◌≡◌, ◌≤◌, ◌<◌, ◌+◌, ◌-◌, ◌*◌, ◌/◌, ◌%◌, ◌^◌, ℕ, length, map, slice_index, IsTrue};
 ghost use Rattle.std.specs.List.{range_with_len};
 ghost use Rattle.babel_value.specs.Prefixes.{cleared};
-ghost use Rattle.babel_packet.specs.Layout as layout;
+ghost use Rattle.babel_message.specs.Layout as layout;
 ghost use Rattle.babel_packet.specs.Prefixes as prefixes;
 ghost use Rattle.babel_packet.specs.Prefixes.{octets_of, bits_of, prefix_octet};
 

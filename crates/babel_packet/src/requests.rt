@@ -3,21 +3,23 @@
 ghost use Rattle.std.specs.Prelude.{◌≡◌, ◌≤◌, ◌<◌, ◌+◌, ◌*◌, length, vec_len, vec_capacity};
 ghost use Rattle.babel_value.specs.declared.addresses.Addr.TheVariants.{V4, V6};
 ghost use Rattle.babel_packet.specs.Numbers.{octet};
-ghost use Rattle.babel_packet.specs.Layout as layout;
+ghost use Rattle.babel_message.specs.Layout as layout;
 ghost use Rattle.babel_packet.specs.Contents.{put, means, ignored};
 ghost use Rattle.babel_packet.specs.Tails.{after_tail};
-ghost use Rattle.babel_packet.specs.declared.messages.Message.TheVariants as messages;
-ghost use Rattle.babel_packet.specs.declared.placements.Reason.TheVariants.{Wildcard};
+ghost use Rattle.babel_message.specs.declared.messages.Message.TheVariants as messages;
+ghost use Rattle.babel_message.specs.declared.placements.Reason.TheVariants.{Wildcard};
 ghost use Rattle.babel_packet.specs.Prefixes.{bits_of, octets_of as octets_taken};
 ghost use Rattle.babel_packet.specs.Requests.{asked, route_request, seqno_request, seqno_request_for};
 
-use crate::layout::addresses::{AE_IPV4, AE_IPV6, AE_WILDCARD, IPV4_LEN, IPV6_LEN, ROUTER_ID_LEN};
-use crate::layout::{route_request as route_fields, seqno_request as seqno_fields};
 use crate::numbers::word;
 use crate::placements::{push_ignored, push_message};
 use crate::prefixes::{is_whole, octets_of, prefix_octets};
 use crate::tails::tail_reason;
-use crate::{Message, Placed, Reason};
+use babel_message::layout::addresses::{
+    AE_IPV4, AE_IPV6, AE_WILDCARD, IPV4_LEN, IPV6_LEN, ROUTER_ID_LEN,
+};
+use babel_message::layout::{route_request as route_fields, seqno_request as seqno_fields};
+use babel_message::{Message, Placed, Reason};
 use babel_value::{Addr, Prefix, RouterId, Seqno};
 
 #[inline]

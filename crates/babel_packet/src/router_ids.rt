@@ -1,17 +1,17 @@
 //! Router-Id (RFC 8966, section 4.6.7).
 
 ghost use Rattle.std.specs.Prelude.{◌≡◌, ◌<◌, vec_len, vec_capacity};
-ghost use Rattle.babel_packet.specs.Layout as layout;
+ghost use Rattle.babel_message.specs.Layout as layout;
 ghost use Rattle.babel_packet.specs.Contents.{put};
 ghost use Rattle.babel_packet.specs.RouterIds.{router_id};
 ghost use Rattle.babel_packet.specs.Running.{after};
 
-use crate::layout::addresses::ROUTER_ID_LEN;
-use crate::layout::router_id as fields;
 use crate::parser_state::ParserState;
 use crate::placements::{push_ignored, push_state};
 use crate::tails::tail_reason;
-use crate::{Placed, Reason};
+use babel_message::layout::addresses::ROUTER_ID_LEN;
+use babel_message::layout::router_id as fields;
+use babel_message::{Placed, Reason};
 
 #[inline]
 #[tactic(auto, unfolding(crate::specs::RouterIds::router_id, crate::specs::RouterIds::named_router, crate::specs::NextHops::named_hop4, crate::specs::NextHops::named_hop6, crate::specs::LookBack::update_address))]

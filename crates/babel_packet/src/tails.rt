@@ -3,8 +3,8 @@
 ghost use Rattle.std.specs.Prelude.{◌≡◌};
 ghost use Rattle.babel_packet.specs.Tails as tails;
 
-use crate::Reason;
-use crate::layout::kinds::MANDATORY;
+use babel_message::Reason;
+use babel_message::layout::kinds::MANDATORY;
 use babel_tlv::split;
 
 /// Why a TLV with these octets after its fields is ignored, if it is.

@@ -2,7 +2,7 @@
 
 ghost use Rattle.std.specs.Prelude.{◌≡◌, ◌≤◌, ◌<◌, ◌+◌, ◌*◌, length, drop, option_map, IsTrue, IfSome, vec_len, vec_capacity};
 ghost use Rattle.babel_value.specs.Prefixes.{cleared};
-ghost use Rattle.babel_packet.specs.Layout as layout;
+ghost use Rattle.babel_message.specs.Layout as layout;
 ghost use Rattle.babel_packet.specs.Numbers.{octet};
 ghost use Rattle.babel_packet.specs.Contents.{put};
 ghost use Rattle.babel_packet.specs.Tails.{after_tail};
@@ -12,14 +12,16 @@ ghost use Rattle.babel_packet.specs.LookBack.{flagged as flagged_address, router
 ghost use Rattle.babel_packet.specs.Updates.{update, update4, update6, update_of, wildcard};
 ghost use Rattle.babel_packet.specs.Running.{after};
 
-use crate::layout::addresses::{AE_IPV4, AE_IPV6, AE_WILDCARD, IPV4_LEN, IPV6_LEN, ROUTER_ID_LEN};
-use crate::layout::update as wire;
 use crate::numbers::{has_flag, word};
 use crate::parser_state::ParserState;
 use crate::placements::{push_ignored, push_message};
 use crate::prefixes::{is_whole, octets_of, prefix_octets};
 use crate::tails::tail_reason;
-use crate::{Message, Placed, Reason};
+use babel_message::layout::addresses::{
+    AE_IPV4, AE_IPV6, AE_WILDCARD, IPV4_LEN, IPV6_LEN, ROUTER_ID_LEN,
+};
+use babel_message::layout::update as wire;
+use babel_message::{Message, Placed, Reason};
 use babel_value::{Addr, Metric, Prefix, RouterId, Seqno};
 
 #[inline]

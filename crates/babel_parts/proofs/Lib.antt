@@ -3,9 +3,8 @@ pub mod Walking
 pub mod Gathering
 pub mod Reaching
 pub mod ShortHellos
-pub mod TickLists
+pub mod Firing
 pub mod FirstStates
 pub mod RequestDues
 pub mod Removing
-pub mod Restoring
 pub mod Staleness

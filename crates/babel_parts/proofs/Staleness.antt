@@ -14,12 +14,13 @@ use Rattle.babel_value.proofs.OrderLaws.{prefix_total, prefix_exact}
 use Rattle.babel_table.specs.Entries.{without}
 use Rattle.babel_table.specs.Firsts.{first_of}
 use Rattle.babel_table.proofs.LookupLemmas.{equal, eq_turned, find_with_value}
-use Rattle.babel_route.specs.declared.routes.entries.Selection.{Selection}
+use Rattle.babel_choice.specs.declared.entries.Selection.{Selection}
 use Rattle.babel_route.specs.Currency.{is_same_selection, is_current}
-use Rattle.babel_route.specs.PrefixWalks.{others_of, without_prefix}
+use Rattle.babel_choice.specs.Choices.{others_of, Selections, is_of, routes_of, is_candidate, preference, peer_before, selection_of, choice}
+use Rattle.babel_route.specs.PrefixWalks.{without_prefix}
 use Rattle.babel_route.specs.RouteLaws.{is_among}
-use Rattle.babel_route.specs.Routes.{RouteEntries}
-use Rattle.babel_route.specs.Selections.{RoutesValue, Selections, is_of, routes_of, prefixes_of, selection_at, is_candidate, preference, peer_before, selection_of, choice}
+use Rattle.babel_choice.specs.Routes.{RouteEntries}
+use Rattle.babel_route.specs.Selections.{RoutesValue, prefixes_of, selection_at}
 use Rattle.babel_sources.specs.Sources.{Sources}
 use Rattle.babel_state.specs.Sameness.{has_prefix}
 use Rattle.babel_state.specs.State.{PrefixSet, prefixes_in}

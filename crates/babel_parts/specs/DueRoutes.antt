@@ -2,7 +2,7 @@
 use Rattle.std.specs.Prelude.{ℕ, List, map, nat_le}
 use Rattle.std.specs.List.{filter}
 use Rattle.babel_value.specs.Prefixes.{PrefixValue}
-use Rattle.babel_route.specs.Routes.{RouteEntries}
+use Rattle.babel_choice.specs.Routes.{RouteEntries}
 
 -- The prefixes that have a route which is due.
 abbrev pub prefixes_due : ℕ → RouteEntries → List PrefixValue

@@ -3,7 +3,7 @@ use Rattle.std.specs.Prelude.{◌≡◌, false, List, map}
 use Rattle.std.specs.List.{filter}
 use Rattle.babel_value.specs.declared.keys.Peer.{Peer}
 use Rattle.babel_value.specs.Prefixes.{PrefixValue}
-use Rattle.babel_route.specs.Routes.{RouteEntries, is_from}
+use Rattle.babel_choice.specs.Routes.{RouteEntries, is_from}
 use Rattle.babel_state.specs.Sameness.{has_prefix}
 use Rattle.babel_state.specs.State.{State}
 use Rattle.babel_state.specs.CurrentSelections.{IsCurrentAt}

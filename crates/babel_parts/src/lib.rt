@@ -1,22 +1,16 @@
-//! The parts of a speaker of the Babel routing protocol (RFC 8966): its tables, its pending items, and the
-//! functions that need some of them but not the whole state. The state itself is that of `babel_core`.
+//! The parts of a speaker of the Babel routing protocol (RFC 8966): its tables and its pending items. The functions
+//! that need several parts are those of `babel_steps`, and the whole state is that of `babel_core`.
 #![tactic(auto)]
 
 mod announced;
 mod interfaces;
-pub mod laws;
 mod link_costs;
 pub mod making;
-pub mod outgoing;
 mod pending_items;
 mod prefixes;
-pub mod queueing;
 mod reachable;
 mod requests;
-pub mod reselection;
-pub mod restarts;
 mod scratch;
-pub mod seqno_requests;
 pub mod sources;
 pub mod ticks;
 

@@ -4,8 +4,8 @@ ghost use Rattle.std.specs.Prelude.{◌≡◌};
 ghost use Rattle.babel_parts.specs.Costs.{link_cost};
 
 use crate::Interfaces;
+use babel_choice::Costs;
 use babel_link::Neighbours;
-use babel_route::Costs;
 use babel_value::{Metric, Peer};
 
 /// The cost of the link to each neighbour, computed from the interface table and the neighbour table

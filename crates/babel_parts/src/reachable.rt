@@ -36,7 +36,7 @@ impl<'a> Model for Reachable<'a> {
 
 impl<'a> Reachable<'a> {
     /// The walk from the first prefix on.
-    pub(crate) fn new(announced: &'a Announced, routes: &'a Routes) -> Reachable<'a>
+    pub fn new(announced: &'a Announced, routes: &'a Routes) -> Reachable<'a>
         ensures { result ≡ reachable_of announced.now routes.now.selections }
     {
         // Both tables are in order.

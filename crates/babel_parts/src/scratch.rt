@@ -5,7 +5,7 @@ ghost use Rattle.std.specs.FinMap.{put, is_sorted};
 ghost use Rattle.babel_value.specs.Orders.{prefix_cmp};
 ghost use Rattle.babel_value.specs.Prefixes.{PrefixValue};
 ghost use Rattle.babel_route.specs.Rooms.{most_listed_prefixes};
-ghost use Rattle.babel_route.specs.Routes.{is_from};
+ghost use Rattle.babel_choice.specs.Routes.{is_from};
 ghost use Rattle.babel_state.specs.Sameness.{has_prefix};
 ghost use Rattle.babel_state.specs.State.{gathered, prefixes_in};
 ghost use Rattle.babel_parts.specs.DueRoutes.{prefixes_due};
@@ -13,7 +13,8 @@ ghost use Rattle.babel_parts.specs.LinkChanges.{prefixes_from};
 ghost use Rattle.babel_parts.specs.StalePrefixes.{is_stale};
 
 use crate::{Announced, Prefixes};
-use babel_route::{Costs, Cursor, PREFIX_PLACES, RouteKey, Routes};
+use babel_choice::{Costs, Cursor, RouteKey};
+use babel_route::{PREFIX_PLACES, Routes};
 use babel_sources::Sources;
 use babel_table::{SortedTable, Table};
 use babel_value::{Memory, Peer, Prefix};
@@ -209,7 +210,7 @@ impl Scratch {
     }
 
     /// Makes the set that of the prefixes that have a route which is due.
-    pub fn gather_due(&mut self, routes: &Routes, now: u64)
+    pub fn gather_expiring(&mut self, routes: &Routes, now: u64)
         ensures { self.new ≡ gathered (prefixes_due now routes.now.entries) [] }
     {
         let _routes = routes.len();

@@ -4,12 +4,12 @@ use Rattle.std.proofs.lemmas.List.Sums.{sum_by-cons}
 use Rattle.babel_value.specs.declared.addresses.Addr.{Addr}
 use Rattle.babel_tlv.specs.Place.{Place}
 use Rattle.babel_tlv.specs.Split.{places_of, fault_of}
-use Rattle.babel_packet.specs.Layout as layout
-use Rattle.babel_packet.specs.declared.messages.Message.{Message}
-use Rattle.babel_packet.specs.declared.placements.Content.{Content}
-use Rattle.babel_packet.specs.declared.placements.Content.TheVariants as contents
-use Rattle.babel_packet.specs.declared.placements.Placed.{Placed}
-use Rattle.babel_packet.specs.declared.errors.Refusal.{Refusal}
+use Rattle.babel_message.specs.Layout as layout
+use Rattle.babel_message.specs.declared.messages.Message.{Message}
+use Rattle.babel_message.specs.declared.placements.Content.{Content}
+use Rattle.babel_message.specs.declared.placements.Content.TheVariants as contents
+use Rattle.babel_message.specs.declared.placements.Placed.{Placed}
+use Rattle.babel_message.specs.declared.errors.Refusal.{Refusal}
 use Rattle.babel_packet.specs.LookBack.{before}
 use Rattle.babel_packet.specs.BodyMeanings.{Means, are_heeded, is_heeded}
 use Rattle.babel_packet.specs.Meaning.{content, placed_from, messages_of, content_messages, meaning, header_refusal, body_of, body_meaning, unless_refused}

@@ -4,7 +4,7 @@ use Rattle.std.proofs.Math.ListN.{drop_of_length-le}
 use Rattle.std.proofs.lemmas.List.{length-map}
 use Rattle.std.proofs.lemmas.List.Sums.{length-filter, count_by-le-length}
 use Rattle.babel_value.specs.Prefixes.{PrefixValue}
-use Rattle.babel_route.specs.Selections.{is_of, routes_of}
+use Rattle.babel_choice.specs.Choices.{is_of, routes_of}
 use Rattle.babel_state.specs.Calls.{reported_entry, reported_entries}
 use Rattle.babel_state.specs.State.{State}
 use Rattle.babel_replay.specs.Routes.{route_line}

@@ -1,7 +1,7 @@
 -- Loops over two slices.
 use Rattle.std.proofs.Common.{◌≡◌, ◌⊎◌, inl, inr, ℕ, List, [], ◌∷◌, Option, None, Some, refl, zip, flat_map, ap, ◌∙◌}
 use Rattle.std.specs.Io.KnownBytes.{Appends}
-use Rattle.babel_packet.specs.declared.placements.Placed.{Placed}
+use Rattle.babel_message.specs.declared.placements.Placed.{Placed}
 use Rattle.babel_state.specs.declared.notes.Note.{Note}
 use Rattle.babel_replay.specs.Report.{note_line}
 use Rattle.babel_replay.proofs.Writing.{IsWritten, more, ended}

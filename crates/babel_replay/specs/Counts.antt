@@ -2,8 +2,8 @@
 use Rattle.std.specs.Prelude.{◌≡◌, ℕ, Bool, ◌||◌, not, List, count_by, length, nat_eq}
 use Rattle.babel_value.specs.declared.addresses.Addr.{Addr}
 use Rattle.babel_tlv.specs.Place.{Place}
-use Rattle.babel_packet.specs.Layout as layout
-use Rattle.babel_packet.specs.declared.messages.Message.{Message}
+use Rattle.babel_message.specs.Layout as layout
+use Rattle.babel_message.specs.declared.messages.Message.{Message}
 use Rattle.babel_packet.specs.BodyMeanings.{Means}
 
 -- Router-Id and Next Hop are no messages.

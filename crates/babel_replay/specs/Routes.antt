@@ -5,7 +5,7 @@ use Rattle.babel_value.specs.declared.distances.Distance.{Distance}
 use Rattle.babel_value.specs.declared.keys.Peer.{Peer}
 use Rattle.babel_value.specs.Metrics.{infinity, metric_sum}
 use Rattle.babel_value.specs.Prefixes.{PrefixValue}
-use Rattle.babel_route.specs.declared.routes.entries.Entry.{Entry}
+use Rattle.babel_choice.specs.declared.entries.Entry.{Entry}
 use Rattle.babel_sources.specs.Distances.{improves_on}
 use Rattle.babel_state.specs.Calls.{selected_route, reported_entries}
 use Rattle.babel_state.specs.Sameness.{is_same_peer}

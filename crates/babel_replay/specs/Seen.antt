@@ -3,10 +3,10 @@ use Rattle.std.specs.Prelude.{◌≡◌, ℕ, Bool, true, false, ◌&&◌, List,
 use Rattle.std.specs.Cmp.Lexicographic.{pointwise}
 use Rattle.std.specs.Option.{option_map, option_map_or}
 use Rattle.babel_value.specs.Prefixes.{PrefixValue}
-use Rattle.babel_packet.specs.declared.messages.Message.TheVariants as messages
-use Rattle.babel_packet.specs.declared.placements.Content.{Content}
-use Rattle.babel_packet.specs.declared.placements.Content.TheVariants as contents
-use Rattle.babel_packet.specs.declared.placements.Placed.{Placed}
+use Rattle.babel_message.specs.declared.messages.Message.TheVariants as messages
+use Rattle.babel_message.specs.declared.placements.Content.{Content}
+use Rattle.babel_message.specs.declared.placements.Content.TheVariants as contents
+use Rattle.babel_message.specs.declared.placements.Placed.{Placed}
 use Rattle.babel_state.specs.declared.notes.Note.{Note}
 use Rattle.babel_state.specs.declared.notes.Verdict.{Verdict}
 use Rattle.babel_state.specs.declared.notes.Verdict.TheVariants as verdicts

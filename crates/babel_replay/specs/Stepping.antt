@@ -1,7 +1,7 @@
 -- The speaker's step for a line of a log (profile).
 use Rattle.std.specs.Prelude.{◌≡◌, ◌≢◌, ℕ, Bool, true, false, List, Some, IsNone, nat_lt}
 use Rattle.babel_value.specs.declared.addresses.Addr.{Addr}
-use Rattle.babel_packet.specs.declared.errors.Refusal.TheVariants as packets
+use Rattle.babel_message.specs.declared.errors.Refusal.TheVariants as packets
 use Rattle.babel_packet.specs.Meaning.{meaning}
 use Rattle.babel_state.specs.declared.errors.RecvFault.TheVariants as refusals
 use Rattle.babel_state.specs.declared.errors.SetCostFault.TheVariants as costs

@@ -5,8 +5,8 @@ ghost use Rattle.babel_packet.specs.Meaning.{header_refusal, body_of};
 ghost use Rattle.babel_tlv.specs.Split.{places_of};
 ghost use Rattle.babel_replay.specs.Counts.{CountsMessages, messages_among};
 
+use babel_message::{HEADER_LEN, NEXT_HOP, ROUTER_ID};
 use babel_packet::laws::reasons_are_the_first_that_apply;
-use babel_packet::{HEADER_LEN, NEXT_HOP, ROUTER_ID};
 use babel_tlv::walk;
 
 /// Where the length of the body is in a datagram.

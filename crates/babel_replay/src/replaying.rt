@@ -24,7 +24,8 @@ use arrayvec::ArrayVec;
 use babel_lines::{
     Choice, push_tlv, set_cost_refused, set_moment, set_out, set_refused, set_select, table_line,
 };
-use babel_packet::{Placed, Refusal, decode};
+use babel_message::{Placed, Refusal};
+use babel_packet::decode;
 use babel_speaker::Speaker;
 use babel_speaker::laws::datagrams_take_items;
 use babel_state::{Config, ConfigFault, Note};

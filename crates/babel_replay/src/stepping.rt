@@ -10,7 +10,7 @@ ghost use Rattle.babel_replay.specs.Stepping.{Steps};
 ghost use Rattle.babel_text.specs.declared.errors.LineFault.TheVariants.{Memory};
 
 use crate::{Action, Event, LineFault};
-use babel_packet::{Placed, Refusal};
+use babel_message::{Placed, Refusal};
 use babel_speaker::Speaker;
 use babel_state::{Note, RecvFault, SetCostFault};
 use babel_value::Addr;

@@ -11,15 +11,16 @@ use Rattle.std.specs.FinMap.{is_sorted}
 use Rattle.babel_value.specs.Prefixes.{PrefixValue}
 use Rattle.babel_value.specs.Orders.{prefix_cmp}
 use Rattle.babel_value.proofs.OrderLaws.{prefix_total}
-use Rattle.babel_route.specs.declared.routes.entries.RouteKey.{RouteKey}
-use Rattle.babel_route.specs.RouteKeys.{route_cmp}
+use Rattle.babel_choice.specs.declared.entries.RouteKey.{RouteKey}
+use Rattle.babel_choice.specs.RouteKeys.{route_cmp}
 use Rattle.babel_table.specs.Firsts.{first_of, lesser_of}
-use Rattle.babel_route.specs.Selections.{is_beyond, prefix_after, Selections}
-use Rattle.babel_route.specs.Routes.{RouteEntries}
-use Rattle.babel_route.specs.PrefixBounds.{is_through, route_not_after}
+use Rattle.babel_choice.specs.PrefixBounds.{is_beyond, is_through, route_not_after}
+use Rattle.babel_choice.specs.Choices.{Selections}
+use Rattle.babel_route.specs.Selections.{prefix_after}
+use Rattle.babel_choice.specs.Routes.{RouteEntries}
 use Rattle.babel_table.specs.Places.{are_greater}
 use Rattle.babel_table.proofs.PlaceLemmas.{others_greater, head_greater, tail_greater}
-use Rattle.babel_route.proofs.RunLemmas.{drop_at, drop_past, sorted_drop}
+use Rattle.babel_choice.proofs.RunLemmas.{drop_at, drop_past, sorted_drop}
 use Rattle.babel_table.proofs.FirstLemmas.{head_is_first, first_of_row}
 
 module _ {K V : Type 0} (R : K → K → Ordering) (prefix : K → PrefixValue) (rises : (x y : K) → R x y ≡ Less → is_lt (prefix_cmp (prefix y) (prefix x)) ≡ false) (after : Option PrefixValue) where

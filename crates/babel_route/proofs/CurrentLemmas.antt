@@ -12,14 +12,15 @@ use Rattle.babel_value.specs.declared.keys.Peer.{Peer}
 use Rattle.babel_value.specs.Prefixes.{PrefixValue}
 use Rattle.babel_value.specs.Orders.{prefix_cmp, peer_cmp}
 use Rattle.babel_value.proofs.OrderLaws.{prefix_total, prefix_exact, peer_total, peer_exact}
-use Rattle.babel_route.specs.declared.routes.entries.Entry.{Entry}
-use Rattle.babel_route.specs.declared.routes.entries.Selection.{Selection}
+use Rattle.babel_choice.specs.declared.entries.Entry.{Entry}
+use Rattle.babel_choice.specs.declared.entries.Selection.{Selection}
 use Rattle.babel_sources.specs.Sources.{Sources}
-use Rattle.babel_route.specs.RouteKeys.{route_cmp, route_total}
-use Rattle.babel_route.specs.Routes.{Route, RouteEntries, key_of}
+use Rattle.babel_choice.specs.RouteKeys.{route_cmp, route_total}
+use Rattle.babel_choice.specs.Routes.{Route, RouteEntries, key_of}
 use Rattle.babel_table.specs.Firsts.{first_of, IsFirst}
 use Rattle.babel_route.specs.RouteLaws.{each_reselected, is_among}
-use Rattle.babel_route.specs.Selections.{is_of, routes_of, is_candidate, candidates, rank_cmp, rank_of, preference, selection_of, peer_before, choice, is_change, route_metric, Selections, RoutesValue, selection_at, choice_at, reselected, IsCurrent, SelectsTheFirst, prefixes_of}
+use Rattle.babel_choice.specs.Choices.{is_of, routes_of, is_candidate, candidates, rank_cmp, rank_of, preference, selection_of, peer_before, choice, is_change, route_metric, Selections}
+use Rattle.babel_route.specs.Selections.{RoutesValue, selection_at, choice_at, reselected, IsCurrent, SelectsTheFirst, prefixes_of}
 use Rattle.babel_table.proofs.PlaceLemmas.{find_hit}
 use Rattle.babel_table.proofs.FirstLemmas.{first_is_first, is_first, none_first}
 use Rattle.babel_table.specs.Entries.{with_value}

@@ -6,10 +6,10 @@ use Rattle.std.proofs.lemmas.List.Elements.{All-head, All-tail}
 use Rattle.std.proofs.lemmas.Bool.Decides.{nat_tests}
 use Rattle.babel_table.specs.Dues.{AreDueFrom}
 use Rattle.babel_table.proofs.DueLemmas.{due_earlier, due_put}
-use Rattle.babel_route.specs.declared.routes.entries.RouteKey.{RouteKey}
-use Rattle.babel_route.specs.declared.routes.entries.Entry.{Entry}
-use Rattle.babel_route.specs.RouteKeys.{route_cmp}
-use Rattle.babel_route.specs.Routes.{RouteEntries, expired}
+use Rattle.babel_choice.specs.declared.entries.RouteKey.{RouteKey}
+use Rattle.babel_choice.specs.declared.entries.Entry.{Entry}
+use Rattle.babel_choice.specs.RouteKeys.{route_cmp}
+use Rattle.babel_choice.specs.Routes.{RouteEntries, expired}
 use Rattle.babel_route.specs.RouteLaws.{are_before_deadline}
 
 pub nothing_expired : (now : ℕ) (es : RouteEntries) → are_before_deadline now es ≡ true → expired now es ≡ es

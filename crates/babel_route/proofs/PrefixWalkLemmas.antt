@@ -16,14 +16,15 @@ use Rattle.babel_table.specs.Firsts.{lesser_of}
 use Rattle.babel_table.specs.Places.{are_greater}
 use Rattle.babel_table.proofs.LookupLemmas.{equal, eq_turned}
 use Rattle.babel_table.proofs.PlaceLemmas.{less, turned, turned_back, head_greater, tail_greater, others_greater, find_gap, without_gap, greater_from}
-use Rattle.babel_route.specs.declared.routes.entries.Selection.{Selection}
-use Rattle.babel_route.specs.PrefixBounds.{is_before, route_not_after, before_falls}
+use Rattle.babel_choice.specs.declared.entries.Selection.{Selection}
+use Rattle.babel_choice.specs.PrefixBounds.{is_before, route_not_after, before_falls}
 use Rattle.babel_route.specs.PrefixWalks.{are_from}
-use Rattle.babel_route.specs.RouteKeys.{route_cmp}
+use Rattle.babel_choice.specs.RouteKeys.{route_cmp}
 use Rattle.babel_route.specs.RouteLaws.{is_among}
-use Rattle.babel_route.specs.Routes.{Route, RouteEntries}
-use Rattle.babel_route.specs.Selections.{RoutesValue, Selections, prefixes_of}
-use Rattle.babel_route.proofs.RunLemmas.{drop_at, drop_past, sorted_drop}
+use Rattle.babel_choice.specs.Routes.{Route, RouteEntries}
+use Rattle.babel_choice.specs.Choices.{Selections}
+use Rattle.babel_route.specs.Selections.{RoutesValue, prefixes_of}
+use Rattle.babel_choice.proofs.RunLemmas.{drop_at, drop_past, sorted_drop}
 
 -- ---- the selection of a prefix, from an index on where none before is of the prefix
 pub record IsPassed (p : PrefixValue) (ss : Selections) (j : ℕ) (value : Option Selection) (next : ℕ) : Type 0 where

@@ -17,13 +17,14 @@ use Rattle.babel_table.specs.Firsts.{first_from, first_of}
 use Rattle.babel_table.specs.Places.{are_greater}
 use Rattle.babel_table.proofs.LookupLemmas.{equal, eq_turned}
 use Rattle.babel_table.proofs.PlaceLemmas.{find_gap, greater_from, head_greater, tail_greater, tail_sorted, others_greater}
-use Rattle.babel_route.specs.declared.routes.entries.RouteKey.{RouteKey}
-use Rattle.babel_route.specs.declared.routes.entries.Entry.{Entry}
-use Rattle.babel_route.specs.declared.routes.entries.Selection.{Selection}
-use Rattle.babel_route.specs.RouteKeys.{route_cmp, route_total, route_exact}
-use Rattle.babel_route.specs.Routes.{Route, RouteEntries, key_of}
+use Rattle.babel_choice.specs.declared.entries.RouteKey.{RouteKey}
+use Rattle.babel_choice.specs.declared.entries.Entry.{Entry}
+use Rattle.babel_choice.specs.declared.entries.Selection.{Selection}
+use Rattle.babel_choice.specs.RouteKeys.{route_cmp, route_total, route_exact}
+use Rattle.babel_choice.specs.Routes.{Route, RouteEntries, key_of}
 use Rattle.babel_sources.specs.Sources.{Sources}
-use Rattle.babel_route.specs.Selections.{RoutesValue, is_of, routes_of, has_entry, is_candidate, preference, peer_before, selection_of, choice, selection_at, reselected, IsCurrent}
+use Rattle.babel_choice.specs.Choices.{is_of, routes_of, has_entry, is_candidate, preference, peer_before, selection_of, choice}
+use Rattle.babel_route.specs.Selections.{RoutesValue, selection_at, reselected, IsCurrent}
 use Rattle.babel_route.specs.Repeats.{is_repeated, refreshed}
 use Rattle.babel_route.proofs.CurrencyLemmas.{same_entry}
 

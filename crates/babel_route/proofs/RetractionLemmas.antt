@@ -2,7 +2,7 @@
 use Rattle.std.proofs.Common.{◌≡◌, ℕ, Bool, true, false, ◌||◌, [], ◌∷◌, if◌then◌else◌, refl, sym, ap}
 use Rattle.std.proofs.lemmas.Bool.{false≢true}
 use Rattle.babel_value.specs.declared.keys.Peer.{Peer}
-use Rattle.babel_route.specs.Routes.{RouteEntries, is_from, has_routes_from, retracted_entry, retracted_all}
+use Rattle.babel_choice.specs.Routes.{RouteEntries, is_from, has_routes_from, retracted_entry, retracted_all}
 
 pub nothing_retracted : (now : ℕ) (peer : Peer) (es : RouteEntries) → has_routes_from peer es ≡ false → retracted_all now peer es ≡ es
 nothing_retracted now peer [] none = refl

@@ -12,14 +12,15 @@ use Rattle.std.specs.FinMap.Entries.{length-put}
 use Rattle.babel_value.specs.Prefixes.{PrefixValue}
 use Rattle.babel_value.specs.Orders.{prefix_cmp}
 use Rattle.babel_value.proofs.OrderLaws.{prefix_total, prefix_exact}
-use Rattle.babel_route.specs.declared.routes.entries.RouteKey.{RouteKey}
-use Rattle.babel_route.specs.declared.routes.entries.Entry.{Entry}
-use Rattle.babel_route.specs.declared.routes.entries.Selection.{Selection}
+use Rattle.babel_choice.specs.declared.entries.RouteKey.{RouteKey}
+use Rattle.babel_choice.specs.declared.entries.Entry.{Entry}
+use Rattle.babel_choice.specs.declared.entries.Selection.{Selection}
 use Rattle.babel_table.specs.Entries.{without, with_value, revised_entries}
 use Rattle.babel_table.specs.Places.{are_greater}
-use Rattle.babel_route.specs.RouteKeys.{route_cmp, route_total}
-use Rattle.babel_route.specs.Routes.{Route, RouteEntries}
-use Rattle.babel_route.specs.Selections.{is_of, routes_of, has_entry, orphans, Selections}
+use Rattle.babel_choice.specs.RouteKeys.{route_cmp, route_total}
+use Rattle.babel_choice.specs.Routes.{Route, RouteEntries}
+use Rattle.babel_choice.specs.Choices.{has_entry, Selections}
+use Rattle.babel_route.specs.Selections.{orphans}
 use Rattle.babel_table.proofs.PlaceLemmas.{holds, others_greater, tail_sorted, head_greater, tail_greater, sorted_put}
 
 -- ---- orphans, but for prefixes that were seen
@@ -200,21 +201,6 @@ selected_within p (Some x) es old new has is room =
     subst (λ ss. length es + orphans es ss ≤ 256) (sym is) (omega (arith, orphans_select p x es old (has refl), room))
 
 -- ---- as the code counts
-pub some_route : (p : PrefixValue) (es : RouteEntries) (e : Route) (rest : RouteEntries) → routes_of p es ≡ e ∷ rest → has_entry es p ≡ true
-some_route p [] e rest is = cc
-some_route p (f ∷ es) e rest is = by (is_of p f) (some_route p es e rest) is
-  where
-    by : (b : Bool) → (routes_of p es ≡ e ∷ rest → has_entry es p ≡ true) → cond b (f ∷ routes_of p es) (routes_of p es) ≡ e ∷ rest → b || has_entry es p ≡ true
-    by true later is = refl
-    by false later is = later is
-
-pub no_route : (p : PrefixValue) (es : RouteEntries) → routes_of p es ≡ [] → has_entry es p ≡ false
-no_route p [] is = refl
-no_route p (f ∷ es) is = by (is_of p f) (no_route p es) is
-  where
-    by : (b : Bool) → (routes_of p es ≡ [] → has_entry es p ≡ false) → cond b (f ∷ routes_of p es) (routes_of p es) ≡ [] → b || has_entry es p ≡ false
-    by true later is = cc
-    by false later is = later is
 
 pub orphans_from : (es : RouteEntries) (ss : Selections) (i : ℕ) (b : Bool) → option_map_or (λ s. not (has_entry es s.0)) (slice_get ss i) false ≡ b → orphans es (drop i ss) ≡ cond b 1 0 + orphans es (drop (i + 1) ss)
 orphans_from es ss i b is = rw (add-one i) (subst (λ c. orphans es (drop i ss) ≡ cond c 1 0 + orphans es (drop (suc i) ss)) is (from ss i))

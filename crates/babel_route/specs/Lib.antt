@@ -1,10 +1,7 @@
 pub mod Rooms
-pub mod RouteKeys
-pub mod Routes
 pub mod Selections
 pub mod Currency
 pub mod Repeats
-pub mod PrefixBounds
 pub mod RouteLaws
 pub mod PrefixLists
 pub mod PrefixWalks

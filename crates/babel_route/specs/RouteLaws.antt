@@ -8,13 +8,14 @@ use Rattle.babel_value.specs.declared.distances.Distance.{Distance}
 use Rattle.babel_value.specs.declared.keys.Peer.{Peer}
 use Rattle.babel_value.specs.Orders.{prefix_cmp}
 use Rattle.babel_value.specs.Prefixes.{PrefixValue}
-use Rattle.babel_route.specs.declared.routes.entries.RouteKey.{RouteKey}
-use Rattle.babel_route.specs.declared.routes.entries.Selection.{Selection}
+use Rattle.babel_choice.specs.declared.entries.RouteKey.{RouteKey}
+use Rattle.babel_choice.specs.declared.entries.Selection.{Selection}
 use Rattle.babel_sources.specs.Sources.{Sources}
-use Rattle.babel_route.specs.RouteKeys.{route_cmp}
-use Rattle.babel_route.specs.Routes.{Route, RouteEntries, key_of, entry_of_update, updated, retracted_entry, retracted, retracted_from, retracted_all, kept_without, forgotten, expired_entry, expired}
+use Rattle.babel_choice.specs.RouteKeys.{route_cmp}
+use Rattle.babel_choice.specs.Routes.{Route, RouteEntries, key_of, entry_of_update, updated, retracted_entry, retracted, retracted_from, retracted_all, kept_without, forgotten, expired_entry, expired}
 use Rattle.babel_table.specs.Firsts.{IsFirstOf}
-use Rattle.babel_route.specs.Selections.{RoutesValue, candidates, is_candidate, preference, peer_before, selection_of, choice, choice_at, selection_at, reselected, IsCurrent, prefixes_of}
+use Rattle.babel_choice.specs.Choices.{candidates, is_candidate, preference, peer_before, selection_of, choice}
+use Rattle.babel_route.specs.Selections.{RoutesValue, choice_at, selection_at, reselected, IsCurrent, prefixes_of}
 
 -- ---- entries
 

@@ -5,42 +5,36 @@ ghost use Rattle.std.specs.List.{filter};
 ghost use Rattle.std.specs.FinMap.{find, is_sorted};
 ghost use Rattle.babel_value.specs.Orders.{prefix_cmp};
 ghost use Rattle.babel_route.specs.Rooms.{most_routes};
-ghost use Rattle.babel_route.specs.RouteKeys.{route_cmp};
-ghost use Rattle.babel_route.specs.Routes.{key_of, updated, retracted, retracted_all, has_routes_from, forgotten, expired};
-ghost use Rattle.babel_route.specs.Selections.{routes_of, choice, choice_at, reselected, selection_at, SelectsTheFirst, places_taken, prefixes_of, prefix_after, is_beyond};
+ghost use Rattle.babel_choice.specs.RouteKeys.{route_cmp};
+ghost use Rattle.babel_choice.specs.Routes.{key_of, updated, retracted, retracted_all, has_routes_from, forgotten, expired};
+ghost use Rattle.babel_choice.specs.Choices.{routes_of, choice};
+ghost use Rattle.babel_choice.specs.PrefixBounds.{is_beyond};
+ghost use Rattle.babel_route.specs.Selections.{choice_at, reselected, selection_at, SelectsTheFirst, places_taken, prefixes_of, prefix_after};
 ghost use Rattle.babel_route.specs.PrefixLists.{gathered};
 ghost use Rattle.babel_table.specs.Firsts.{first_of, lesser_of};
 
-mod bounds;
-mod choices;
 mod current;
-mod entries;
 mod prefix_walk;
 mod prefixes;
 mod refresh;
-mod revisions;
 mod room;
-mod walks;
 
-use crate::Cursor;
+use babel_choice::{
+    AllRoutes, AllSelections, Costs, Cursor, Entry, Expiry, Flush, PrefixRoutes, Retraction,
+    RouteKey, Selection, Through, choose,
+};
 use babel_sources::{SourceEntry, SourcesOver};
 use babel_table::{
     Full, Memory, SortedTable, Table, find_in, find_near, least_due, places_below, set, set_near,
 };
 use babel_value::{Addr, Distance, Peer, Prefix, RouterId, Source, hold_time};
-use bounds::Through;
-pub use choices::Costs;
-use choices::choose;
 use current::replace_near;
-pub use entries::{Entry, RouteKey, Selection};
 pub use prefix_walk::PrefixWalk;
 use prefixes::{add_routes, add_selections};
 pub use prefixes::{PREFIX_PLACES, PrefixList, PrefixListOver};
-use revisions::{Expiry, Flush, Retraction};
 use room::is_crowded;
 use std::alloc::Global;
 use std::marker::Model;
-pub use walks::{AllRoutes, AllSelections, PrefixRoutes};
 
 /// How many entries a route table has room for.
 pub const ROUTE_PLACES: usize = 256;

@@ -1,6 +1,7 @@
 //! Where the update after the last one is likely to be.
 
-use crate::{Cursor, ROUTE_PLACES};
+use crate::ROUTE_PLACES;
+use babel_choice::Cursor;
 
 /// How far an update's places in the tables are from those of the update before it, modulo 65,536.
 #[derive(Clone, Copy)]

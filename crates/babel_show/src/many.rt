@@ -2,7 +2,8 @@
 
 use crate::Status;
 use crate::one::{read_source, write_meaning};
-use babel_packet::{Refusal, decode};
+use babel_message::Refusal;
+use babel_packet::decode;
 use babel_text::{LineFault, MAX_LINE_LEN, parse_octets};
 use babel_value::Addr;
 use std::alloc::Global;

@@ -1,7 +1,8 @@
 //! `babel show HEX`: what one datagram means.
 
 use crate::{Status, report};
-use babel_packet::{Placed, Refusal, decode};
+use babel_message::{Placed, Refusal};
+use babel_packet::decode;
 use babel_text::LineFault;
 use babel_value::Addr;
 use std::alloc::Global;

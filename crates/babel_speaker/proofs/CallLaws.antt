@@ -6,8 +6,8 @@ use Rattle.std.proofs.Common.{refl, sym, subst, ◌∙◌}
 use Rattle.std.proofs.lemmas.Bool.{false≢true}
 use Rattle.std.proofs.lemmas.Option.{get_or_from_slice_get, slice_get_within}
 use Rattle.babel_value.specs.declared.keys.Peer.{Peer}
-use Rattle.babel_packet.specs.declared.errors.Refusal.{Refusal}
-use Rattle.babel_packet.specs.declared.placements.Placed.{Placed}
+use Rattle.babel_message.specs.declared.errors.Refusal.{Refusal}
+use Rattle.babel_message.specs.declared.placements.Placed.{Placed}
 use Rattle.babel_packet.specs.Meaning.{messages_of}
 use Rattle.babel_state.specs.declared.errors.RecvFault.{RecvFault}
 use Rattle.babel_state.specs.declared.items.Target.{Target}

@@ -10,7 +10,7 @@ use Rattle.std.specs.Option.{option_map_or, unwrap_or}
 use Rattle.babel_value.specs.declared.addresses.Addr.{Addr}
 use Rattle.babel_value.specs.Orders.{addr_cmp}
 use Rattle.babel_value.proofs.OrderLaws.{addr_exact}
-use Rattle.babel_packet.specs.declared.messages.Message.{Message}
+use Rattle.babel_message.specs.declared.messages.Message.{Message}
 use Rattle.babel_build.specs.Built.{Built, HasEncoded, added, fits}
 use Rattle.babel_packet.specs.Encodable.{is_encodable}
 use Rattle.babel_state.specs.declared.items.Item.{Item}
@@ -22,7 +22,7 @@ use Rattle.babel_state.specs.State.{State}
 use Rattle.babel_state.specs.OutgoingMessages.{outgoing}
 use Rattle.babel_state.specs.NextDatagram.{Fits, Draft, is_same_receiver, is_same_target, draft_with, drafted, after_message, without_first}
 use Rattle.babel_speaker.specs.Sending.{built_of, fits_at, draft_to, with_outgoing, is_encodable_outgoing, are_encodable, IsFilling, IsFilled}
-use Rattle.babel_core.specs.SentMessages.{without_front, IsMessageTo}
+use Rattle.babel_calls.specs.SentMessages.{without_front, IsMessageTo}
 
 -- Two receivers that are the same are equal, and so are two targets.
 equal : (o : Ordering) → is_eq o ≡ true → o ≡ Equal

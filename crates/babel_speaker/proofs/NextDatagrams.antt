@@ -7,7 +7,7 @@ use Rattle.std.proofs.lemmas.Option.{none-some}
 use Rattle.std.specs.Bool.{OnTrue}
 use Rattle.std.specs.Option.{option_map_or}
 use Rattle.babel_value.specs.declared.addresses.Addr.{Addr}
-use Rattle.babel_packet.specs.declared.messages.Message.{Message}
+use Rattle.babel_message.specs.declared.messages.Message.{Message}
 use Rattle.babel_packet.specs.Encodable.{is_encodable}
 use Rattle.babel_packet.specs.BodyMeanings.{Means}
 use Rattle.babel_build.specs.Built.{Built, HasEncoded, added, fits}
@@ -22,7 +22,7 @@ use Rattle.babel_state.specs.OutgoingMessages.{outgoing}
 use Rattle.babel_state.specs.NextDatagram.{Fits, Draft, is_same_target, draft_with, drafted, after_message, without_first, with_message, next_datagram}
 use Rattle.babel_state.specs.QueueLaws.{is_silent, has_no_message, NoneIfNothingPending, HasInterface, ItemsHaveInterfaces}
 use Rattle.babel_speaker.specs.Sending.{HaveTransports, built_of, empty_datagram, fits_from, fits_at, fits_by, draft_to, first_message, message_of, are_encodable, MeansFrom, IsFilled}
-use Rattle.babel_core.specs.SentMessages.{no_draft, without_front}
+use Rattle.babel_calls.specs.SentMessages.{no_draft, without_front}
 use Rattle.babel_speaker.proofs.Drafts.{same_target}
 
 -- ---- the builder's own fits

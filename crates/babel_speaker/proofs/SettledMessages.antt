@@ -2,8 +2,8 @@
 use Rattle.std.specs.Prelude.{◌≡◌, ℕ, Bool, true, false}
 use Rattle.std.proofs.Common.{refl, sym, subst}
 use Rattle.babel_value.specs.declared.keys.Peer.{Peer}
-use Rattle.babel_packet.specs.declared.placements.Content.{Content}
-use Rattle.babel_packet.specs.declared.placements.Content.TheVariants as contents
+use Rattle.babel_message.specs.declared.placements.Content.{Content}
+use Rattle.babel_message.specs.declared.placements.Content.TheVariants as contents
 use Rattle.babel_state.specs.State.{State}
 use Rattle.babel_state.specs.Messages.{handle_content}
 use Rattle.babel_state.specs.CurrentSelections.{AreCurrent, AreRoutesInOrder}

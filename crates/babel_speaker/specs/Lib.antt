@@ -1,11 +1,12 @@
 pub mod PendingItems
 pub mod Sending
-pub use Rattle.babel_core.specs.Making
-pub use Rattle.babel_core.specs.SentMessages
+pub use Rattle.babel_calls.specs.Making
+pub use Rattle.babel_calls.specs.SentMessages
 pub use Rattle.babel_parts.specs.Costs
 pub use Rattle.babel_state.specs.Limits
-pub use Rattle.babel_parts.specs.Intervals
+pub use Rattle.babel_steps.specs.Intervals
 pub use Rattle.babel_parts.specs.LinkChanges
 pub use Rattle.babel_parts.specs.Reaching
 pub use Rattle.babel_parts.specs.ShortHellos
-pub use Rattle.babel_parts.specs.TickItems
+pub use Rattle.babel_parts.specs.DueTimers
+pub use Rattle.babel_steps.specs.TickItems

@@ -2,7 +2,7 @@
 use Rattle.std.specs.Prelude.{◌≡◌, ℕ, Bool, true, false, ◌++◌, List, [], ◌∷◌, IsSome, Option, Some, None}
 use Rattle.std.specs.List.{list_all}
 use Rattle.babel_value.specs.declared.addresses.Addr.{Addr}
-use Rattle.babel_packet.specs.declared.messages.Message.{Message}
+use Rattle.babel_message.specs.declared.messages.Message.{Message}
 use Rattle.babel_packet.specs.Encodable.{is_encodable, IsMessage}
 use Rattle.babel_packet.specs.BodyMeanings.{Means}
 use Rattle.babel_build.specs.Built.{Built, HasEncoded, fits, added}
@@ -14,7 +14,7 @@ use Rattle.babel_state.specs.State.{State, interface_at}
 use Rattle.babel_state.specs.Addresses.{transport_at}
 use Rattle.babel_state.specs.OutgoingMessages.{outgoing}
 use Rattle.babel_state.specs.NextDatagram.{Fits, Draft, drafted}
-use Rattle.babel_core.specs.SentMessages.{no_draft}
+use Rattle.babel_calls.specs.SentMessages.{no_draft}
 
 -- The target and the message of what is sent, if there is one.
 abbrev pub message_of : Outgoing → Option (Target × Message)

@@ -1,7 +1,7 @@
 //! The messages of a datagram can be encoded again.
 
 ghost use Rattle.std.specs.Prelude.{◌≡◌, List, Ok};
-ghost use Rattle.babel_packet.specs.declared.placements.Placed.{Placed};
+ghost use Rattle.babel_message.specs.declared.placements.Placed.{Placed};
 ghost use Rattle.babel_packet.specs.Encodable.{AreOctets, IsAddr};
 ghost use Rattle.babel_packet.specs.Meaning.{meaning, messages_of};
 ghost use Rattle.babel_state.specs.SeenLaws.{AreEncodable};

@@ -1,5 +1,5 @@
 //! A speaker of the Babel routing protocol (RFC 8966): its calls. The definitions of its state and steps are
-//! those of `babel_state`, and the functions that make the steps those of `babel_core`.
+//! those of `babel_state`, and the functions that make the steps those of `babel_core` and `babel_calls`.
 #![tactic(auto)]
 
 mod decoded;

@@ -5,10 +5,10 @@ ghost use Rattle.babel_state.specs.CurrentSelections.{AreCurrent};
 ghost use Rattle.babel_state.specs.KeptRoutes.{KeepsRoutes};
 ghost use Rattle.babel_state.specs.Messages.{handle_from_neighbour, handle_message, handle_content};
 
+use babel_choice::Cursor;
 use babel_core::Core;
-use babel_packet::{Content, Message};
+use babel_message::{Content, Message};
 use babel_parts::Scratch;
-use babel_route::Cursor;
 use babel_state::{Item, Verdict};
 use babel_value::{Distance, Peer, Source};
 

@@ -9,10 +9,12 @@ ghost use Rattle.babel_state.specs.KeptRoutes.{KeepsRoutes};
 ghost use Rattle.babel_state.specs.Messages.{handle_content, after_places, notes_of, IsRecvFault, Receives};
 
 use crate::messages::handle_content;
+use babel_choice::Cursor;
 use babel_core::Core;
-use babel_packet::{Content, Message, Placed, Reason, Refusal, decode};
+use babel_message::{Content, Message, Placed, Reason, Refusal};
+use babel_packet::decode;
 use babel_parts::Scratch;
-use babel_route::{Cursor, Trail};
+use babel_route::Trail;
 use babel_state::{Note, RecvFault, Verdict};
 use babel_value::{Addr, Distance, Peer};
 use std::alloc::Global;

@@ -3,21 +3,21 @@
 
 ghost use Rattle.std.specs.Prelude.{◌≡◌, ◌↔◌, ℕ, None, List, [], true, Some, IfSome, IsTrue, IsNone, if◌then◌else◌};
 ghost use Rattle.std.specs.Bool.{OnFalse};
-ghost use Rattle.babel_packet.specs.declared.messages.Message.{Message};
+ghost use Rattle.babel_message.specs.declared.messages.Message.{Message};
 ghost use Rattle.babel_build.specs.Built.{Built, HasEncoded};
 ghost use Rattle.babel_state.specs.Addresses.{transport_at};
 ghost use Rattle.babel_state.specs.CurrentSelections.{AreCurrent};
 ghost use Rattle.babel_state.specs.OutgoingMessages.{outgoing};
 ghost use Rattle.babel_state.specs.NextDatagram.{Fits, is_same_receiver, is_same_target, draft_with, drafted, next_datagram};
 ghost use Rattle.babel_state.specs.QueueLaws.{is_silent};
-ghost use Rattle.babel_core.specs.SentMessages.{HasRoomFor, no_draft};
+ghost use Rattle.babel_calls.specs.SentMessages.{HasRoomFor, no_draft};
 ghost use Rattle.babel_speaker.specs.Sending.{HaveTransports, first_message, with_outgoing, is_encodable_outgoing, are_encodable, built_of, fits_at, fits_by, draft_to, MeansFrom, IsFilled};
 
 use arrayvec::ArrayVec;
 use babel_build::Builder;
+use babel_choice::Cursor;
 use babel_core::Core;
-use babel_packet::Message;
-use babel_route::Cursor;
+use babel_message::Message;
 use babel_state::laws::items_mean_messages;
 use babel_state::{Item, Outgoing, Target};
 use babel_tlv::DATAGRAM_LEN;
@@ -52,13 +52,13 @@ fn skip_silent(core: &mut Core, cursor: &mut Cursor) -> Option<(Target, Message)
     ensures interfaces { core.new.interfaces ≡ core.old.interfaces }
     ensures current { AreCurrent core.old → AreCurrent core.new }
 {
-    while let Some(item) = core.first_item() {
-        match core.outgoing(&item, cursor) {
+    while let Some(item) = babel_calls::first_item(core) {
+        match babel_calls::outgoing(core, &item, cursor) {
             Outgoing::Message(target, message) => return Some((target, message)),
-            Outgoing::LeftOut => core.leave_out(),
+            Outgoing::LeftOut => babel_calls::leave_out(core),
             Outgoing::Nothing => {}
         }
-        core.remove_first_item();
+        babel_calls::remove_first_item(core);
     }
     None
 }
@@ -68,7 +68,7 @@ fn skip_silent(core: &mut Core, cursor: &mut Cursor) -> Option<(Target, Message)
 fn goes_elsewhere(core: &Core, item: &Item, target: &Target) -> bool
     ensures { (now : ℕ) (b : Built) (ms : List Message) → IsTrue result → draft_with now (fits_at b) (draft_to target.now core.now ms) (outgoing core.now item.now) ≡ None }
 {
-    match core.certain_target(item) {
+    match babel_calls::certain_target(core, item) {
         Some(to) => !is_same_target(target, &to),
         None => false,
     }
@@ -98,14 +98,14 @@ fn add_item(
     if goes_elsewhere(core, item, &target) {
         return false;
     }
-    match core.outgoing(item, cursor) {
+    match babel_calls::outgoing(core, item, cursor) {
         Outgoing::Message(to, message) => {
             if !is_same_target(&target, &to) || !builder.add(&message) {
                 return false;
             }
-            core.send_message(now, to, &message, settled, cursor);
+            babel_calls::send_message(core, now, to, &message, settled, cursor);
         }
-        Outgoing::LeftOut => core.leave_out(),
+        Outgoing::LeftOut => babel_calls::leave_out(core),
         Outgoing::Nothing => {}
     }
     true
@@ -125,11 +125,11 @@ fn fill(
     ensures current { IsTrue settled.new → AreCurrent core.new }
     ensures filled { (b : Built) (ms : List Message) → builder.old ≡ built_of b ms → IsFilled b ms target (drafted now (fits_at b) core.old.pending.items (draft_to target core.old ms)) core.new builder.old builder.new }
 {
-    while let Some(item) = core.first_item() {
+    while let Some(item) = babel_calls::first_item(core) {
         if !add_item(core, now, target, builder, &item, settled, cursor) {
             return;
         }
-        core.remove_first_item();
+        babel_calls::remove_first_item(core);
     }
 }
 
@@ -162,14 +162,14 @@ pub(crate) fn next_datagram(
     let Some((target, message)) = skip_silent(core, &mut cursor) else {
         return None;
     };
-    let Some(source) = core.transport(target.iface) else {
+    let Some(source) = babel_calls::transport(core, target.iface) else {
         return None;
     };
     builder.begin(source);
     // The first message always fits.
     let _ = builder.add(&message);
-    core.send_message(now, target, &message, settled, &mut cursor);
-    core.remove_first_item();
+    babel_calls::send_message(core, now, target, &message, settled, &mut cursor);
+    babel_calls::remove_first_item(core);
     fill(core, now, target, builder, settled, &mut cursor);
     builder.write_to(out);
     Some(target)

@@ -14,7 +14,7 @@ ghost use Rattle.babel_state.specs.State.{announces};
 ghost use Rattle.babel_state.specs.Ticks.{ticked};
 ghost use Rattle.babel_state.specs.Restarts.{restored, IsSnapshot};
 ghost use Rattle.babel_snapshot.specs.Reading.{restore_fault, snapshot_in};
-ghost use Rattle.babel_core.specs.Making.{IsMakingFault, IsRestoreFault};
+ghost use Rattle.babel_calls.specs.Making.{IsMakingFault, IsRestoreFault};
 ghost use Rattle.babel_state.specs.QueueLaws.{is_silent};
 ghost use Rattle.babel_speaker.specs.Sending.{are_encodable, fits_by, HaveTransports, MeansFrom};
 
@@ -23,7 +23,7 @@ use crate::sending::next_datagram;
 use arrayvec::ArrayVec;
 use babel_build::Builder;
 use babel_core::Core;
-use babel_packet::Placed;
+use babel_message::Placed;
 use babel_parts::Scratch;
 use babel_route::Trail;
 use babel_state::{
@@ -56,13 +56,13 @@ impl Model for SettledCore {
 }
 
 impl SettledCore {
-    /// The first state of a speaker, as `Core::new`.
+    /// The first state of a speaker, as `babel_calls::make`.
     pub fn new(alloc: Global, config: &Config) -> Result<SettledCore, ConfigFault>
         ensures ok { IfOk result (λ core. core ≡ first_state config.now) }
         ensures valid { IsOk result → IsNone (config_fault config.now) }
         ensures refused { IfErr result (λ fault. IsMakingFault (config_fault config.now) fault) }
     {
-        match Core::new(alloc, config) {
+        match babel_calls::make(alloc, config) {
             Ok(core) => Ok(SettledCore {
                 core,
                 is_settled: false,
@@ -71,7 +71,7 @@ impl SettledCore {
         }
     }
 
-    /// The state after a restart, as `Core::restore`.
+    /// The state after a restart, as `babel_calls::restore`.
     pub(crate) fn restore(
         alloc: Global,
         config: &Config,
@@ -84,7 +84,7 @@ impl SettledCore {
         ensures refused { IfErr result (λ fault. IsRestoreFault (config_fault config.now) (restore_fault config.now.router_id octets.now) fault) }
         ensures snapshot { IfOk result (λ core. IsSnapshot (snapshot_in octets.now)) }
     {
-        match Core::restore(alloc, config, now, octets) {
+        match babel_calls::restore(alloc, config, now, octets) {
             Ok(core) => Ok(SettledCore {
                 core,
                 is_settled: false,
@@ -185,7 +185,7 @@ impl SettledCore {
         ensures err { OnErr result (self.new ≡ self.old) }
     {
         self.is_settled = false;
-        self.core.set_cost(iface, cost)
+        babel_calls::set_cost(&mut self.core, iface, cost)
     }
 
     /// Announces a prefix.
@@ -195,7 +195,7 @@ impl SettledCore {
         ensures err { OnErr result (self.new ≡ self.old) }
     {
         self.is_settled = false;
-        self.core.announce(prefix)
+        babel_calls::announce(&mut self.core, prefix)
     }
 
     /// Announces a prefix no longer.
@@ -205,7 +205,7 @@ impl SettledCore {
         ensures err { OnErr result (self.new ≡ self.old) }
     {
         self.is_settled = false;
-        self.core.withdraw(prefix)
+        babel_calls::withdraw(&mut self.core, prefix)
     }
 
     /// Takes the next datagram from the pending items, as `next_datagram`. If an Update in it changes the

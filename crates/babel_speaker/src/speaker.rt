@@ -24,16 +24,17 @@ ghost use Rattle.babel_state.specs.Restarts.{snapshot_of, restored, IsRestartedF
 ghost use Rattle.babel_snapshot.specs.Octets.{snapshot_octets};
 ghost use Rattle.babel_snapshot.specs.Reading.{restore_fault, snapshot_in};
 ghost use Rattle.babel_snapshot.specs.SnapshotLaws.{IsRead};
-ghost use Rattle.babel_core.specs.Making.{IsMakingFault, IsRestoreFault};
+ghost use Rattle.babel_calls.specs.Making.{IsMakingFault, IsRestoreFault};
 ghost use Rattle.babel_speaker.specs.Sending.{fits_by, MeansFrom};
 
 use crate::SettledCore;
 use crate::decoded::decoded_are_encodable;
 use arrayvec::ArrayVec;
 use babel_build::Builder;
-use babel_packet::Placed;
+use babel_choice::{Entry, Selection};
+use babel_message::Placed;
 use babel_parts::Scratch;
-use babel_route::{Entry, Selection, Trail};
+use babel_route::Trail;
 use babel_state::laws::{
     calls_move, datagrams_send, items_mean_messages, restarts_are_seen, selected_routes_are_good,
     selections_are_current, selections_stay_current, states_are_well_formed,
@@ -133,7 +134,7 @@ impl Speaker {
         ensures ok { IfOk result (λ octets. octets.items ≡ snapshot_octets (snapshot_of self.now)) }
         ensures restorable { IfOk result (λ octets. IsRead self.now.router octets.items (snapshot_of self.now)) }
     {
-        let octets = self.core.core.save(self.alloc)?;
+        let octets = babel_calls::save(&self.core.core, self.alloc)?;
         Ok(octets)
     }
 
@@ -395,7 +396,7 @@ impl Speaker {
     pub fn selected(&self, prefix: &Prefix) -> Option<Selected>
         ensures { result ≡ selected_route prefix.now self.now }
     {
-        self.core.core.selected_route(prefix)
+        babel_calls::selected_route(&self.core.core, prefix)
     }
 
     /// The selection whose prefix has exactly `place` lesser ones among the selections' prefixes.
@@ -432,7 +433,7 @@ impl Speaker {
     pub fn entry(&self, prefix: &Prefix, index: usize) -> Option<(Peer, Entry, Metric)>
         ensures { result ≡ slice_get (reported_entries prefix.now self.now) index }
     {
-        self.core.core.reported_entry(prefix, index)
+        babel_calls::reported_entry(&self.core.core, prefix, index)
     }
 
     /// Whether the speaker announces the prefix itself.
@@ -446,7 +447,7 @@ impl Speaker {
     pub fn transport(&self, iface: u8) -> Option<Addr>
         ensures { result ≡ transport_at iface self.now }
     {
-        self.core.core.transport(iface)
+        babel_calls::transport(&self.core.core, iface)
     }
 
     /// How often the speaker's own seqno grew.

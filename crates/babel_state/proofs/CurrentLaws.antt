@@ -15,8 +15,8 @@ use Rattle.babel_value.proofs.OrderLaws.{prefix_total}
 use Rattle.babel_value.specs.Prefixes.{PrefixValue}
 use Rattle.babel_link.specs.Neighbours.{cost_of, gone_of, tick_of}
 use Rattle.babel_table.specs.Entries.{revised_entries}
-use Rattle.babel_route.specs.RouteKeys.{route_cmp}
-use Rattle.babel_route.specs.Routes.{kept_without, expired_entry}
+use Rattle.babel_choice.specs.RouteKeys.{route_cmp}
+use Rattle.babel_choice.specs.Routes.{kept_without, expired_entry}
 use Rattle.babel_route.specs.RouteLaws.{each_reselected}
 use Rattle.babel_route.specs.Selections.{RoutesValue, IsCurrent, prefixes_of}
 use Rattle.babel_route.proofs.CurrentLemmas.{all_current}

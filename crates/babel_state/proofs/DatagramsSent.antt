@@ -13,11 +13,12 @@ use Rattle.babel_value.specs.declared.keys.Peer.{Peer}
 use Rattle.babel_value.specs.Orders.{prefix_cmp}
 use Rattle.babel_value.specs.Prefixes.{PrefixValue}
 use Rattle.babel_link.specs.Neighbours.{cost_of}
-use Rattle.babel_packet.specs.declared.messages.Message.{Message}
-use Rattle.babel_packet.specs.declared.messages.Message.TheVariants as messages
-use Rattle.babel_route.specs.RouteKeys.{route_cmp}
-use Rattle.babel_route.specs.Routes.{key_of}
-use Rattle.babel_route.specs.Selections.{route_metric, selection_at}
+use Rattle.babel_message.specs.declared.messages.Message.{Message}
+use Rattle.babel_message.specs.declared.messages.Message.TheVariants as messages
+use Rattle.babel_choice.specs.RouteKeys.{route_cmp}
+use Rattle.babel_choice.specs.Routes.{key_of}
+use Rattle.babel_choice.specs.Choices.{route_metric}
+use Rattle.babel_route.specs.Selections.{selection_at}
 use Rattle.babel_state.specs.declared.interfaces.InterfaceEntry.{InterfaceEntry}
 use Rattle.babel_state.specs.declared.items.Item.{Item}
 use Rattle.babel_state.specs.declared.items.Outgoing.{Outgoing}

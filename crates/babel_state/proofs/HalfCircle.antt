@@ -13,12 +13,12 @@ use Rattle.babel_value.specs.Orders.{source_cmp}
 use Rattle.babel_value.specs.Prefixes.{PrefixValue}
 use Rattle.babel_value.specs.Seqnos.{lift, is_before}
 use Rattle.babel_value.proofs.OrderLaws.{source_exact}
-use Rattle.babel_packet.specs.declared.messages.Message.{Message}
-use Rattle.babel_route.specs.declared.routes.entries.RouteKey.{RouteKey}
-use Rattle.babel_route.specs.declared.routes.entries.Selection.{Selection}
+use Rattle.babel_message.specs.declared.messages.Message.{Message}
+use Rattle.babel_choice.specs.declared.entries.RouteKey.{RouteKey}
+use Rattle.babel_choice.specs.declared.entries.Selection.{Selection}
 use Rattle.babel_sources.specs.Distances.{is_feasible}
-use Rattle.babel_route.specs.Routes.{Route}
-use Rattle.babel_route.specs.Selections.{routes_of, is_feasible_route}
+use Rattle.babel_choice.specs.Routes.{Route}
+use Rattle.babel_choice.specs.Choices.{routes_of, is_feasible_route}
 use Rattle.babel_sources.specs.Sources.{Sources, pair_of}
 use Rattle.babel_state.specs.declared.items.Target.{Target}
 use Rattle.babel_state.specs.declared.selected.Selected.{Selected}

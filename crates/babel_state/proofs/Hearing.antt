@@ -14,15 +14,15 @@ use Rattle.babel_value.specs.Prefixes.{PrefixValue}
 use Rattle.babel_link.specs.declared.marks.Heard.{Heard}
 use Rattle.babel_link.specs.declared.marks.Heard.TheVariants.{Kept, Flush}
 use Rattle.babel_link.specs.Neighbours.{hello_of, hello_verdict, ihu_of, gone_of, tick_of}
-use Rattle.babel_packet.specs.declared.messages.Message.{Message}
-use Rattle.babel_packet.specs.declared.messages.Message.TheVariants as messages
-use Rattle.babel_route.specs.declared.routes.entries.Entry.{Entry}
-use Rattle.babel_route.specs.declared.routes.entries.Selection.{Selection}
-use Rattle.babel_route.specs.declared.routes.entries.RouteKey.{RouteKey}
+use Rattle.babel_message.specs.declared.messages.Message.{Message}
+use Rattle.babel_message.specs.declared.messages.Message.TheVariants as messages
+use Rattle.babel_choice.specs.declared.entries.Entry.{Entry}
+use Rattle.babel_choice.specs.declared.entries.Selection.{Selection}
+use Rattle.babel_choice.specs.declared.entries.RouteKey.{RouteKey}
 use Rattle.babel_sources.specs.Distances.{is_feasible}
 use Rattle.babel_table.specs.Entries.{revised_entries}
-use Rattle.babel_route.specs.RouteKeys.{route_cmp, route_total, route_exact}
-use Rattle.babel_route.specs.Routes.{RouteEntries, key_of, is_from, entry_of_update, updated, retracted_entry, retracted, retracted_from, retracted_all, has_routes_from, kept_without, forgotten, expired_entry, expired}
+use Rattle.babel_choice.specs.RouteKeys.{route_cmp, route_total, route_exact}
+use Rattle.babel_choice.specs.Routes.{RouteEntries, key_of, is_from, entry_of_update, updated, retracted_entry, retracted, retracted_from, retracted_all, has_routes_from, kept_without, forgotten, expired_entry, expired}
 use Rattle.babel_table.proofs.PlaceLemmas.{so, holds, find_revised}
 use Rattle.babel_table.proofs.LookupLemmas.{equal}
 use Rattle.babel_state.specs.declared.notes.Verdict.TheVariants as verdicts

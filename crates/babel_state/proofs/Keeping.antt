@@ -9,9 +9,9 @@ use Rattle.babel_value.specs.Prefixes.{PrefixValue}
 use Rattle.babel_link.specs.Neighbours.{Links, gone_of, hello_verdict}
 use Rattle.babel_link.specs.declared.marks.Heard.{Heard}
 use Rattle.babel_link.specs.declared.marks.Heard.TheVariants.{Kept, Flush}
-use Rattle.babel_packet.specs.declared.messages.Message.{Message}
-use Rattle.babel_packet.specs.declared.messages.Message.TheVariants as messages
-use Rattle.babel_route.specs.declared.routes.entries.Selection.{Selection}
+use Rattle.babel_message.specs.declared.messages.Message.{Message}
+use Rattle.babel_message.specs.declared.messages.Message.TheVariants as messages
+use Rattle.babel_choice.specs.declared.entries.Selection.{Selection}
 use Rattle.babel_route.specs.Selections.{RoutesValue}
 use Rattle.babel_sources.specs.Sources.{collected}
 use Rattle.babel_state.specs.declared.interfaces.InterfaceEntry.{InterfaceEntry}

@@ -17,10 +17,11 @@ use Rattle.babel_link.specs.declared.marks.Heard.TheVariants.{Kept, Flush}
 use Rattle.babel_link.specs.Links.{hello_link, ihu_link}
 use Rattle.babel_link.specs.Neighbours.{link_of, hello_of, hello_verdict, ihu_of, cost_of}
 use Rattle.babel_table.proofs.LookupLemmas.{equal}
-use Rattle.babel_route.specs.declared.routes.entries.Selection.{Selection}
-use Rattle.babel_route.specs.Routes.{RouteEntries, key_of}
+use Rattle.babel_choice.specs.declared.entries.Selection.{Selection}
+use Rattle.babel_choice.specs.Routes.{RouteEntries, key_of}
 use Rattle.babel_route.specs.Currency.{is_same_distance}
-use Rattle.babel_route.specs.Selections.{route_metric, choice_at}
+use Rattle.babel_choice.specs.Choices.{route_metric}
+use Rattle.babel_route.specs.Selections.{choice_at}
 use Rattle.babel_route.proofs.CurrencyLemmas.{same_distance}
 use Rattle.babel_sources.specs.Sources.{collected}
 use Rattle.babel_state.specs.declared.selected.Selected.{Selected}

@@ -16,10 +16,10 @@ use Rattle.babel_value.specs.Orders.{prefix_cmp}
 use Rattle.babel_value.proofs.OrderLaws.{prefix_total, prefix_exact}
 use Rattle.babel_value.specs.Prefixes.{PrefixValue}
 use Rattle.babel_value.specs.Seqnos.{next_seqno}
-use Rattle.babel_packet.specs.declared.messages.Message.{Message}
-use Rattle.babel_packet.specs.declared.placements.Content.{Content}
-use Rattle.babel_packet.specs.declared.placements.Content.TheVariants as contents
-use Rattle.babel_packet.specs.declared.placements.Placed.{Placed}
+use Rattle.babel_message.specs.declared.messages.Message.{Message}
+use Rattle.babel_message.specs.declared.placements.Content.{Content}
+use Rattle.babel_message.specs.declared.placements.Content.TheVariants as contents
+use Rattle.babel_message.specs.declared.placements.Placed.{Placed}
 use Rattle.babel_packet.specs.Encodable.{is_encodable}
 use Rattle.babel_packet.specs.Meaning.{content_messages, messages_of}
 use Rattle.babel_table.specs.Entries.{without}

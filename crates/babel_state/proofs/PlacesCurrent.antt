@@ -1,8 +1,8 @@
 -- The messages of a datagram keep each selection that is current.
 use Rattle.std.specs.Prelude.{ℕ, [], ◌∷◌}
 use Rattle.babel_value.specs.declared.keys.Peer.{Peer}
-use Rattle.babel_packet.specs.declared.placements.Content.{Content}
-use Rattle.babel_packet.specs.declared.placements.Content.TheVariants as contents
+use Rattle.babel_message.specs.declared.placements.Content.{Content}
+use Rattle.babel_message.specs.declared.placements.Content.TheVariants as contents
 use Rattle.babel_state.specs.CurrentSelections.{AreRoutesInOrder, KeepsCurrent, PlacesKeepCurrent}
 use Rattle.babel_state.specs.Messages.{handle_content}
 use Rattle.babel_state.specs.State.{State}

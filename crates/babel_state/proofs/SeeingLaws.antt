@@ -8,11 +8,11 @@ use Rattle.std.proofs.lemmas.Option.{same_Some, none-some, slice_get-map}
 use Rattle.babel_value.specs.Orders.{prefix_cmp}
 use Rattle.babel_value.specs.Metrics.{metric_sum}
 use Rattle.babel_value.specs.Prefixes.{PrefixValue}
-use Rattle.babel_route.specs.declared.routes.entries.Entry.{Entry}
-use Rattle.babel_route.specs.declared.routes.entries.Selection.{Selection}
+use Rattle.babel_choice.specs.declared.entries.Entry.{Entry}
+use Rattle.babel_choice.specs.declared.entries.Selection.{Selection}
 use Rattle.babel_sources.specs.Distances.{is_feasible}
-use Rattle.babel_route.specs.Routes.{key_of}
-use Rattle.babel_route.specs.Selections.{is_candidate, is_feasible_route, route_metric}
+use Rattle.babel_choice.specs.Routes.{key_of}
+use Rattle.babel_choice.specs.Choices.{is_candidate, is_feasible_route, route_metric}
 use Rattle.babel_state.specs.declared.selected.Selected.{Selected}
 use Rattle.babel_state.proofs.CurrentLaws.{has_ascending}
 use Rattle.babel_state.specs.State.{State, gathered, announces, cost_at, pair_at, entry_at, selected_at}

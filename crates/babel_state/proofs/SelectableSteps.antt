@@ -15,14 +15,14 @@ use Rattle.babel_value.specs.Prefixes.{PrefixValue}
 use Rattle.babel_link.specs.Neighbours.{hello_of, hello_verdict, ihu_of}
 use Rattle.babel_link.specs.declared.marks.Heard.{Heard}
 use Rattle.babel_link.specs.declared.marks.Heard.TheVariants.{Kept, Flush}
-use Rattle.babel_packet.specs.declared.messages.Message.{Message}
-use Rattle.babel_packet.specs.declared.messages.Message.TheVariants as messages
-use Rattle.babel_route.specs.declared.routes.entries.Entry.{Entry}
-use Rattle.babel_route.specs.declared.routes.entries.Selection.{Selection}
+use Rattle.babel_message.specs.declared.messages.Message.{Message}
+use Rattle.babel_message.specs.declared.messages.Message.TheVariants as messages
+use Rattle.babel_choice.specs.declared.entries.Entry.{Entry}
+use Rattle.babel_choice.specs.declared.entries.Selection.{Selection}
 use Rattle.babel_sources.specs.Distances.{is_feasible}
 use Rattle.babel_table.specs.Entries.{without}
-use Rattle.babel_route.specs.RouteKeys.{route_cmp, route_total}
-use Rattle.babel_route.specs.Routes.{RouteEntries, key_of, kept_without, retracted_from, updated, retracted, retracted_all, retracted_entry, entry_of_update, has_routes_from}
+use Rattle.babel_choice.specs.RouteKeys.{route_cmp, route_total}
+use Rattle.babel_choice.specs.Routes.{RouteEntries, key_of, kept_without, retracted_from, updated, retracted, retracted_all, retracted_entry, entry_of_update, has_routes_from}
 use Rattle.babel_table.proofs.LookupLemmas.{eq_turned, find_with_value}
 use Rattle.babel_state.specs.declared.items.Item.{Item}
 use Rattle.babel_state.specs.declared.items.Item.TheVariants as items

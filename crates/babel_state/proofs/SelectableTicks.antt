@@ -14,11 +14,12 @@ use Rattle.babel_value.specs.Prefixes.{PrefixValue}
 use Rattle.babel_link.specs.declared.links.Link.{Link}
 use Rattle.babel_link.specs.Links.{is_up_history, link_rxcost, link_cost}
 use Rattle.babel_link.specs.Neighbours.{Links, cost_of}
-use Rattle.babel_route.specs.declared.routes.entries.Selection.{Selection}
+use Rattle.babel_choice.specs.declared.entries.Selection.{Selection}
 use Rattle.babel_sources.specs.declared.sources.SourceEntry.{SourceEntry}
 use Rattle.babel_sources.specs.Distances.{is_feasible}
-use Rattle.babel_route.specs.Routes.{Route, key_of}
-use Rattle.babel_route.specs.Selections.{is_candidate, is_feasible_route, route_metric, IsCurrent}
+use Rattle.babel_choice.specs.Routes.{Route, key_of}
+use Rattle.babel_choice.specs.Choices.{is_candidate, is_feasible_route, route_metric}
+use Rattle.babel_route.specs.Selections.{IsCurrent}
 use Rattle.babel_sources.specs.Sources.{Sources, pair_of, collected, collected_entry}
 use Rattle.babel_table.proofs.PlaceLemmas.{find_revised}
 use Rattle.babel_state.specs.declared.interfaces.InterfaceEntry.{InterfaceEntry}

@@ -16,8 +16,8 @@ use Rattle.babel_value.specs.declared.keys.Source.{Source}
 use Rattle.babel_value.specs.Orders.{source_cmp}
 use Rattle.babel_value.proofs.OrderLaws.{source_total, source_exact}
 use Rattle.babel_value.specs.Prefixes.{PrefixValue}
-use Rattle.babel_packet.specs.declared.messages.Message.{Message}
-use Rattle.babel_packet.specs.declared.messages.Message.TheVariants as messages
+use Rattle.babel_message.specs.declared.messages.Message.{Message}
+use Rattle.babel_message.specs.declared.messages.Message.TheVariants as messages
 use Rattle.babel_sources.specs.Distances.{better_pair}
 use Rattle.babel_sources.specs.Sources.{Sources, pair_of, source_entry_after, lowered}
 use Rattle.babel_state.specs.declared.interfaces.InterfaceEntry.{InterfaceEntry}

@@ -19,13 +19,13 @@ use Rattle.babel_value.specs.Metrics.{metric_sum}
 use Rattle.babel_value.specs.Orders.{source_cmp}
 use Rattle.babel_value.proofs.OrderLaws.{source_total, source_exact}
 use Rattle.babel_value.specs.Prefixes.{PrefixValue}
-use Rattle.babel_packet.specs.declared.messages.Message.{Message}
-use Rattle.babel_packet.specs.declared.messages.Message.TheVariants as messages
-use Rattle.babel_route.specs.declared.routes.entries.Selection.{Selection}
+use Rattle.babel_message.specs.declared.messages.Message.{Message}
+use Rattle.babel_message.specs.declared.messages.Message.TheVariants as messages
+use Rattle.babel_choice.specs.declared.entries.Selection.{Selection}
 use Rattle.babel_sources.specs.declared.sources.SourceEntry.{SourceEntry}
 use Rattle.babel_sources.specs.Distances.{is_feasible, better_pair}
-use Rattle.babel_route.specs.Routes.{Route, key_of}
-use Rattle.babel_route.specs.Selections.{is_candidate, is_feasible_route, route_metric}
+use Rattle.babel_choice.specs.Routes.{Route, key_of}
+use Rattle.babel_choice.specs.Choices.{is_candidate, is_feasible_route, route_metric}
 use Rattle.babel_sources.specs.Sources.{pair_of, source_entry_after, lowered}
 use Rattle.babel_state.specs.declared.interfaces.InterfaceEntry.{InterfaceEntry}
 use Rattle.babel_state.specs.declared.items.Item.{Item}

@@ -16,7 +16,7 @@ use Rattle.babel_link.specs.declared.marks.Heard.TheVariants.{Kept, Flush}
 use Rattle.babel_link.specs.Links.{hello_link, ihu_link, link_cost}
 use Rattle.babel_link.specs.Neighbours.{Links, link_of, hello_of, hello_verdict, ihu_of, cost_of}
 use Rattle.babel_table.proofs.LookupLemmas.{equal}
-use Rattle.babel_route.specs.declared.routes.entries.Selection.{Selection}
+use Rattle.babel_choice.specs.declared.entries.Selection.{Selection}
 use Rattle.babel_route.specs.Selections.{RoutesValue, IsCurrent}
 use Rattle.babel_route.proofs.CurrentLemmas.{all_settled}
 use Rattle.babel_state.specs.State.{State, announces, cost_at, nominal_cost, selected_at, routed_prefixes}

@@ -19,11 +19,12 @@ use Rattle.babel_table.specs.Firsts.{first_of, IsFirst}
 use Rattle.babel_table.proofs.FirstLemmas.{is_first, none_first}
 use Rattle.babel_table.proofs.LookupLemmas.{equal}
 use Rattle.babel_table.proofs.PlaceLemmas.{find_hit}
-use Rattle.babel_route.specs.declared.routes.entries.Entry.{Entry}
-use Rattle.babel_route.specs.declared.routes.entries.Selection.{Selection}
-use Rattle.babel_route.specs.RouteKeys.{route_cmp, route_total}
-use Rattle.babel_route.specs.Routes.{Route, RouteEntries, key_of}
-use Rattle.babel_route.specs.Selections.{is_of, routes_of, is_candidate, is_feasible_route, route_metric, preference, is_change, selection_of, choice, IsCurrent}
+use Rattle.babel_choice.specs.declared.entries.Entry.{Entry}
+use Rattle.babel_choice.specs.declared.entries.Selection.{Selection}
+use Rattle.babel_choice.specs.RouteKeys.{route_cmp, route_total}
+use Rattle.babel_choice.specs.Routes.{Route, RouteEntries, key_of}
+use Rattle.babel_choice.specs.Choices.{is_of, routes_of, is_candidate, is_feasible_route, route_metric, preference, is_change, selection_of, choice}
+use Rattle.babel_route.specs.Selections.{IsCurrent}
 use Rattle.babel_sources.specs.Sources.{Sources}
 use Rattle.babel_route.proofs.CurrentLemmas.{preference_total}
 use Rattle.babel_state.specs.State.{State, announces, cost_at, selected_at}

@@ -19,15 +19,15 @@ use Rattle.babel_link.specs.declared.marks.Heard.{Heard}
 use Rattle.babel_link.specs.declared.marks.Heard.TheVariants.{Kept, Flush}
 use Rattle.babel_link.specs.Links.{new_link, with_history, history_of, is_flushed_by, hello_link, ihu_link, fired_history, unless_silent, fired_link, expired_link, ticked_link}
 use Rattle.babel_link.specs.Neighbours.{Links, link_of, hello_of, hello_verdict, ihu_of, tick_of}
-use Rattle.babel_packet.specs.declared.messages.Message.{Message}
-use Rattle.babel_packet.specs.declared.messages.Message.TheVariants as messages
+use Rattle.babel_message.specs.declared.messages.Message.{Message}
+use Rattle.babel_message.specs.declared.messages.Message.TheVariants as messages
 use Rattle.babel_packet.specs.Encodable.{is_encodable}
-use Rattle.babel_route.specs.declared.routes.entries.Entry.{Entry}
-use Rattle.babel_route.specs.declared.routes.entries.Selection.{Selection}
+use Rattle.babel_choice.specs.declared.entries.Entry.{Entry}
+use Rattle.babel_choice.specs.declared.entries.Selection.{Selection}
 use Rattle.babel_sources.specs.Distances.{is_feasible}
 use Rattle.babel_table.specs.Entries.{without, with_value}
-use Rattle.babel_route.specs.RouteKeys.{route_cmp, route_total}
-use Rattle.babel_route.specs.Routes.{RouteEntries, key_of, updated, retracted, retracted_all, retracted_entry, forgotten, entry_of_update, kept_without, retracted_from}
+use Rattle.babel_choice.specs.RouteKeys.{route_cmp, route_total}
+use Rattle.babel_choice.specs.Routes.{RouteEntries, key_of, updated, retracted, retracted_all, retracted_entry, forgotten, entry_of_update, kept_without, retracted_from}
 use Rattle.babel_route.specs.Selections.{RoutesValue, reselected, choice_at}
 use Rattle.babel_sources.specs.Sources.{Sources}
 use Rattle.babel_state.specs.declared.interfaces.InterfaceEntry.{InterfaceEntry}

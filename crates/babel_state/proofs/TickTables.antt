@@ -18,8 +18,8 @@ use Rattle.babel_value.specs.Prefixes.{PrefixValue}
 use Rattle.babel_link.specs.Neighbours.{gone_of, tick_of, peers_of}
 use Rattle.babel_sources.specs.declared.sources.SourceEntry.{SourceEntry}
 use Rattle.babel_table.specs.Entries.{without, revised_entries}
-use Rattle.babel_route.specs.RouteKeys.{route_cmp}
-use Rattle.babel_route.specs.Routes.{expired, expired_entry}
+use Rattle.babel_choice.specs.RouteKeys.{route_cmp}
+use Rattle.babel_choice.specs.Routes.{expired, expired_entry}
 use Rattle.babel_sources.specs.Sources.{collected, collected_entry}
 use Rattle.babel_state.specs.declared.errors.SetCostFault.TheVariants.{CostOutOfRange}
 use Rattle.babel_state.specs.declared.interfaces.InterfaceEntry.{InterfaceEntry}

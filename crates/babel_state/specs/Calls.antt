@@ -5,11 +5,11 @@ use Rattle.std.specs.FinMap.{put}
 use Rattle.babel_value.specs.declared.keys.Peer.{Peer}
 use Rattle.babel_value.specs.Orders.{prefix_cmp}
 use Rattle.babel_value.specs.Prefixes.{PrefixValue}
-use Rattle.babel_route.specs.declared.routes.entries.Entry.{Entry}
-use Rattle.babel_route.specs.declared.routes.entries.Selection.{Selection}
+use Rattle.babel_choice.specs.declared.entries.Entry.{Entry}
+use Rattle.babel_choice.specs.declared.entries.Selection.{Selection}
 use Rattle.babel_table.specs.Entries.{without}
-use Rattle.babel_route.specs.Routes.{Route, key_of}
-use Rattle.babel_route.specs.Selections.{routes_of, route_metric}
+use Rattle.babel_choice.specs.Routes.{Route, key_of}
+use Rattle.babel_choice.specs.Choices.{routes_of, route_metric}
 use Rattle.babel_state.specs.declared.configs.Config.{Config}
 use Rattle.babel_state.specs.declared.configs.Interface.{Interface}
 use Rattle.babel_state.specs.declared.errors.SetCostFault.{SetCostFault}

@@ -1,6 +1,6 @@
 -- The codes of refusals (profile).
 use Rattle.std.specs.Prelude.{ℕ, List, codes}
-use Rattle.babel_packet.specs.declared.errors.Refusal.TheVariants as refusals
+use Rattle.babel_message.specs.declared.errors.Refusal.TheVariants as refusals
 use Rattle.babel_state.specs.declared.errors.ConfigFault.{ConfigFault}
 use Rattle.babel_state.specs.declared.errors.ConfigFault.TheVariants as config_faults
 use Rattle.babel_state.specs.declared.errors.RecvFault.{RecvFault}

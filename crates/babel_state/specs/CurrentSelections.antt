@@ -6,14 +6,15 @@ use Rattle.babel_value.specs.declared.keys.Peer.{Peer}
 use Rattle.babel_value.specs.Prefixes.{PrefixValue}
 use Rattle.babel_value.specs.Lifts.{greatest_lift}
 use Rattle.babel_value.specs.Seqnos.{seqno_modulus, lift}
-use Rattle.babel_packet.specs.declared.messages.Message.{Message}
-use Rattle.babel_packet.specs.declared.placements.Placed.{Placed}
-use Rattle.babel_route.specs.declared.routes.entries.Entry.{Entry}
-use Rattle.babel_route.specs.declared.routes.entries.Selection.{Selection}
+use Rattle.babel_message.specs.declared.messages.Message.{Message}
+use Rattle.babel_message.specs.declared.placements.Placed.{Placed}
+use Rattle.babel_choice.specs.declared.entries.Entry.{Entry}
+use Rattle.babel_choice.specs.declared.entries.Selection.{Selection}
 use Rattle.std.specs.FinMap.{is_sorted}
-use Rattle.babel_route.specs.RouteKeys.{route_cmp}
-use Rattle.babel_route.specs.Routes.{Route, key_of}
-use Rattle.babel_route.specs.Selections.{IsCurrent, routes_of, is_candidate, is_feasible_route}
+use Rattle.babel_choice.specs.RouteKeys.{route_cmp}
+use Rattle.babel_choice.specs.Routes.{Route, key_of}
+use Rattle.babel_choice.specs.Choices.{routes_of, is_candidate, is_feasible_route}
+use Rattle.babel_route.specs.Selections.{IsCurrent}
 use Rattle.babel_state.specs.declared.configs.Config.{Config}
 use Rattle.babel_state.specs.Reselection.{reselect_all}
 use Rattle.babel_state.specs.Ticks.{ticked}

@@ -6,7 +6,7 @@ use Rattle.babel_value.specs.declared.keys.Peer.{Peer}
 use Rattle.babel_link.specs.declared.marks.Heard.{Heard}
 use Rattle.babel_link.specs.declared.marks.Heard.TheVariants.{Kept, Flush}
 use Rattle.babel_link.specs.Neighbours.{max_neighbours, hello_of, hello_verdict, ihu_of}
-use Rattle.babel_route.specs.Routes.{forgotten}
+use Rattle.babel_choice.specs.Routes.{forgotten}
 use Rattle.babel_state.specs.declared.notes.Verdict.{Verdict}
 use Rattle.babel_state.specs.declared.notes.Verdict.TheVariants.{Taken, TableFull, OtherAddress}
 use Rattle.babel_state.specs.State.{State, interface_at, is_neighbour, with_entries}

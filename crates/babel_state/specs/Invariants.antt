@@ -9,11 +9,11 @@ use Rattle.babel_value.specs.Metrics.{infinity}
 use Rattle.babel_value.specs.Seqnos.{seqno_modulus}
 use Rattle.babel_link.specs.declared.links.Link.{Link}
 use Rattle.babel_link.specs.Neighbours.{max_neighbours, Links}
-use Rattle.babel_packet.specs.declared.messages.Message.{Message}
+use Rattle.babel_message.specs.declared.messages.Message.{Message}
 use Rattle.babel_packet.specs.Encodable.{is_encodable}
-use Rattle.babel_route.specs.declared.routes.entries.Selection.{Selection}
+use Rattle.babel_choice.specs.declared.entries.Selection.{Selection}
 use Rattle.babel_sources.specs.declared.sources.SourceEntry.{SourceEntry}
-use Rattle.babel_route.specs.RouteKeys.{route_cmp}
+use Rattle.babel_choice.specs.RouteKeys.{route_cmp}
 use Rattle.babel_route.specs.Selections.{RoutesValue}
 use Rattle.babel_sources.specs.Sources.{Sources}
 use Rattle.babel_sources.specs.Rooms.{most_sources}

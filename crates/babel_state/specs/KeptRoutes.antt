@@ -1,7 +1,7 @@
 -- That the selected routes stay as they are (profile).
 use Rattle.std.specs.Prelude.{◌≡◌, Bool, true, false, ◌&&◌, Option, Some, None}
 use Rattle.babel_value.specs.Prefixes.{PrefixValue}
-use Rattle.babel_route.specs.declared.routes.entries.Selection.{Selection}
+use Rattle.babel_choice.specs.declared.entries.Selection.{Selection}
 use Rattle.babel_route.specs.Currency.{is_same_distance}
 use Rattle.babel_state.specs.Sameness.{is_same_addr, is_same_peer, is_same_router}
 use Rattle.babel_state.specs.State.{State}

@@ -5,8 +5,8 @@ use Rattle.babel_value.specs.declared.addresses.Addr.{Addr}
 use Rattle.babel_value.specs.declared.distances.Distance.{Distance}
 use Rattle.babel_value.specs.declared.keys.Source.{Source}
 use Rattle.babel_value.specs.Seqnos.{next_seqno}
-use Rattle.babel_packet.specs.declared.messages.Message.{Message}
-use Rattle.babel_packet.specs.declared.messages.Message.TheVariants as messages
+use Rattle.babel_message.specs.declared.messages.Message.{Message}
+use Rattle.babel_message.specs.declared.messages.Message.TheVariants as messages
 use Rattle.babel_sources.specs.Sources.{lowered}
 use Rattle.babel_state.specs.declared.interfaces.InterfaceEntry.{InterfaceEntry}
 use Rattle.babel_state.specs.declared.items.Item.{Item}

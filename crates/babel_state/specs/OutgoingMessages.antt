@@ -9,10 +9,10 @@ use Rattle.babel_value.specs.declared.keys.Source.{Source}
 use Rattle.babel_value.specs.Addresses.{family_of}
 use Rattle.babel_value.specs.Orders.{source_cmp}
 use Rattle.babel_value.specs.Prefixes.{PrefixValue}
-use Rattle.babel_packet.specs.declared.messages.Message.TheVariants as messages
-use Rattle.babel_route.specs.declared.routes.entries.Selection.{Selection}
-use Rattle.babel_route.specs.Routes.{key_of}
-use Rattle.babel_route.specs.Selections.{route_metric}
+use Rattle.babel_message.specs.declared.messages.Message.TheVariants as messages
+use Rattle.babel_choice.specs.declared.entries.Selection.{Selection}
+use Rattle.babel_choice.specs.Routes.{key_of}
+use Rattle.babel_choice.specs.Choices.{route_metric}
 use Rattle.babel_sources.specs.Sources.{Sources}
 use Rattle.babel_sources.specs.Rooms.{most_sources}
 use Rattle.babel_state.specs.declared.interfaces.InterfaceEntry.{InterfaceEntry}

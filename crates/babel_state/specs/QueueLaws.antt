@@ -1,7 +1,7 @@
 -- What is proved of the queue and of the items that mean nothing (profile).
 use Rattle.std.specs.Prelude.{◌≡◌, ℕ, Bool, true, false, List, [], ◌∷◌, ◌++◌, All, IsSome, is_none}
 use Rattle.std.specs.List.{list_all}
-use Rattle.babel_packet.specs.declared.messages.Message.{Message}
+use Rattle.babel_message.specs.declared.messages.Message.{Message}
 use Rattle.babel_packet.specs.Encodable.{is_encodable}
 use Rattle.babel_state.specs.declared.items.Item.{Item}
 use Rattle.babel_state.specs.declared.items.Outgoing.{Outgoing}

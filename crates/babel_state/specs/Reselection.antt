@@ -7,9 +7,10 @@ use Rattle.babel_value.specs.declared.keys.Peer.{Peer}
 use Rattle.babel_value.specs.declared.keys.Source.{Source}
 use Rattle.babel_value.specs.Prefixes.{PrefixValue}
 use Rattle.babel_value.specs.Seqnos.{next_seqno}
-use Rattle.babel_route.specs.declared.routes.entries.Selection.{Selection}
-use Rattle.babel_route.specs.Routes.{Route}
-use Rattle.babel_route.specs.Selections.{routes_of, is_feasible_route, reselected}
+use Rattle.babel_choice.specs.declared.entries.Selection.{Selection}
+use Rattle.babel_choice.specs.Routes.{Route}
+use Rattle.babel_choice.specs.Choices.{routes_of, is_feasible_route}
+use Rattle.babel_route.specs.Selections.{reselected}
 use Rattle.babel_sources.specs.Sources.{Sources}
 use Rattle.babel_state.specs.declared.items.Item.{Item}
 use Rattle.babel_state.specs.declared.items.Item.TheVariants as items

@@ -11,9 +11,9 @@ use Rattle.babel_value.specs.Orders.{source_cmp}
 use Rattle.babel_value.specs.Prefixes.{PrefixValue}
 use Rattle.babel_value.specs.Metrics.{infinity}
 use Rattle.babel_value.specs.Seqnos.{seqno_modulus}
-use Rattle.babel_packet.specs.declared.messages.Message.{Message}
-use Rattle.babel_packet.specs.declared.messages.Message.TheVariants as messages
-use Rattle.babel_route.specs.declared.routes.entries.Entry.{Entry}
+use Rattle.babel_message.specs.declared.messages.Message.{Message}
+use Rattle.babel_message.specs.declared.messages.Message.TheVariants as messages
+use Rattle.babel_choice.specs.declared.entries.Entry.{Entry}
 use Rattle.babel_sources.specs.Distances.{is_feasible, better_pair}
 use Rattle.babel_state.specs.declared.configs.Config.{Config}
 use Rattle.babel_state.specs.declared.selected.Selected.{Selected}

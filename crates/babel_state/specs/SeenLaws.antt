@@ -2,9 +2,9 @@
 use Rattle.std.specs.Prelude.{◌≡◌, ◌≤◌, ◌⊎◌, ℕ, Bool, true, false, List, [], All, Some, None, Result, Ok}
 use Rattle.babel_value.specs.declared.keys.Peer.{Peer}
 use Rattle.babel_value.specs.Prefixes.{PrefixValue}
-use Rattle.babel_packet.specs.declared.messages.Message.{Message}
-use Rattle.babel_packet.specs.declared.placements.Placed.{Placed}
-use Rattle.babel_packet.specs.declared.errors.Refusal.{Refusal}
+use Rattle.babel_message.specs.declared.messages.Message.{Message}
+use Rattle.babel_message.specs.declared.placements.Placed.{Placed}
+use Rattle.babel_message.specs.declared.errors.Refusal.{Refusal}
 use Rattle.babel_packet.specs.Encodable.{is_encodable}
 use Rattle.babel_packet.specs.Meaning.{messages_of}
 use Rattle.babel_state.specs.declared.configs.Config.{Config}

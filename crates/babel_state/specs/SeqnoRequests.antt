@@ -6,9 +6,9 @@ use Rattle.babel_value.specs.declared.keys.Source.{Source}
 use Rattle.babel_value.specs.Prefixes.{PrefixValue}
 use Rattle.babel_value.specs.Seqnos.{next_seqno, is_before}
 use Rattle.babel_value.specs.Metrics.{infinity}
-use Rattle.babel_route.specs.declared.routes.entries.Selection.{Selection}
-use Rattle.babel_route.specs.Routes.{Route, RouteEntries}
-use Rattle.babel_route.specs.Selections.{routes_of, is_feasible_route}
+use Rattle.babel_choice.specs.declared.entries.Selection.{Selection}
+use Rattle.babel_choice.specs.Routes.{Route, RouteEntries}
+use Rattle.babel_choice.specs.Choices.{routes_of, is_feasible_route}
 use Rattle.babel_state.specs.declared.notes.Verdict.TheVariants.{Taken, Redundant, NotForwarded}
 use Rattle.babel_state.specs.declared.requests.Resend.TheVariants.{Never}
 use Rattle.babel_state.specs.Sameness.{is_same_router, is_same_peer}

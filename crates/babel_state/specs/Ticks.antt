@@ -7,7 +7,7 @@ use Rattle.babel_value.specs.Moments.{later}
 use Rattle.babel_value.specs.Prefixes.{PrefixValue}
 use Rattle.babel_link.specs.Neighbours.{tick_of, gone_of, peers_of}
 use Rattle.babel_table.specs.Entries.{revised_entries}
-use Rattle.babel_route.specs.Routes.{expired}
+use Rattle.babel_choice.specs.Routes.{expired}
 use Rattle.babel_sources.specs.Sources.{collected}
 use Rattle.babel_state.specs.declared.interfaces.InterfaceEntry.{InterfaceEntry}
 use Rattle.babel_state.specs.declared.items.Item.{Item}

@@ -11,7 +11,7 @@ use Rattle.babel_value.specs.Prefixes.{PrefixValue}
 use Rattle.babel_value.specs.Seqnos.{is_before}
 use Rattle.babel_sources.specs.Distances.{is_feasible}
 use Rattle.babel_table.specs.Entries.{without}
-use Rattle.babel_route.specs.Routes.{updated, retracted, retracted_all, has_routes_from}
+use Rattle.babel_choice.specs.Routes.{updated, retracted, retracted_all, has_routes_from}
 use Rattle.babel_route.specs.Selections.{places_taken}
 use Rattle.babel_route.specs.Rooms.{most_routes}
 use Rattle.babel_state.specs.declared.notes.Verdict.TheVariants as verdicts

@@ -4,7 +4,7 @@
 ghost use Rattle.std.specs.Prelude.{◌≡◌, codes};
 ghost use Rattle.babel_state.specs.Codes.{config_code, restore_code, set_cost_code, recv_code};
 
-use babel_packet::Refusal;
+use babel_message::Refusal;
 use thiserror::Error;
 
 /// Why no speaker can be made of a configuration, in the order in which the causes are tested.

@@ -1,6 +1,6 @@
 //! What a speaker has queued: the items that wait to be sent, and where they go.
 
-use babel_packet::Message;
+use babel_message::Message;
 use babel_value::{Addr, Peer, Prefix, Seqno, Source};
 
 /// Where a datagram goes.

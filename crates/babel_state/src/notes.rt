@@ -1,6 +1,6 @@
 //! What `receive` returns of a datagram that it takes: a note for each TLV.
 
-use babel_packet::Reason;
+use babel_message::Reason;
 use babel_value::Distance;
 
 /// What became of a TLV.

@@ -1,6 +1,6 @@
 -- Own prefixes, a flushed neighbour, and what is pending (examples; profile).
 use Rattle.std.specs.Prelude.{ℕ, [], false}
-use Rattle.babel_packet.specs.declared.messages.Message.TheVariants as messages
+use Rattle.babel_message.specs.declared.messages.Message.TheVariants as messages
 use Rattle.babel_state.specs.declared.items.Item.{Item}
 use Rattle.babel_state.specs.declared.items.Item.TheVariants as items
 use Rattle.babel_state.specs.Queueing.{Pending, queued_at_once}

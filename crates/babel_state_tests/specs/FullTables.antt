@@ -3,9 +3,9 @@ use Rattle.std.specs.Prelude.{ℕ, ◌/◌, ◌%◌, List, [], ◌∷◌, map}
 use Rattle.std.specs.List.{range_with_len}
 use Rattle.babel_value.specs.declared.addresses.Addr.TheVariants.{V4}
 use Rattle.babel_value.specs.declared.keys.Source.{Source}
-use Rattle.babel_route.specs.declared.routes.entries.Entry.{Entry}
+use Rattle.babel_choice.specs.declared.entries.Entry.{Entry}
 use Rattle.babel_sources.specs.declared.sources.SourceEntry.{SourceEntry}
-use Rattle.babel_route.specs.Routes.{RouteEntries, key_of}
+use Rattle.babel_choice.specs.Routes.{RouteEntries, key_of}
 use Rattle.babel_state.specs.declared.requests.PendingRequest.{PendingRequest}
 use Rattle.babel_state.specs.declared.requests.Resend.TheVariants.{Never}
 use Rattle.babel_state.specs.State.{State}

@@ -2,8 +2,8 @@
 use Rattle.std.specs.Prelude.{ℕ, ◌+◌, [], Option}
 use Rattle.std.specs.Option.{option_map}
 use Rattle.babel_value.specs.declared.keys.Peer.{Peer}
-use Rattle.babel_packet.specs.declared.messages.Message.TheVariants as messages
-use Rattle.babel_route.specs.declared.routes.entries.Selection.{Selection}
+use Rattle.babel_message.specs.declared.messages.Message.TheVariants as messages
+use Rattle.babel_choice.specs.declared.entries.Selection.{Selection}
 use Rattle.babel_route.specs.Selections.{choice_at}
 use Rattle.babel_state.specs.State.{State, announces, cost_at, selected_at}
 use Rattle.babel_state.specs.declared.items.Item.{Item}

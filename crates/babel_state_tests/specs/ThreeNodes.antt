@@ -1,7 +1,7 @@
 -- Three speakers on one link, of which the middle one loses the origin (example; profile). Datagram k is `d_k`, as its messages; the
 -- states of the nodes 0, 1 and 2 are `a`, `b` and `c`.
 use Rattle.std.specs.Prelude.{ℕ, ◌+◌, List, [], ◌∷◌, Some}
-use Rattle.babel_packet.specs.declared.messages.Message.{Message}
+use Rattle.babel_message.specs.declared.messages.Message.{Message}
 use Rattle.babel_state.specs.State.{State}
 use Rattle.babel_state.specs.Messages.{handle_message}
 use Rattle.babel_state.specs.Ticks.{ticked}

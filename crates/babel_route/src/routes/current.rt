@@ -7,8 +7,7 @@ ghost use Rattle.babel_table.specs.Entries.{with_value};
 ghost use Rattle.babel_route.specs.Currency.{is_same_distance, is_same_entry, is_same_selection, is_current};
 
 use super::RoutesOver;
-use super::choices::{Costs, choose};
-use crate::{Cursor, Entry, RouteKey, Selection};
+use babel_choice::{Costs, Cursor, Entry, RouteKey, Selection, choose};
 use babel_sources::{SourceEntry, SourcesOver};
 use babel_table::{Table, find_near, set_near};
 use babel_value::{Distance, Prefix, Source};

@@ -6,15 +6,14 @@ ghost use Rattle.std.specs.FinMap.{find};
 ghost use Rattle.babel_value.specs.Orders.{prefix_cmp};
 ghost use Rattle.babel_table.specs.Entries.{without};
 ghost use Rattle.babel_route.specs.Currency.{is_current};
-ghost use Rattle.babel_route.specs.PrefixBounds.{is_before};
+ghost use Rattle.babel_choice.specs.PrefixBounds.{is_before};
 ghost use Rattle.babel_route.specs.PrefixWalks.{without_prefix, are_from};
 ghost use Rattle.babel_route.specs.RouteLaws.{is_among};
 ghost use Rattle.babel_route.specs.Selections.{prefixes_of};
 
-use super::choices::{Costs, first_from, peer_of, selection_at};
 use super::current::is_same_selection;
 use super::lesser_prefix;
-use crate::{Entry, RouteKey, Selection};
+use babel_choice::{Costs, Entry, RouteKey, Selection, first_from, peer_of, selection_at};
 use babel_sources::{SourceEntry, SourcesOver};
 use babel_table::Table;
 use babel_value::{Prefix, Source};

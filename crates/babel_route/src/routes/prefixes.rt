@@ -6,8 +6,7 @@ ghost use Rattle.babel_value.specs.Orders.{prefix_cmp};
 ghost use Rattle.babel_route.specs.Rooms.{most_listed_prefixes};
 ghost use Rattle.babel_route.specs.PrefixLists.{gathered};
 
-use super::walks::{AllRoutes, AllSelections};
-use crate::{Entry, RouteKey, Selection};
+use babel_choice::{AllRoutes, AllSelections, Entry, RouteKey, Selection};
 use babel_table::{Memory, SortedTable, Table};
 use babel_value::Prefix;
 use std::alloc::Global;

@@ -7,15 +7,15 @@ ghost use Rattle.std.specs.FinMap.{find, put};
 ghost use Rattle.babel_value.specs.declared.keys.Peer.{Peer};
 ghost use Rattle.babel_value.specs.Orders.{prefix_cmp, peer_cmp};
 ghost use Rattle.babel_table.specs.Entries.{with_value};
-ghost use Rattle.babel_route.specs.RouteKeys.{route_cmp};
-ghost use Rattle.babel_route.specs.Routes.{key_of, entry_of_update, updated};
+ghost use Rattle.babel_choice.specs.RouteKeys.{route_cmp};
+ghost use Rattle.babel_choice.specs.Routes.{key_of, entry_of_update, updated};
 ghost use Rattle.babel_sources.specs.Sources.{Sources};
 ghost use Rattle.babel_route.specs.Selections.{selection_at, reselected, IsCurrent};
 ghost use Rattle.babel_route.specs.Repeats.{is_repeated, refreshed};
 
 use super::RoutesOver;
 use super::current::is_same_entry;
-use crate::{Cursor, Entry, RouteKey, Selection};
+use babel_choice::{Cursor, Entry, RouteKey, Selection};
 use babel_table::{Key, Table, find_near};
 use babel_value::{Addr, Distance, Peer, Prefix, RouterId, hold_time};
 

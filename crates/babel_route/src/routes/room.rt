@@ -3,11 +3,11 @@
 ghost use Rattle.std.specs.Prelude.{◌≡◌, ◌+◌, ◌≤◌, false, not, length, slice_get, nat_le};
 ghost use Rattle.std.specs.Option.{option_map_or};
 ghost use Rattle.babel_route.specs.Rooms.{most_routes};
-ghost use Rattle.babel_route.specs.Selections.{has_entry, orphans};
+ghost use Rattle.babel_choice.specs.Choices.{has_entry};
+ghost use Rattle.babel_route.specs.Selections.{orphans};
 
 use super::ROUTE_PLACES;
-use super::walks::PrefixRoutes;
-use crate::{Entry, RouteKey, Selection};
+use babel_choice::{Entry, PrefixRoutes, RouteKey, Selection};
 use babel_table::Table;
 use babel_value::Prefix;
 

@@ -1,7 +1,7 @@
 //! Routes that become unfeasible (RFC 8966, sections 3.8.2.1 and 3.8.2.2).
 
 ghost use Rattle.std.specs.Prelude.{◌≡◌, true, false, [], ◌∷◌, Some, None};
-ghost use Rattle.babel_packet.specs.declared.messages.Message.TheVariants as messages;
+ghost use Rattle.babel_message.specs.declared.messages.Message.TheVariants as messages;
 ghost use Rattle.babel_state.specs.declared.items.Item.TheVariants as items;
 ghost use Rattle.babel_state.specs.declared.notes.Verdict.TheVariants as verdicts;
 ghost use Rattle.babel_state.specs.declared.requests.PendingRequest.{PendingRequest};

@@ -1,7 +1,7 @@
 //! Three speakers in a line.
 
 ghost use Rattle.std.specs.Prelude.{◌≡◌, false, [], ◌∷◌, Some, None};
-ghost use Rattle.babel_packet.specs.declared.messages.Message.TheVariants as messages;
+ghost use Rattle.babel_message.specs.declared.messages.Message.TheVariants as messages;
 ghost use Rattle.babel_state.specs.declared.items.Item.TheVariants as items;
 ghost use Rattle.babel_state.specs.declared.requests.Resend.TheVariants.{Unfeasible};
 ghost use Rattle.babel_state_tests.specs.ExampleStates.{router, addr, peer, ten, ten_of, pair, to_all, queued_items};

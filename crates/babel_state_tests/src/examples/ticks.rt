@@ -1,7 +1,7 @@
 //! What time brings.
 
 ghost use Rattle.std.specs.Prelude.{◌≡◌, false, [], ◌∷◌, Some, None};
-ghost use Rattle.babel_packet.specs.declared.messages.Message.TheVariants as messages;
+ghost use Rattle.babel_message.specs.declared.messages.Message.TheVariants as messages;
 ghost use Rattle.babel_state.specs.declared.items.Item.TheVariants as items;
 ghost use Rattle.babel_state.specs.Ticks.{ticked, routes_selected, sources_ticked};
 ghost use Rattle.babel_state_tests.specs.ExampleStates.{router, addr, peer, ten, net, ten_of, pair, to_all, interface, with_pending, queued_items, datagram};

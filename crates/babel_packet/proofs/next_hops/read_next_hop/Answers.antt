@@ -2,7 +2,7 @@
 use Rattle.std.proofs.Common.{◌≡◌, ℕ, ◌≤◌, List, length, drop, nat_lt, false, refl, arith}
 use Rattle.std.proofs.lemmas.Bool.{le-ltb}
 use Rattle.std.proofs.lemmas.Slice.{between_to_end}
-use Rattle.babel_packet.specs.declared.placements.Content.TheVariants.{State}
+use Rattle.babel_message.specs.declared.placements.Content.TheVariants.{State}
 use Rattle.babel_packet.specs.Numbers.{octet}
 use Rattle.babel_packet.specs.Tails.{after_tail}
 use Rattle.babel_packet.specs.NextHops.{next_hop, next_hop_of}

@@ -1,7 +1,7 @@
 -- The choice is the first of the candidates, and each of those is a route of the table.
 use Rattle.std.proofs.Common.{refl}
 use Rattle.babel_table.specs.Firsts.{first_of}
-use Rattle.babel_route.specs.Selections.{candidates, preference, peer_before}
+use Rattle.babel_choice.specs.Choices.{candidates, preference, peer_before}
 use Rattle.babel_table.proofs.FirstLemmas.{first_is_first}
 use Rattle.babel_route.proofs.CurrentLemmas.{preference_total, chosen_is_candidate}
 use Rattle.babel_route.proofs.laws.choices_are_first.Goals as goal

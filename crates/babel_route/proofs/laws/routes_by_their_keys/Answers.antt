@@ -4,10 +4,10 @@ use Rattle.std.specs.Option.{option_map_or}
 use Rattle.std.specs.Ordering.{is_eq}
 use Rattle.std.specs.FinMap.{find, put}
 use Rattle.std.specs.FinMap.Entries.{find-put}
-use Rattle.babel_route.specs.declared.routes.entries.RouteKey.{RouteKey}
-use Rattle.babel_route.specs.declared.routes.entries.Entry.{Entry}
-use Rattle.babel_route.specs.RouteKeys.{route_cmp, route_total, route_exact}
-use Rattle.babel_route.specs.Routes.{RouteEntries, key_of, entry_of_update, retracted_entry, retracted_from, kept_without, expired_entry}
+use Rattle.babel_choice.specs.declared.entries.RouteKey.{RouteKey}
+use Rattle.babel_choice.specs.declared.entries.Entry.{Entry}
+use Rattle.babel_choice.specs.RouteKeys.{route_cmp, route_total, route_exact}
+use Rattle.babel_choice.specs.Routes.{RouteEntries, key_of, entry_of_update, retracted_entry, retracted_from, kept_without, expired_entry}
 use Rattle.babel_table.proofs.PlaceLemmas.{find_revised}
 use Rattle.babel_table.proofs.LookupLemmas.{equal}
 use Rattle.babel_route.proofs.laws.routes_by_their_keys.Goals as goal

@@ -1,6 +1,6 @@
 -- No route so far is of the neighbour.
 use Rattle.std.proofs.Common.{◌≡◌}
-use Rattle.babel_route.specs.Routes.{has_routes_from}
+use Rattle.babel_choice.specs.Routes.{has_routes_from}
 use Rattle.babel_route.proofs.routes.has_routes_from.Given as goal
 
 abbrev pub invariant-loop-route : goal.invariant-loop-route

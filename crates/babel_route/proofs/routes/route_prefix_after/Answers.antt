@@ -1,6 +1,6 @@
 -- The route at the place is the first beyond the bound.
 use Rattle.std.proofs.Common.{sym}
-use Rattle.babel_route.specs.RouteKeys.{route_cmp}
+use Rattle.babel_choice.specs.RouteKeys.{route_cmp}
 use Rattle.babel_route.proofs.BeyondLemmas.{route_prefix_rises, least_beyond, none_beyond}
 use Rattle.babel_route.proofs.routes.route_prefix_after.Goals as goal
 

@@ -6,7 +6,7 @@ use Rattle.babel_state.specs.Addresses.{transport_of, transport_at}
 use Rattle.babel_state.specs.declared.interfaces.InterfaceEntry.{InterfaceEntry}
 use Rattle.babel_state.specs.NextDatagram.{Draft, next_datagram, drafted}
 use Rattle.babel_speaker.specs.Sending.{fits_by, fits_at, draft_to, empty_datagram, built_of, IsFilled}
-use Rattle.babel_core.specs.SentMessages.{no_draft}
+use Rattle.babel_calls.specs.SentMessages.{no_draft}
 use Rattle.babel_speaker.proofs.NextDatagrams.{silent_if_none, speaks_if_some, transport_there, next_none, next_stays, next_begins, first_added, filled_means, alone_encoded}
 use Rattle.babel_speaker.proofs.sending.next_datagram.Goals as goal
 
@@ -36,13 +36,13 @@ at : (c : goal.After-write_to) → transport_at c.in-Some.target.iface c.args.co
 at c = ap (λ (xs : List InterfaceEntry). option_and_then transport_of (slice_get xs c.in-Some.target.iface)) (sym c.skip_silent.ensures.interfaces) ∙ sym c.in-Some-transport.ensures
 
 next : (c : goal.After-write_to) → next_datagram c.args.now (fits_by c.args.core.now) c.args.core.now
-    ≡ drafted c.args.now (fits_at (empty_datagram c.in-Some-transport.source)) c.remove_first_item.new.self.pending.items (draft_to c.in-Some.target c.remove_first_item.new.self (c.in-Some.message ∷ []))
+    ≡ drafted c.args.now (fits_at (empty_datagram c.in-Some-transport.source)) c.remove_first_item.new.core.pending.items (draft_to c.in-Some.target c.remove_first_item.new.core (c.in-Some.message ∷ []))
 next c =
-    next_begins c.args.now c.args.core.now c.skip_silent.new.core c.send_message.new.self c.remove_first_item.new.self c.in-Some.target c.in-Some.message c.in-Some-transport.source
+    next_begins c.args.now c.args.core.now c.skip_silent.new.core c.send_message.new.core c.remove_first_item.new.core c.in-Some.target c.in-Some.message c.in-Some-transport.source
     (c.skip_silent.ensures.draft c.args.now _) (sym c.in-Some.ensures.message) (at c) (begins c).0 c.send_message.ensures.state c.send_message.ensures.pending c.remove_first_item.ensures
 
 filled : (c : goal.After-write_to) → IsFilled (empty_datagram c.in-Some-transport.source) (c.in-Some.message ∷ []) c.in-Some.target
-    (drafted c.args.now (fits_at (empty_datagram c.in-Some-transport.source)) c.remove_first_item.new.self.pending.items (draft_to c.in-Some.target c.remove_first_item.new.self (c.in-Some.message ∷ [])))
+    (drafted c.args.now (fits_at (empty_datagram c.in-Some-transport.source)) c.remove_first_item.new.core.pending.items (draft_to c.in-Some.target c.remove_first_item.new.core (c.in-Some.message ∷ [])))
     c.fill.new.core c.add.new.self c.fill.new.builder
 filled c = c.fill.ensures.filled (empty_datagram c.in-Some-transport.source) (c.in-Some.message ∷ []) (begins c).1
 

@@ -1,7 +1,7 @@
 -- The list is that of the prefixes that the definition reads.
 use Rattle.std.specs.Prelude.{◌++◌, [], map}
 use Rattle.std.proofs.Common.{ap, ◌∙◌}
-use Rattle.babel_parts.specs.TickItems.{all_timers_of}
+use Rattle.babel_steps.specs.TickItems.{all_timers_of}
 use Rattle.babel_state.specs.State.{State, PrefixSet, gathered, prefixes_in, reachable_prefixes}
 use Rattle.babel_core.proofs.TickLists.{same_timers}
 use Rattle.babel_core.proofs.speaker_core.Core.gather_due.Goals as goal

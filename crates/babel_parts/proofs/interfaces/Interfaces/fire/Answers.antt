@@ -1,6 +1,6 @@
 use Rattle.std.proofs.Common.{sym, ◌∙◌, ap, slice_set}
 use Rattle.babel_state.specs.Ticks.{fired}
-use Rattle.babel_parts.proofs.TickLists.{one_mapped}
+use Rattle.babel_parts.proofs.Firing.{one_mapped}
 use Rattle.babel_parts.proofs.interfaces.Interfaces.fire.Goals as goal
 
 pub returns-clause-mapped : goal.returns-clause-mapped

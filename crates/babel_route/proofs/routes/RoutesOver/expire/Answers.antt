@@ -1,6 +1,6 @@
 -- An expiry takes no place.
 use Rattle.std.proofs.Common.{◌≡◌, ◌∙◌, sym, ap, subst}
-use Rattle.babel_route.specs.Routes.{expired, expired_entry}
+use Rattle.babel_choice.specs.Routes.{expired, expired_entry}
 use Rattle.babel_route.specs.Selections.{RoutesValue}
 use Rattle.babel_route.proofs.DueLemmas.{quiet_expiry}
 use Rattle.babel_route.proofs.RoomLemmas.{revised_within}

@@ -1,6 +1,6 @@
 -- A flush takes no place.
 use Rattle.std.proofs.Common.{◌∙◌}
-use Rattle.babel_route.specs.Routes.{kept_without}
+use Rattle.babel_choice.specs.Routes.{kept_without}
 use Rattle.babel_route.proofs.RoomLemmas.{revised_within}
 use Rattle.babel_route.proofs.routes.RoutesOver.forget.Goals as goal
 

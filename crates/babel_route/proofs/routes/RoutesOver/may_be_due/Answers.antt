@@ -1,7 +1,7 @@
 -- Before the least moment no route is due.
 use Rattle.std.proofs.Common.{◌≡◌, subst}
 use Rattle.std.proofs.lemmas.Bool.{leb-false}
-use Rattle.babel_route.specs.Routes.{expired}
+use Rattle.babel_choice.specs.Routes.{expired}
 use Rattle.babel_route.specs.Selections.{RoutesValue}
 use Rattle.babel_route.proofs.DueLemmas.{quiet_expiry}
 use Rattle.babel_route.proofs.routes.RoutesOver.may_be_due.Goals as goal

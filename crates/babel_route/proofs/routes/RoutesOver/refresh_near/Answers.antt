@@ -3,10 +3,11 @@ use Rattle.std.proofs.Common.{◌≡◌, ◌∙◌, arith, sym, ap, subst, true,
 use Rattle.std.specs.FinMap.{find, put}
 use Rattle.babel_value.specs.Moments.{later}
 use Rattle.babel_value.specs.Orders.{prefix_cmp}
-use Rattle.babel_route.specs.declared.routes.entries.Entry.{Entry}
-use Rattle.babel_route.specs.RouteKeys.{route_cmp}
-use Rattle.babel_route.specs.Routes.{RouteEntries, key_of, entry_of_update, updated}
-use Rattle.babel_route.specs.Selections.{RoutesValue, has_entry, reselected, IsCurrent}
+use Rattle.babel_choice.specs.declared.entries.Entry.{Entry}
+use Rattle.babel_choice.specs.RouteKeys.{route_cmp}
+use Rattle.babel_choice.specs.Routes.{RouteEntries, key_of, entry_of_update, updated}
+use Rattle.babel_choice.specs.Choices.{has_entry}
+use Rattle.babel_route.specs.Selections.{RoutesValue, reselected, IsCurrent}
 use Rattle.babel_route.specs.Repeats.{is_repeated, refreshed}
 use Rattle.babel_route.proofs.CurrentLemmas.{selected_here}
 use Rattle.babel_route.proofs.RoomLemmas.{put_within, selected_within}

@@ -1,6 +1,6 @@
 -- An entry that is retracted has a place already.
 use Rattle.std.proofs.Common.{◌∙◌, arith, sym, subst, IsNone, true≢false}
-use Rattle.babel_route.specs.Routes.{key_of}
+use Rattle.babel_choice.specs.Routes.{key_of}
 use Rattle.babel_route.proofs.RoomLemmas.{put_within}
 use Rattle.babel_route.proofs.DueLemmas.{put_due}
 use Rattle.babel_route.proofs.routes.RoutesOver.retract.Goals as goal

@@ -1,6 +1,6 @@
 -- A retraction takes no place, and changes nothing where the neighbour told nothing.
 use Rattle.std.proofs.Common.{◌≡◌, ◌∙◌, sym, ap, subst}
-use Rattle.babel_route.specs.Routes.{retracted_from, retracted_all}
+use Rattle.babel_choice.specs.Routes.{retracted_from, retracted_all}
 use Rattle.babel_route.specs.Selections.{RoutesValue}
 use Rattle.babel_route.proofs.RoomLemmas.{revised_within}
 use Rattle.babel_route.proofs.RetractionLemmas.{nothing_retracted}

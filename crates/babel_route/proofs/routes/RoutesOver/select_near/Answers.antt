@@ -3,7 +3,8 @@ use Rattle.std.specs.FinMap.{find}
 use Rattle.std.proofs.Common.{◌∙◌, sym, ap, subst, length, ◌<◌}
 use Rattle.babel_value.specs.Orders.{prefix_cmp}
 use Rattle.babel_table.specs.Entries.{with_value}
-use Rattle.babel_route.specs.Selections.{RoutesValue, Selections, choice, reselected}
+use Rattle.babel_choice.specs.Choices.{Selections, choice}
+use Rattle.babel_route.specs.Selections.{RoutesValue, reselected}
 use Rattle.babel_route.proofs.CurrentLemmas.{selects_first, selected_here}
 use Rattle.babel_route.proofs.RoomLemmas.{selection_fits_new, selected_within}
 use Rattle.babel_route.proofs.routes.RoutesOver.select_near.Goals as goal

@@ -1,8 +1,8 @@
 -- An update takes a place only if its key is new, and then one is free.
 use Rattle.std.proofs.Common.{◌∙◌, arith, sym, ap, is_some, true≢false}
 use Rattle.std.proofs.lemmas.Bool.{leb-false}
-use Rattle.babel_route.specs.declared.routes.entries.Entry.{Entry}
-use Rattle.babel_route.specs.Routes.{key_of}
+use Rattle.babel_choice.specs.declared.entries.Entry.{Entry}
+use Rattle.babel_choice.specs.Routes.{key_of}
 use Rattle.babel_route.proofs.RoomLemmas.{put_within}
 use Rattle.babel_route.proofs.DueLemmas.{put_due}
 use Rattle.babel_route.proofs.routes.RoutesOver.update_near.Goals.{else-is_none-via-then-is_none+else-is_crowded, else-is_none-via-else-is_none}

@@ -2,7 +2,7 @@
 use Rattle.std.proofs.Common.{sym, ap, ◌∙◌}
 use Rattle.std.specs.Ordering.{is_eq}
 use Rattle.babel_route.proofs.PrefixWalkLemmas.{selection_here, selection_beyond, selection_past}
-use Rattle.babel_route.proofs.RunLemmas.{drop_past}
+use Rattle.babel_choice.proofs.RunLemmas.{drop_past}
 use Rattle.babel_route.proofs.routes.prefix_walk.selection_from.Goals.{in_default-via-in-Some+else-is_eq, in_default-via-in_default}
 use Rattle.babel_route.proofs.routes.prefix_walk.selection_from.Goals as goal
 

@@ -1,6 +1,6 @@
 -- The walk over the routes of the prefix gives one exactly where there is one.
 use Rattle.std.proofs.Common.{sym, ◌∙◌}
-use Rattle.babel_route.proofs.RoomLemmas.{some_route, no_route}
+use Rattle.babel_choice.proofs.ChoiceLemmas.{some_route, no_route}
 use Rattle.babel_route.proofs.routes.room.has_entry.Goals as goal
 
 pub returns-in-Some : goal.returns-in-Some

@@ -1,5 +1,0 @@
-//! Tests of building datagrams.
-#![tactic(auto)]
-
-#[cfg(test)]
-mod build_tests;

@@ -1,0 +1,4 @@
+pub mod FirstStates
+pub mod SettledSends
+pub mod Restoring
+pub mod SentUpdates

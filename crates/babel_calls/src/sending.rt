@@ -1,0 +1,147 @@
+//! What is needed of a state to send its pending items, and what a message that is sent changes (RFC 8966, sections
+//! 3.4.1 and 3.7.3).
+
+ghost use Rattle.std.specs.Prelude.{◌≡◌, None, true, Some, slice_get, IsTrue};
+ghost use Rattle.babel_message.specs.declared.messages.Message.{Message};
+ghost use Rattle.babel_state.specs.Addresses.{transport_at};
+ghost use Rattle.babel_state.specs.CurrentSelections.{AreCurrent};
+ghost use Rattle.babel_state.specs.State.{with_interface};
+ghost use Rattle.babel_state.specs.NextDatagram.{next_hello, left_out_more, after_message};
+ghost use Rattle.babel_calls.specs.SentMessages.{HasRoomFor, changes_a_pair, is_named_current, without_front};
+
+use crate::outgoing_messages::interface_entry;
+use babel_choice::Cursor;
+use babel_core::Core;
+use babel_message::Message;
+use babel_parts::LinkCosts;
+use babel_parts::sources::address_of;
+use babel_state::{Item, Target};
+use babel_value::{Addr, Distance, Source};
+
+/// The own address from which datagrams of the interface are sent, if the interface exists.
+pub fn transport(core: &Core, iface: u8) -> Option<Addr>
+    ensures { result ≡ transport_at iface core.now }
+{
+    let interface = core.interfaces.get(iface)?;
+    address_of(interface.transport, &interface)
+}
+
+/// Uses up the seqno of the interface's next Hello (RFC 8966, section 3.4.1).
+fn use_hello_seqno(core: &mut Core, iface: u8)
+    ensures state { core.new ≡ with_interface iface next_hello core.old }
+{
+    if let Some(mut interface) = interface_entry(core, iface) {
+        interface.hello_seqno = interface.hello_seqno.next();
+        core.interfaces.set(iface, interface);
+    }
+}
+
+/// Whether the message, if it is sent, changes the feasibility distance of its source (RFC 8966, section 3.7.3).
+fn changes_a_pair(core: &Core, message: &Message, cursor: &mut Cursor) -> bool
+    ensures { result ≡ changes_a_pair message.now core.now }
+{
+    match *message {
+        Message::Update {
+            prefix,
+            router,
+            seqno,
+            metric,
+            ..
+        } => {
+            let source = Source { prefix, router };
+            let sent = Distance { seqno, metric };
+            match core.sources.pair_near(&source, &mut cursor.source) {
+                Some(pair) => sent.better(pair),
+                None => true,
+            }
+        }
+        _ => false,
+    }
+}
+
+/// The changes by a message that is sent: a Hello uses up its seqno, and an Update lowers the
+/// feasibility distance of its source (RFC 8966, sections 3.4.1 and 3.7.3).
+#[tactic(auto, unfolding(babel_state::specs::NextDatagram::after_message))]
+fn apply_message(core: &mut Core, now: u64, target: Target, message: &Message, cursor: &mut Cursor)
+    requires room { HasRoomFor core.old message.now }
+    ensures state { core.new ≡ after_message now target message.now core.old }
+    ensures pending { core.new.pending ≡ core.old.pending }
+{
+    match *message {
+        Message::Hello { .. } => use_hello_seqno(core, target.iface),
+        Message::Update {
+            prefix,
+            router,
+            seqno,
+            metric,
+            ..
+        } => {
+            let source = Source { prefix, router };
+            let sent = Distance { seqno, metric };
+            let _ = core
+                .sources
+                .lower_near(now, source, sent, &mut cursor.source);
+        }
+        _ => {}
+    }
+}
+
+/// Whether the selection of the prefix that an Update names is current.
+fn is_named_current(core: &Core, message: &Message, cursor: &mut Cursor) -> bool
+    ensures { result ≡ is_named_current message.now core.now }
+{
+    match *message {
+        Message::Update { prefix, .. } => {
+            let local = core.announces(&prefix);
+            let costs = LinkCosts::new(&core.interfaces, &core.neighbours);
+            core.routes
+                .is_current_near(&prefix, local, &core.sources, &costs, cursor)
+        }
+        _ => true,
+    }
+}
+
+/// The same. If the speaker is settled, it stays so unless the message changes the feasibility distance of its source
+/// and then the selection of its prefix is no longer current.
+#[tactic(auto, using(crate::proofs::SettledSends::sent_current, crate::proofs::SettledSends::sent_but_current))]
+pub fn send_message(
+    core: &mut Core,
+    now: u64,
+    target: Target,
+    message: &Message,
+    settled: &mut bool,
+    cursor: &mut Cursor,
+)
+    requires room { HasRoomFor core.old message.now }
+    requires settled { IsTrue settled.old → AreCurrent core.old }
+    ensures state { core.new ≡ after_message now target message.now core.old }
+    ensures pending { core.new.pending ≡ core.old.pending }
+    ensures current { IsTrue settled.new → AreCurrent core.new }
+{
+    let changes = *settled && changes_a_pair(core, message, cursor);
+    apply_message(core, now, target, message, cursor);
+    if changes && !is_named_current(core, message, cursor) {
+        *settled = false;
+    }
+}
+
+/// An Update was left out, since the source table has no room.
+pub fn leave_out(core: &mut Core)
+    ensures { core.new ≡ left_out_more core.old }
+{
+    core.left_out = core.left_out.saturating_add(1);
+}
+
+/// The oldest pending item.
+pub fn first_item(core: &Core) -> Option<Item>
+    ensures { result ≡ slice_get core.now.pending.items 0 }
+{
+    core.pending.front()
+}
+
+/// Removes the oldest pending item.
+pub fn remove_first_item(core: &mut Core)
+    ensures { core.new ≡ without_front core.old }
+{
+    core.pending.pop();
+}

@@ -1,0 +1,4 @@
+pub mod RouteKeys
+pub mod Routes
+pub mod Choices
+pub mod PrefixBounds

@@ -1,0 +1,246 @@
+//! The choice among the candidates of a prefix (RFC 8966, section 3.6).
+
+ghost use Rattle.std.specs.Prelude.{◌≡◌, ◌<◌, ℕ, true, not, drop, length, slice_get, option_and_then, Option, IfSome, IsSome, Some, None, option_map, if◌then◌else◌};
+ghost use Rattle.std.specs.List.{filter, list_all};
+ghost use Rattle.std.specs.Option.{option_map_or};
+ghost use Rattle.std.specs.Ordering.{is_lt};
+ghost use Rattle.babel_value.specs.declared.keys.Peer.{Peer};
+ghost use Rattle.babel_table.specs.Firsts.{first_of};
+ghost use Rattle.babel_choice.specs.PrefixBounds.{is_before};
+ghost use Rattle.babel_choice.specs.Choices.{others_of, rank_at, is_lesser_rank, routes_of, has_entry, choice, peer_before, is_candidate, is_change, is_feasible_route, route_metric, rank_of, rank_cmp, preference, selection_of};
+
+use crate::walks::is_of;
+use crate::{Before, Cursor, Entry, RouteKey, Selection};
+use babel_sources::{SourceEntry, SourcesOver};
+use babel_table::{Table, places_below_near};
+use babel_value::{Metric, Peer, Prefix, Source};
+use std::cmp::Ordering;
+
+/// The costs of the links to the neighbours now (RFC 8966, section 3.4.3).
+pub trait Costs {
+    ghost cost_of: { Self → Peer → ℕ };
+
+    /// The cost of the link to the neighbour.
+    fn cost(&self, peer: &Peer) -> Metric
+        ensures { result ≡ cost_of self.now peer.now };
+}
+
+/// The criteria between the candidates of a prefix, the first field first: the least rank is selected.
+#[derive(Clone, Copy, Debug, PartialEq, Eq, PartialOrd, Ord)]
+pub struct Rank {
+    /// The metric by the neighbour's present cost.
+    pub metric: Metric,
+    /// Whether the neighbour is another than the one selected before.
+    pub is_change: bool,
+    /// The neighbour.
+    pub peer: Peer,
+}
+
+/// A candidate: its metric and its index.
+#[derive(Clone, Copy)]
+struct Candidate {
+    metric: Metric,
+    place: usize,
+}
+
+/// The selection of the prefix after this one: the candidate that no other comes before, and none if
+/// the prefix is the speaker's own.
+pub fn choose<E: Table<RouteKey, Entry>, T: Table<Source, SourceEntry>, C: Costs>(
+    entries: &E,
+    prefix: &Prefix,
+    local: bool,
+    before: &Option<Selection>,
+    sources: &SourcesOver<T>,
+    costs: &C,
+    cursor: &mut Cursor,
+) -> Option<Selection>
+    ensures choice { result ≡ choice sources.now (C.cost_of costs.now) prefix.now local before.now (E.entries entries.now) }
+    ensures known { IsSome result → has_entry (E.entries entries.now) prefix.now ≡ true }
+{
+    if local {
+        return None;
+    }
+    let place = places_below_near(entries, cursor.entry, &Before { prefix: *prefix });
+    let near = &mut cursor.source;
+    let (first, end) = first_from(
+        entries,
+        place,
+        prefix,
+        peer_of(before),
+        sources,
+        costs,
+        near,
+    );
+    cursor.entry = end.wrapping_sub(1);
+    selection_at(entries, first)
+}
+
+/// The neighbour of the selection.
+pub fn peer_of(selection: &Option<Selection>) -> Option<Peer>
+    ensures { result ≡ peer_before selection.now }
+{
+    match selection {
+        Some(selection) => Some(selection.peer),
+        None => None,
+    }
+}
+
+/// The index of the candidate of the prefix that no other comes before, if this neighbour was selected before, and the
+/// index after the routes of the prefix. The first one is at the index `start`, or would be.
+pub fn first_from<E: Table<RouteKey, Entry>, T: Table<Source, SourceEntry>, C: Costs>(
+    entries: &E,
+    start: usize,
+    prefix: &Prefix,
+    before: Option<Peer>,
+    sources: &SourcesOver<T>,
+    costs: &C,
+    near: &mut usize,
+) -> (Option<usize>, usize)
+    requires { list_all (λ e. not (is_before prefix.now e.0.prefix)) (drop start (E.entries entries.now)) ≡ true }
+    ensures first { option_and_then (slice_get (E.entries entries.now)) result.0 ≡ first_of (preference (C.cost_of costs.now) before) (filter (is_candidate sources.now (C.cost_of costs.now)) (routes_of prefix.now (drop start (E.entries entries.now)))) }
+    ensures rest { drop result.1 (E.entries entries.now) ≡ others_of prefix.now (drop start (E.entries entries.now)) }
+{
+    let len = entries.len();
+    let mut first: Option<Candidate> = None;
+    for place in start..len {
+        let Some(route) = entries.at(place) else {
+            return (place_of(&first), place);
+        };
+        if !is_of(&route, prefix) {
+            return (place_of(&first), place);
+        }
+        if let Some(metric) = candidate_metric(&route, sources, costs, near) {
+            let new = Candidate { metric, place };
+            first = Some(first_of_two(entries, first, new, before));
+        }
+    }
+    (place_of(&first), len)
+}
+
+fn place_of(first: &Option<Candidate>) -> Option<usize>
+    ensures { result ≡ option_map (λ c. c.place) first.now }
+{
+    match first {
+        Some(first) => Some(first.place),
+        None => None,
+    }
+}
+
+/// The selection of the route at the index, if there is one.
+pub fn selection_at<E: Table<RouteKey, Entry>>(
+    entries: &E,
+    place: Option<usize>,
+) -> Option<Selection>
+    ensures { result ≡ option_map selection_of (option_and_then (slice_get (E.entries entries.now)) place) }
+{
+    let route = entries.at(place?)?;
+    Some(Selection {
+        peer: route.0.peer,
+        entry: route.1,
+    })
+}
+
+/// The candidate found before, unless the new one comes before it.
+fn first_of_two<E: Table<RouteKey, Entry>>(
+    entries: &E,
+    found: Option<Candidate>,
+    new: Candidate,
+    before: Option<Peer>,
+) -> Candidate
+    requires found { IfSome found (λ old. old.place < length (E.entries entries.now)) }
+    requires new { new.place < length (E.entries entries.now) }
+    ensures { result ≡ option_map_or (λ old. if is_lesser_rank (rank_at (E.entries entries.now) before new.metric new.place) (rank_at (E.entries entries.now) before old.metric old.place) then new else old) found new }
+{
+    match found {
+        Some(old) if !comes_before(entries, &new, &old, before) => old,
+        _ => new,
+    }
+}
+
+/// Whether a candidate comes before another one. Their metrics mostly differ, and then no rank is made from the table.
+fn comes_before<E: Table<RouteKey, Entry>>(
+    entries: &E,
+    one: &Candidate,
+    other: &Candidate,
+    before: Option<Peer>,
+) -> bool
+    requires one { one.now.place < length (E.entries entries.now) }
+    requires other { other.now.place < length (E.entries entries.now) }
+    ensures { result ≡ is_lesser_rank (rank_at (E.entries entries.now) before one.now.metric one.now.place) (rank_at (E.entries entries.now) before other.now.metric other.now.place) }
+{
+    match one.metric.cmp(&other.metric) {
+        Ordering::Less => true,
+        Ordering::Greater => false,
+        Ordering::Equal => match (
+            rank_at(entries, one, before),
+            rank_at(entries, other, before),
+        ) {
+            (Some(one), Some(other)) => one.cmp(&other).is_lt(),
+            _ => true,
+        },
+    }
+}
+
+/// The rank of a candidate.
+fn rank_at<E: Table<RouteKey, Entry>>(
+    entries: &E,
+    candidate: &Candidate,
+    before: Option<Peer>,
+) -> Option<Rank>
+    ensures { result ≡ rank_at (E.entries entries.now) before candidate.now.metric candidate.now.place }
+{
+    let peer = entries.at(candidate.place)?.0.peer;
+    let is_change = is_change(before, peer);
+    Some(Rank {
+        metric: candidate.metric,
+        is_change,
+        peer,
+    })
+}
+
+/// The metric of a route that is a candidate: it is feasible and its metric is finite.
+fn candidate_metric<T: Table<Source, SourceEntry>, C: Costs>(
+    route: &(RouteKey, Entry),
+    sources: &SourcesOver<T>,
+    costs: &C,
+    near: &mut usize,
+) -> Option<Metric>
+    ensures { result ≡ (if is_candidate sources.now (C.cost_of costs.now) route.now then Some (route_metric (C.cost_of costs.now) route.now) else None) }
+{
+    let advertised = route.1.distance.metric;
+    if !advertised.is_finite() {
+        // Whatever its cost is: the neighbour need not be looked up.
+        return None;
+    }
+    let metric = advertised.add(costs.cost(&route.0.peer));
+    if metric.is_finite() && is_feasible(route, sources, near) {
+        Some(metric)
+    } else {
+        None
+    }
+}
+
+/// Whether the route is feasible against the source table (RFC 8966, section 3.5.1).
+fn is_feasible<T: Table<Source, SourceEntry>>(
+    route: &(RouteKey, Entry),
+    sources: &SourcesOver<T>,
+    near: &mut usize,
+) -> bool
+    ensures { result ≡ is_feasible_route sources.now route.now }
+{
+    let source = Source {
+        prefix: route.0.prefix,
+        router: route.1.router,
+    };
+    sources.feasible_near(source, route.1.distance, near)
+}
+
+/// Whether the neighbour is another than the one selected before.
+fn is_change(before: Option<Peer>, peer: Peer) -> bool
+    ensures { result ≡ is_change before peer }
+{
+    match before {
+        Some(before) => !peer.cmp(&before).is_eq(),
+        None => true,
+    }
+}

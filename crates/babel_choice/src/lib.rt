@@ -1,0 +1,25 @@
+//! The entries of a route table (RFC 8966, section 3.2.6), and which of a prefix's routes is chosen (section 3.6).
+//!
+//! - `entries`: what the route table keeps, and by which keys.
+//! - `revisions`: changes of all entries at once.
+//! - `bounds`: bounds on the prefixes of routes and selections.
+//! - `walks`: walks over routes and selections.
+//! - `choices`: the choice among the candidates of a prefix.
+//! - `cursor`: where in the tables the last reselection was.
+//!
+//! All of it is over tables of `babel_table` that the caller has. No call takes memory.
+#![tactic(auto)]
+
+mod bounds;
+mod choices;
+mod cursor;
+mod entries;
+mod revisions;
+mod walks;
+
+pub use bounds::{Before, Through};
+pub use choices::{Costs, choose, first_from, peer_of, selection_at};
+pub use cursor::Cursor;
+pub use entries::{Entry, RouteKey, Selection};
+pub use revisions::{Expiry, Flush, Retraction};
+pub use walks::{AllRoutes, AllSelections, PrefixRoutes};

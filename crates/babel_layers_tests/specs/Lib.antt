@@ -1,0 +1,3 @@
+pub mod LinkExamples
+pub mod SourceExamples
+pub mod RouteExamples

@@ -1,5 +1,0 @@
-//! Tests of decoding.
-#![tactic(auto)]
-
-#[cfg(test)]
-mod packet_tests;

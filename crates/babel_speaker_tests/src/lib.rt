@@ -1,5 +1,0 @@
-//! Tests of a speaker with each allocation that fails: `tests/refused-memory` lets them fail in turn.
-#![tactic(auto)]
-
-#[cfg(test)]
-mod memory;

@@ -1,7 +1,0 @@
-//! Tests of the tables.
-#![tactic(auto)]
-
-#[cfg(test)]
-mod examples;
-#[cfg(test)]
-mod table_tests;

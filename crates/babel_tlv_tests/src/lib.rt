@@ -1,5 +1,0 @@
-//! Tests of TLVs.
-#![tactic(auto)]
-
-#[cfg(test)]
-mod tlv_tests;

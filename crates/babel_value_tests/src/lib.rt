@@ -1,5 +1,0 @@
-//! Tests of values.
-#![tactic(auto)]
-
-#[cfg(test)]
-mod value_tests;
