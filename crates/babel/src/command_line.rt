@@ -1,5 +1,6 @@
 //! The command line.
 
+use crate::arguments::{flag, option, positional};
 use crate::help;
 use crate::opening::{open_config_and_snapshot, report_open, restore_arg};
 use crate::speaking::{run_speak, speak_command};
@@ -41,7 +42,7 @@ impl From<AllocError> for ArgumentsError {
 }
 
 /// The arguments of the command line, the program's name first.
-pub(crate) fn arguments<R: AllocGlobal + Env>(rt: &R) -> Result<Vec<String>, ArgumentsError> {
+pub(crate) fn read_arguments<R: AllocGlobal + Env>(rt: &R) -> Result<Vec<String>, ArgumentsError> {
     match env::args(rt) {
         Ok(arguments) => Ok(arguments.collect(rt.alloc())?),
         Err(error) if error.kind() == io::ErrorKind::OutOfMemory => Err(ArgumentsError::Memory),
@@ -240,26 +241,29 @@ fn command<'a>(alloc: Global) -> Result<Command<'a>, AllocError> {
 }
 
 fn source_arg<'a>(alloc: Global) -> Arg<'a> {
-    Arg::new(alloc, "source")
-        .long("source")
-        .value_name("ADDR")
-        .help("The address that the datagram came from [default: fe80::1]")
-        .action(ArgAction::Set)
+    option(
+        alloc,
+        "source",
+        "ADDR",
+        "The address that the datagram came from [default: fe80::1]",
+    )
 }
 
 fn stdin_arg<'a>(alloc: Global) -> Arg<'a> {
-    Arg::new(alloc, "stdin")
-        .long("stdin")
-        .help("Reads lines `<source> <hex>` or `<hex>` from standard input")
-        .action(ArgAction::SetTrue)
+    flag(
+        alloc,
+        "stdin",
+        "Reads lines `<source> <hex>` or `<hex>` from standard input",
+    )
 }
 
 fn header_arg<'a>(alloc: Global) -> Result<Arg<'a>, AllocError> {
-    let header = Arg::new(alloc, "header")
-        .long("header")
-        .help("With --stdin, writes `# <line> <source>` before each datagram")
-        .conflicts_with("hex")?;
-    Ok(header.action(ArgAction::SetTrue))
+    let header = flag(
+        alloc,
+        "header",
+        "With --stdin, writes `# <line> <source>` before each datagram",
+    );
+    header.conflicts_with("hex")
 }
 
 fn hex_arg<'a>(alloc: Global) -> Result<Arg<'a>, AllocError> {
@@ -283,20 +287,22 @@ fn show_command<'a>(alloc: Global) -> Result<Command<'a>, AllocError> {
 
 /// The argument that names a configuration.
 fn config_arg<'a>(alloc: Global) -> Arg<'a> {
-    Arg::new(alloc, "config")
-        .value_name("CONFIG")
-        .help("The configuration of a speaker, a TOML file")
-        .required(true)
-        .action(ArgAction::Set)
+    positional(
+        alloc,
+        "config",
+        "CONFIG",
+        "The configuration of a speaker, a TOML file",
+    )
 }
 
 /// The argument that names a log.
 fn log_arg<'a>(alloc: Global) -> Arg<'a> {
-    Arg::new(alloc, "log")
-        .value_name("LOG")
-        .help("What happened to the speaker, a line for each event")
-        .required(true)
-        .action(ArgAction::Set)
+    positional(
+        alloc,
+        "log",
+        "LOG",
+        "What happened to the speaker, a line for each event",
+    )
 }
 
 fn check_command<'a>(alloc: Global) -> Result<Command<'a>, AllocError> {
@@ -319,11 +325,12 @@ fn replay_command<'a>(alloc: Global) -> Result<Command<'a>, AllocError> {
 
 /// The argument that names the prefix of `explain`.
 fn prefix_arg<'a>(alloc: Global) -> Arg<'a> {
-    Arg::new(alloc, "prefix")
-        .value_name("PREFIX")
-        .help("The prefix whose routes are explained, as 10.0.0.0/8")
-        .required(true)
-        .action(ArgAction::Set)
+    positional(
+        alloc,
+        "prefix",
+        "PREFIX",
+        "The prefix whose routes are explained, as 10.0.0.0/8",
+    )
 }
 
 fn explain_command<'a>(alloc: Global) -> Result<Command<'a>, AllocError> {
@@ -335,14 +342,18 @@ fn explain_command<'a>(alloc: Global) -> Result<Command<'a>, AllocError> {
         .arg(prefix_arg(alloc))
 }
 
+fn scenario_arg<'a>(alloc: Global) -> Arg<'a> {
+    positional(
+        alloc,
+        "scenario",
+        "SCENARIO",
+        "The nodes of a network and its events, a TOML file",
+    )
+}
+
 fn net_command<'a>(alloc: Global) -> Result<Command<'a>, AllocError> {
-    let scenario = Arg::new(alloc, "scenario")
-        .value_name("SCENARIO")
-        .help("The nodes of a network and its events, a TOML file")
-        .required(true)
-        .action(ArgAction::Set);
     Command::new(alloc, "net")
         .about("Runs a network of speakers, and shows its next hops")
         .after_help(help::NET)
-        .arg(scenario)
+        .arg(scenario_arg(alloc))
 }

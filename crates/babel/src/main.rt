@@ -4,17 +4,18 @@
 //! opens. The commands are functions of the libraries.
 #![tactic(auto)]
 
+mod arguments;
 mod command_line;
 mod help;
 mod opening;
 mod speaking;
 
-use command_line::{arguments, report, run};
+use command_line::{read_arguments, report, run};
 use std::process::ExitCode;
 
 fn main(rt: HostRuntime) -> ExitCode {
     let mut err = rt.stderr();
-    let status = match arguments(&rt) {
+    let status = match read_arguments(&rt) {
         Ok(words) => run(&rt, words.as_slice(), rt.stdin(), rt.stdout(), &mut err),
         Err(error) => report(error, &mut err),
     };

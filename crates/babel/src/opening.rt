@@ -1,9 +1,10 @@
 //! The files of `check` and `speak`: a configuration, and a snapshot if one is named.
 
+use crate::arguments::option;
 use babel_config::FileFault;
 use babel_show::Status;
 use babel_snapshot_file::SnapshotFileFault;
-use clap::{Arg, ArgAction, ArgMatches};
+use clap::{Arg, ArgMatches};
 use std::alloc::Global;
 use std::fmt;
 use std::fs::{self, Files};
@@ -52,9 +53,10 @@ pub(crate) fn report_open<E: Write>(fault: OpenFault, err: &mut E) -> Status {
 
 /// The argument that names the snapshot.
 pub(crate) fn restore_arg<'a>(alloc: Global) -> Arg<'a> {
-    Arg::new(alloc, "restore")
-        .long("restore")
-        .value_name("FILE")
-        .help("The snapshot that the speaker is restored from")
-        .action(ArgAction::Set)
+    option(
+        alloc,
+        "restore",
+        "FILE",
+        "The snapshot that the speaker is restored from",
+    )
 }

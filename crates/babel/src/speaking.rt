@@ -1,5 +1,6 @@
 //! The command `speak`: its arguments, and what it writes if it is refused.
 
+use crate::arguments::{flag, option, positional};
 use crate::help;
 use crate::opening::{OpenFault, open_config_and_snapshot, restore_arg};
 use babel_config::{FileFault, read_config, read_file};
@@ -7,7 +8,7 @@ use babel_show::Status;
 use babel_state::Config;
 use babel_udp::{SpeakFault, SpeakOptions, speak};
 use clap::builder::ValueParser;
-use clap::{Arg, ArgAction, ArgMatches, Command};
+use clap::{Arg, ArgMatches, Command};
 use std::alloc::{AllocError, Global};
 use std::fs::Files;
 use std::io::{Read, Write};
@@ -68,45 +69,51 @@ fn config_in<R: Read + Drop>(alloc: Global, file: R) -> Result<Config, FileFault
 }
 
 fn config_arg<'a>(alloc: Global) -> Arg<'a> {
-    Arg::new(alloc, "config")
-        .value_name("CONFIG")
-        .help("The configuration of the speaker, a TOML file")
-        .required(true)
-        .action(ArgAction::Set)
+    positional(
+        alloc,
+        "config",
+        "CONFIG",
+        "The configuration of the speaker, a TOML file",
+    )
 }
 
 fn turns_arg<'a>(alloc: Global) -> Arg<'a> {
-    Arg::new(alloc, "turns")
-        .long("turns")
-        .value_name("N")
-        .help("How many turns the speaker has, 1 to 1000000")
+    let turns = option(
+        alloc,
+        "turns",
+        "N",
+        "How many turns the speaker has, 1 to 1000000",
+    );
+    turns
         .required(true)
         .value_parser(ValueParser::unsigned(1, MAX_TURNS))
-        .action(ArgAction::Set)
 }
 
 fn port_arg<'a>(alloc: Global) -> Arg<'a> {
-    Arg::new(alloc, "port")
-        .long("port")
-        .value_name("P")
-        .help("The UDP port of all speakers, 1 to 65535 [default: 6696]")
-        .value_parser(ValueParser::unsigned(1, 65535))
-        .action(ArgAction::Set)
+    let port = option(
+        alloc,
+        "port",
+        "P",
+        "The UDP port of all speakers, 1 to 65535 [default: 6696]",
+    );
+    port.value_parser(ValueParser::unsigned(1, 65535))
 }
 
 fn routes_arg<'a>(alloc: Global) -> Arg<'a> {
-    Arg::new(alloc, "routes")
-        .long("routes")
-        .help("Prints each change of a selected route, and all of them at the end")
-        .action(ArgAction::SetTrue)
+    flag(
+        alloc,
+        "routes",
+        "Prints each change of a selected route, and all of them at the end",
+    )
 }
 
 fn save_arg<'a>(alloc: Global) -> Arg<'a> {
-    Arg::new(alloc, "save")
-        .long("save")
-        .value_name("FILE")
-        .help("The file to which the speaker is saved after its last turn")
-        .action(ArgAction::Set)
+    option(
+        alloc,
+        "save",
+        "FILE",
+        "The file to which the speaker is saved after its last turn",
+    )
 }
 
 /// The arguments of the command.
