@@ -9,6 +9,7 @@ import io
 import ipaddress
 import struct
 import typing
+import zlib
 
 # The port of Babel, and its groups (RFC 8966, section 4).
 PORT = 6696
@@ -54,10 +55,11 @@ class Packet(typing.NamedTuple):
 
 
 class Datagram(typing.NamedTuple):
-    """The payload of a UDP datagram, its time, and its source as an address of `ipaddress`."""
+    """The payload of a UDP datagram, its time, and its addresses as those of `ipaddress`."""
 
     time: int
     source: object
+    target: object
     octets: bytes
 
 
@@ -88,7 +90,7 @@ def packets(stream):
             yield from pcapng_packets(stream)
         else:
             raise CaptureError("this is neither a pcap nor a pcapng file")
-    except (EOFError, OSError, struct.error) as error:
+    except (EOFError, IndexError, OSError, struct.error, zlib.error) as error:
         raise CaptureError(f"the capture can't be read: {error}") from error
 
 
@@ -127,11 +129,14 @@ def pcapng_packets(stream):
 
 def pcapng_section(stream):
     """The order of the octets in a section. The rest of its header is skipped."""
-    length, mark = struct.unpack("4s4s", read_all(stream, 8))
+    size, mark = struct.unpack("4s4s", read_all(stream, 8))
     if mark not in BYTE_ORDERS:
         raise CaptureError("a section of the capture has no order of octets")
     order = BYTE_ORDERS[mark]
-    read_packet(stream, struct.unpack(f"{order}I", length)[0] - 12)
+    length = struct.unpack(f"{order}I", size)[0]
+    if length < 28:
+        raise CaptureError(f"a section's header of {length} octets")
+    read_packet(stream, length - 12)
     return order
 
 
@@ -173,11 +178,14 @@ def datagram(packet, port=PORT):
     if not ip:
         return None
     try:
-        source, udp = ipv4_udp(ip) if ip[0] >> 4 == 4 else ipv6_udp(ip)
-        target, length = struct.unpack(">2xHH", udp[:6])
-    except (IndexError, struct.error, TypeError):
+        source, target, udp = ipv4_udp(ip) if ip[0] >> 4 == 4 else ipv6_udp(ip)
+        target_port, length = struct.unpack(">2xHH", udp[:6])
+    except (IndexError, ValueError, struct.error, TypeError):
         return None
-    return Datagram(packet.time, source, udp[8:length]) if target == port else None
+    if target_port != port:
+        return None
+    source, target = ipaddress.ip_address(source), ipaddress.ip_address(target)
+    return Datagram(packet.time, source, target, udp[8:length])
 
 
 def ip_packet(packet):
@@ -193,21 +201,21 @@ def ip_packet(packet):
 
 
 def ipv4_udp(ip):
-    """The source and the UDP header with what follows; None if there is none."""
+    """The two addresses, and the UDP header with what follows; None if there is none."""
     more_or_offset = struct.unpack(">H", ip[6:8])[0] & 0x3FFF
     if ip[9] != UDP or more_or_offset:
         return None
-    return ipaddress.ip_address(ip[12:16]), ip[(ip[0] & 15) * 4 :]
+    return ip[12:16], ip[16:20], ip[(ip[0] & 15) * 4 :]
 
 
 def ipv6_udp(ip):
-    """The source and the UDP header with what follows; None if there is none."""
+    """The two addresses, and the UDP header with what follows; None if there is none."""
     kind, at = ip[6], 40
     while kind in EXTENSIONS:
         kind, at = ip[at], at + (ip[at + 1] + 1) * 8
     if kind == FRAGMENT and not struct.unpack(">H", ip[at + 2 : at + 4])[0] & 0xFFF9:
         kind, at = ip[at], at + 8
-    return (ipaddress.ip_address(ip[8:24]), ip[at:]) if kind == UDP else None
+    return (ip[8:24], ip[24:40], ip[at:]) if kind == UDP else None
 
 
 def checksum(octets):
@@ -218,18 +226,18 @@ def checksum(octets):
     return ~total & 0xFFFF
 
 
-def babel_packet(source, payload):
-    """IP and UDP from and to the port of Babel, to its group, with right checksums."""
-    group = GROUPS[source.version]
+def babel_packet(source, payload, target=None):
+    """IP and UDP from and to Babel's port, with right checksums. Without target, to its group."""
+    target = target or GROUPS[source.version]
     length = 8 + len(payload)
     if source.version == 4:
-        pseudo = source.packed + group.packed + struct.pack(">BBH", 0, UDP, length)
+        pseudo = source.packed + target.packed + struct.pack(">BBH", 0, UDP, length)
         fields = struct.pack(">BBHHHBB", 0x45, 0xC0, 20 + length, 0, 0, 1, UDP)
-        sum4 = checksum(fields + b"\0\0" + source.packed + group.packed)
-        header = fields + struct.pack(">H", sum4) + source.packed + group.packed
+        sum4 = checksum(fields + b"\0\0" + source.packed + target.packed)
+        header = fields + struct.pack(">H", sum4) + source.packed + target.packed
     else:
-        pseudo = source.packed + group.packed + struct.pack(">IHBB", length, 0, 0, UDP)
-        header = struct.pack(">IHBB", 0x6C000000, length, UDP, 1) + source.packed + group.packed
+        pseudo = source.packed + target.packed + struct.pack(">IHBB", length, 0, 0, UDP)
+        header = struct.pack(">IHBB", 0x6C000000, length, UDP, 1) + source.packed + target.packed
     udp = struct.pack(">HHHH", PORT, PORT, length, 0)
     sum_udp = checksum(pseudo + udp + payload) or 0xFFFF
     return header + udp[:6] + struct.pack(">H", sum_udp) + payload
