@@ -1,13 +1,14 @@
 -- The lines of a log, taken one after another.
-use Rattle.std.proofs.Common.{◌≡◌, ◌≢◌, ◌+◌, ◌⊎◌, inl, inr, ℕ, Bool, true, false, true≢false, List, [], ◌∷◌, ◌++◌, length, Option, Some, None, Result, Ok, Err, OnOk, IfErr, refl, sym, ap, ◌∙◌, subst, append_assoc}
+use Rattle.std.proofs.Common.{◌≡◌, ◌≢◌, ◌≤◌, ◌+◌, ◌⊎◌, inl, inr, ℕ, Bool, true, false, true≢false, List, [], ◌∷◌, ◌++◌, length, Option, Some, None, Result, Ok, Err, OnOk, IfErr, refl, sym, ap, ◌∙◌, subst, append_assoc}
 use Rattle.std.proofs.lemmas.List.{append-nil, length-append}
 use Rattle.std.specs.Prelude.{⊤}
 use Rattle.babel_state.specs.State.{State}
+use Rattle.babel_text.specs.Lines.{max_line_len}
 use Rattle.babel_text.specs.declared.errors.LineFault.{LineFault}
 use Rattle.babel_text.specs.declared.errors.LineFault.TheVariants.{Read, Write, Memory}
 use Rattle.babel_replay.specs.declared.log_lines.Action.{Action}
 use Rattle.babel_replay.specs.LogLines.{lines_of, is_skipped_line, ReadsLine, IsLine, IsLineFault}
-use Rattle.babel_replay.specs.LogReports.{IsLineReport, IsLogReport, HasLines, BeginsWith, IsRefusedAfter, IsTooLongAfter, IsCause, OfAllLines, OfLinesBefore, room}
+use Rattle.babel_replay.specs.LogReports.{IsReportBy, IsLineReport, IsLogReport, HasLines, BeginsWith, IsRefusedAfter, IsTooLongAfter, IsCause, OfAllLines, OfLinesBefore, room}
 use Rattle.babel_replay.specs.Report.{places_in, outcome_lines, seen_by, select_lines, out_lines}
 use Rattle.babel_replay.specs.Seen.{SeenPrefix, printed_all}
 use Rattle.babel_replay.specs.Taking.{IsNextLine, TakesLine, IsReported, IsReportedLine, LeadsByEvent, LeadsByLine, LeadsTo}
@@ -17,7 +18,7 @@ use Rattle.babel_replay.proofs.Writing.{appends_none, appends_more}
 
 -- One line more.
 report_more : (texts : List (List ℕ)) (text : List ℕ) (old : State) (seen : List SeenPrefix) (mid : State) (between : List SeenPrefix) (new : State) (later : List SeenPrefix) (first last : List ℕ) →
-    IsLogReport texts old seen mid between first → IsLineReport (is_skipped_line text) text mid between new later last →
+    IsLogReport texts old seen mid between first → IsLineReport text mid between new later last →
     IsLogReport (texts ++ text ∷ []) old seen new later (first ++ last)
 report_more [] text old seen mid between new later first last (state, prefixes, report) line = (
   new,
@@ -25,7 +26,7 @@ report_more [] text old seen mid between new later first last (state, prefixes, 
   last,
   [],
   record {
-    line = subst (λ s. IsLineReport (is_skipped_line text) text s seen new later last) state (subst (λ es. IsLineReport (is_skipped_line text) text mid es new later last) prefixes line);
+    line = subst (λ s. IsLineReport text s seen new later last) state (subst (λ es. IsLineReport text mid es new later last) prefixes line);
     together = ap (λ l. l ++ last) report ∙ sym (append-nil last);
   },
   (refl, refl, refl),
@@ -76,7 +77,7 @@ begins_also (Some octets) None texts more has next = absurd has
 begins_also (Some octets) (Some rest) texts more has (others, is) = (others, has ∙ ap (λ ls. texts ++ ls) is ∙ sym (append_assoc texts more others))
 
 refused_after : (log mid : Option (List ℕ)) (texts : List (List ℕ)) (fault : LineFault) → HasRead log mid texts → IsRefusedAfter mid [] fault → IsRefusedAfter log texts fault
-refused_after log mid texts fault has r = record { text = r.text; next = begins_also log mid texts (r.text ∷ []) has r.next; event = r.event; refused = r.refused }
+refused_after log mid texts fault has r = record { text = r.text; next = begins_also log mid texts (r.text ∷ []) has r.next; within = r.within; event = r.event; refused = r.refused }
 
 long_after : (log mid : Option (List ℕ)) (texts : List (List ℕ)) → HasRead log mid texts → IsTooLongAfter mid [] → IsTooLongAfter log texts
 long_after None mid texts has is = tt
@@ -101,12 +102,13 @@ next_begins (Some octets) None text reads = absurd reads
 next_begins (Some octets) (Some rest) text reads = (lines_of rest, reads)
 
 pub line_cause : (log left : Option (List ℕ)) (more tested : Bool) (text view other : List ℕ) (n : ℕ) (fault : LineFault) →
-    more ≡ true → ReadsLine log left more text → view ≡ text → tested ≡ is_skipped_line view → tested ≡ false → n ≡ room → other ≡ text →
-    IsLineFault n other fault → IsCause log [] fault
-line_cause log left more tested text view other n fault is_more reads viewed test false_so same view_too is =
+    more ≡ true → ReadsLine log left more text → length text ≤ max_line_len → view ≡ text → tested ≡ is_skipped_line view → tested ≡ false → n ≡ room →
+    other ≡ text → IsLineFault n other fault → IsCause log [] fault
+line_cause log left more tested text view other n fault is_more reads within viewed test false_so same view_too is =
     inl (record {
       text = text;
       next = next_begins log left text (subst (λ b. ReadsLine log left b text) is_more reads);
+      within = within;
       event = ap is_skipped_line (sym viewed) ∙ sym test ∙ false_so;
       refused = subst (λ m. IsLineFault m text fault) same (subst (λ l. IsLineFault n l fault) view_too is);
     })
@@ -305,20 +307,24 @@ pub end_of : (log left : Option (List ℕ)) (more : Bool) (P : List ℕ → Type
 end_of log left true P Q is next = absurd (true≢false is)
 end_of log left false P Q is next = next
 
-pub line_skipped : (log left : Option (List ℕ)) (more tested : Bool) (text view : List ℕ) (s : State) → more ≡ true → ReadsLine log left more text → view ≡ text →
-    tested ≡ is_skipped_line view → tested ≡ true → IsNextLine log left (LeadsByLine s s)
-line_skipped log left more tested text view s is reads same test true_so =
+pub line_skipped : (log left : Option (List ℕ)) (more tested : Bool) (text view : List ℕ) (s : State) → more ≡ true → ReadsLine log left more text → length text ≤ max_line_len →
+    view ≡ text → tested ≡ is_skipped_line view → tested ≡ true → IsNextLine log left (LeadsByLine s s)
+line_skipped log left more tested text view s is reads within same test true_so =
     let skipped : is_skipped_line text ≡ true = ap is_skipped_line (sym same) ∙ sym test ∙ true_so in
     record {
       text = text;
       reads = subst (λ b. ReadsLine log left b text) is reads;
-      holds = λ (seen : List SeenPrefix). (seen, [], subst (λ b. IsLineReport b text s seen s seen []) (sym skipped) (refl, refl, refl));
+      holds = λ (seen : List SeenPrefix). (
+        seen,
+        [],
+        record { within = within; reported = subst (λ b. IsReportBy b text s seen s seen []) (sym skipped) (refl, refl, refl) },
+      );
     }
 
 pub line_leads : (log left : Option (List ℕ)) (more tested : Bool) (text view other : List ℕ) (n time : ℕ) (action : Action) (old new : State) →
-    more ≡ true → ReadsLine log left more text → view ≡ text → tested ≡ is_skipped_line view → tested ≡ false → n ≡ room → other ≡ text → IsLine n other time action →
-    LeadsByEvent time action old new → IsNextLine log left (LeadsByLine old new)
-line_leads log left more tested text view other n time action old new is_more reads viewed test false_so same view_too is_line so =
+    more ≡ true → ReadsLine log left more text → length text ≤ max_line_len → view ≡ text → tested ≡ is_skipped_line view → tested ≡ false → n ≡ room → other ≡ text →
+    IsLine n other time action → LeadsByEvent time action old new → IsNextLine log left (LeadsByLine old new)
+line_leads log left more tested text view other n time action old new is_more reads within viewed test false_so same view_too is_line so =
     let (sent, sends) = so.sends in
     let event : is_skipped_line text ≡ false = ap is_skipped_line (sym viewed) ∙ sym test ∙ false_so in
     let is : IsLine n text time action = subst (λ l. IsLine n l time action) view_too is_line in
@@ -330,11 +336,14 @@ line_leads log left more tested text view other n time action old new is_more re
           let report = outcome_lines time (places_in action) so.outcome ++ (select_lines time so.stepped es ++ out_lines time sent) in (
             printed_all so.stepped es,
             report,
-            subst (λ b. IsLineReport b text old seen new (printed_all so.stepped es) report) (sym event) (record {
-              time = time;
-              action = action;
-              event = subst (λ m. IsLine m text time action) same is;
-              reported = record { outcome = so.outcome; stepped = so.stepped; steps = so.steps; sent = sent; sends = sends; prefixes = refl; text_is = refl };
-            }),
+            record {
+              within = within;
+              reported = subst (λ b. IsReportBy b text old seen new (printed_all so.stepped es) report) (sym event) (record {
+                time = time;
+                action = action;
+                event = subst (λ m. IsLine m text time action) same is;
+                reported = record { outcome = so.outcome; stepped = so.stepped; steps = so.steps; sent = sent; sends = sends; prefixes = refl; text_is = refl };
+              });
+            },
           );
     }

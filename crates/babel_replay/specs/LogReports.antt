@@ -1,5 +1,5 @@
 -- The reports of whole logs (profile).
-use Rattle.std.specs.Prelude.{◌≡◌, ◌≢◌, ◌⊎◌, ◌+◌, ◌/◌, ℕ, Bool, true, false, List, [], ◌∷◌, ◌++◌, length, Option, Some, None, IsNone, ⊤}
+use Rattle.std.specs.Prelude.{◌≡◌, ◌≢◌, ◌≤◌, ◌⊎◌, ◌+◌, ◌/◌, ℕ, Bool, true, false, List, [], ◌∷◌, ◌++◌, length, Option, Some, None, IsNone, ⊤}
 use Rattle.std.specs.Io.KnownBytes.{Appends, Keeps}
 use Rattle.babel_value.specs.Prefixes.{PrefixValue}
 use Rattle.babel_state.specs.declared.errors.ConfigFault.{ConfigFault}
@@ -29,13 +29,18 @@ pub record IsEventReport (text : List ℕ) (old : State) (seen : List SeenPrefix
   pub event : IsLine room text time action
   pub reported : IsReport time action old seen new later report
 
-abbrev pub IsLineReport : Bool → List ℕ → State → List SeenPrefix → State → List SeenPrefix → List ℕ → Type 0
-IsLineReport true text old seen new later report = (new ≡ old) × (later ≡ seen) × (report ≡ [])
-IsLineReport false text old seen new later report = IsEventReport text old seen new later report
+abbrev pub IsReportBy : Bool → List ℕ → State → List SeenPrefix → State → List SeenPrefix → List ℕ → Type 0
+IsReportBy true text old seen new later report = (new ≡ old) × (later ≡ seen) × (report ≡ [])
+IsReportBy false text old seen new later report = IsEventReport text old seen new later report
+
+-- The line is at most the longest: a longer one is L5, also one that would be skipped.
+pub record IsLineReport (text : List ℕ) (old : State) (seen : List SeenPrefix) (new : State) (later : List SeenPrefix) (report : List ℕ) : Type 0 where
+  pub within : length text ≤ max_line_len
+  pub reported : IsReportBy (is_skipped_line text) text old seen new later report
 
 -- The first line's report, and then those of the others.
 pub record IsFirstReport (text : List ℕ) (old : State) (seen : List SeenPrefix) (mid : State) (between : List SeenPrefix) (report first rest : List ℕ) : Type 0 where
-  pub line : IsLineReport (is_skipped_line text) text old seen mid between first
+  pub line : IsLineReport text old seen mid between first
   pub together : report ≡ first ++ rest
 
 abbrev pub IsLogReport : List (List ℕ) → State → List SeenPrefix → State → List SeenPrefix → List ℕ → Type 0
@@ -55,10 +60,11 @@ abbrev pub BeginsWith : Option (List ℕ) → List (List ℕ) → Type 0
 BeginsWith None texts = ⊤
 BeginsWith (Some octets) texts = (rest : List (List ℕ)) × (lines_of octets ≡ texts ++ rest)
 
--- The line after these can't be taken.
+-- The line after these is at most the longest, and can't be taken.
 pub record IsRefusedAfter (log : Option (List ℕ)) (texts : List (List ℕ)) (fault : LineFault) : Type 0 where
   pub text : List ℕ
   pub next : BeginsWith log (texts ++ text ∷ [])
+  pub within : length text ≤ max_line_len
   pub event : is_skipped_line text ≡ false
   pub refused : IsLineFault room text fault
 

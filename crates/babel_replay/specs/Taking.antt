@@ -4,7 +4,7 @@ use Rattle.std.specs.Io.KnownBytes.{Appends}
 use Rattle.babel_state.specs.State.{State}
 use Rattle.babel_replay.specs.declared.log_lines.Action.{Action}
 use Rattle.babel_replay.specs.declared.stepping.Outcome.{Outcome}
-use Rattle.babel_replay.specs.LogLines.{is_skipped_line, ReadsLine}
+use Rattle.babel_replay.specs.LogLines.{ReadsLine}
 use Rattle.babel_replay.specs.LogReports.{IsLineReport, IsLogReport}
 use Rattle.babel_replay.specs.Report.{SendsAll}
 use Rattle.babel_replay.specs.Seen.{SeenPrefix}
@@ -13,7 +13,7 @@ use Rattle.babel_replay.specs.Stepping.{Steps}
 -- A line was taken, and its report written.
 pub record IsReportedLine (old : State) (seen : List SeenPrefix) (new : State) (later : List SeenPrefix) (before after : Option (List ℕ)) (text : List ℕ) : Type 0 where
   pub report : List ℕ
-  pub line : IsLineReport (is_skipped_line text) text old seen new later report
+  pub line : IsLineReport text old seen new later report
   pub written : Appends before after report
 
 -- The next line of a reader, of which P holds.
@@ -44,7 +44,7 @@ pub record LeadsByEvent (time : ℕ) (action : Action) (old new : State) : Type 
 -- A line was taken, whose report isn't written.
 abbrev pub LeadsByLine : State → State → List ℕ → Type 0
 LeadsByLine old new text =
-    (seen : List SeenPrefix) → (later : List SeenPrefix) × (report : List ℕ) × IsLineReport (is_skipped_line text) text old seen new later report
+    (seen : List SeenPrefix) → (later : List SeenPrefix) × (report : List ℕ) × IsLineReport text old seen new later report
 
 -- These lines were taken, with no prefix seen at first.
 pub record LeadsTo (number : ℕ) (old new : State) (texts : List (List ℕ)) : Type 0 where

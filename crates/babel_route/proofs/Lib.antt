@@ -2,7 +2,6 @@ pub mod BeyondLemmas
 pub mod CurrentLemmas
 pub mod RetractionLemmas
 pub mod RoomLemmas
-pub mod ListLemmas
 pub mod DueLemmas
 pub mod CurrencyLemmas
 pub mod RefreshLemmas

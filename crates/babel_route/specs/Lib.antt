@@ -3,5 +3,4 @@ pub mod Selections
 pub mod Currency
 pub mod Repeats
 pub mod RouteLaws
-pub mod PrefixLists
 pub mod PrefixWalks

@@ -14,7 +14,6 @@ mod routes;
 mod trail;
 
 pub use routes::{
-    PREFIX_PLACES, PrefixList, PrefixListOver, PrefixWalk, ROUTE_PLACES, RouteTable, Routes,
-    RoutesOver, SelectionTable,
+    PREFIX_PLACES, PrefixWalk, ROUTE_PLACES, RouteTable, Routes, RoutesOver, SelectionTable,
 };
 pub use trail::Trail;

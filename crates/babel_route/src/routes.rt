@@ -9,13 +9,11 @@ ghost use Rattle.babel_choice.specs.RouteKeys.{route_cmp};
 ghost use Rattle.babel_choice.specs.Routes.{key_of, updated, retracted, retracted_all, has_routes_from, forgotten, expired};
 ghost use Rattle.babel_choice.specs.Choices.{routes_of, choice};
 ghost use Rattle.babel_choice.specs.PrefixBounds.{is_beyond};
-ghost use Rattle.babel_route.specs.Selections.{choice_at, reselected, selection_at, SelectsTheFirst, places_taken, prefixes_of, prefix_after};
-ghost use Rattle.babel_route.specs.PrefixLists.{gathered};
+ghost use Rattle.babel_route.specs.Selections.{choice_at, reselected, selection_at, SelectsTheFirst, places_taken, prefix_after};
 ghost use Rattle.babel_table.specs.Firsts.{first_of, lesser_of};
 
 mod current;
 mod prefix_walk;
-mod prefixes;
 mod refresh;
 mod room;
 
@@ -30,14 +28,15 @@ use babel_table::{
 use babel_value::{Addr, Distance, Peer, Prefix, RouterId, Source, hold_time};
 use current::replace_near;
 pub use prefix_walk::PrefixWalk;
-use prefixes::{add_routes, add_selections};
-pub use prefixes::{PREFIX_PLACES, PrefixList, PrefixListOver};
 use room::is_crowded;
 use std::alloc::Global;
 use std::marker::Model;
 
 /// How many entries a route table has room for.
 pub const ROUTE_PLACES: usize = 256;
+
+/// How many prefixes may have an entry or a selection.
+pub const PREFIX_PLACES: usize = 512;
 
 /// The route table with its selections, in tables of the types `E` and `S`. Clauses see both as lists
 /// in the order of their keys.
@@ -271,18 +270,6 @@ impl<E: Table<RouteKey, Entry>, S: Table<Prefix, Selection>> RoutesOver<E, S> {
     {
         let _count = self.selections.len();
         self.selections.at(place)
-    }
-
-    /// Lists the prefixes that have an entry or a selection, in ascending order, each once. It is one
-    /// merge of the entries and the selections.
-    pub fn list_prefixes<T: Table<Prefix, bool>>(&self, list: &mut PrefixListOver<T>)
-        ensures { list.new ≡ gathered (prefixes_of self.now) [] }
-    {
-        let most = self.entries.len() + self.selections.len();
-        prove!(most <= PREFIX_PLACES);
-        list.clear();
-        add_routes(list, &self.entries);
-        add_selections(list, &self.selections);
     }
 
     /// A walk over the prefixes that have an entry or a selection, in ascending order.

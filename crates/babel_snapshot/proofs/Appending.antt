@@ -11,7 +11,7 @@ use Rattle.babel_state.specs.Restarts.{kept_source}
 use Rattle.babel_snapshot.specs.Octets.{record_octets, records_octets}
 use Rattle.babel_snapshot.specs.SnapshotLaws.{IsRecord}
 
-records_append : (es fs : List (Source × Distance)) → records_octets (es ++ fs) ≡ records_octets es ++ records_octets fs
+pub records_append : (es fs : List (Source × Distance)) → records_octets (es ++ fs) ≡ records_octets es ++ records_octets fs
 records_append [] fs = refl
 records_append (e ∷ es) fs = ap (λ xs. record_octets e ++ xs) (records_append es fs) ∙ sym (append_assoc (record_octets e) (records_octets es) (records_octets fs))
 

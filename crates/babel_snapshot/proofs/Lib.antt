@@ -4,3 +4,4 @@ pub mod Orders
 pub mod SnapshotsRead
 pub mod SnapshotsWritten
 pub mod Appending
+pub mod OctetsKept

@@ -160,6 +160,7 @@ source_read r source e is =
 
 pub record IsRecordRead (r : List ℕ) (e : Source × Distance) : Type 0 where
   pub source : IsSourceRead r e.0
+  pub distance : e.1 ≡ distance_in r
   pub finite : e.1.metric < 65535
 
 pub record_read : (r : List ℕ) (e : Source × Distance) → length r ≡ 30 → record_in r ≡ Some e → IsRecordRead r e
@@ -169,5 +170,5 @@ record_read r e len is =
     let parts = and_then_some (with_distance d) (source_in r) e is in
     let finite = if_some (nat_lt d.metric 65535) (Some (parts.0, d)) e parts.2 in
     let same : (parts.0, d) ≡ e = same_Some (parts.0, d) e finite.1 in
-    let all : IsRecordRead r (parts.0, d) = record { source = source_read r parts.0 len parts.1; finite = ltb-true d.metric 65535 finite.0 } in
+    let all : IsRecordRead r (parts.0, d) = record { source = source_read r parts.0 len parts.1; distance = refl; finite = ltb-true d.metric 65535 finite.0 } in
     subst (IsRecordRead r) same all

@@ -30,15 +30,15 @@ use Rattle.babel_snapshot.proofs.Orders.{sources_in_order}
 
 -- ---- faults
 
-or_none : {A : Type 0} (m n : Option A) → option_or m n ≡ None → (m ≡ None) × (n ≡ None)
+pub or_none : {A : Type 0} (m n : Option A) → option_or m n ≡ None → (m ≡ None) × (n ≡ None)
 or_none None n is = (refl, is)
 or_none (Some a) n is = absurd (none-some a (sym is))
 
-from_not : (b : Bool) → not b ≡ false → b ≡ true
+pub from_not : (b : Bool) → not b ≡ false → b ≡ true
 from_not true e = refl
 from_not false e = absurd (true≢false e)
 
-no_fault : (b : Bool) (f : RestoreFault) (rest : Option RestoreFault) → (if b then Some f else rest) ≡ None → (b ≡ false) × (rest ≡ None)
+pub no_fault : (b : Bool) (f : RestoreFault) (rest : Option RestoreFault) → (if b then Some f else rest) ≡ None → (b ≡ false) × (rest ≡ None)
 no_fault true f rest is = absurd (none-some f (sym is))
 no_fault false f rest is = (refl, is)
 
@@ -111,7 +111,7 @@ get_last [] x (suc i) e = absurd (omega (arith, e))
 get_last (y ∷ ys) x zero e = absurd (omega (arith, e))
 get_last (y ∷ ys) x (suc i) e = get_last ys x i (omega (arith, e))
 
-next_sources : (n : ℕ) (octets : List ℕ) (f : IsFine n octets) → sources_in (suc n) octets ≡ sources_in n octets ++ f.e ∷ []
+pub next_sources : (n : ℕ) (octets : List ℕ) (f : IsFine n octets) → sources_in (suc n) octets ≡ sources_in n octets ++ f.e ∷ []
 next_sources n octets f = ap (λ m. sources_in n octets ++ option_to_list m) f.is
 
 pub sources_len : (n : ℕ) (octets : List ℕ) → records_fault n octets ≡ None → length (sources_in n octets) ≡ n

@@ -1,5 +1,5 @@
 -- What is proved of snapshots and their octets (profile).
-use Rattle.std.specs.Prelude.{◌≡◌, ℕ, ◌<◌, ◌≤◌, false, List, All, length, None}
+use Rattle.std.specs.Prelude.{◌≡◌, ℕ, ◌<◌, ◌≤◌, false, List, All, length, slice_index, None}
 use Rattle.babel_value.specs.declared.addresses.Addr.{Addr}
 use Rattle.babel_value.specs.declared.addresses.Addr.TheVariants.{V4, V6}
 use Rattle.babel_value.specs.declared.distances.Distance.{Distance}
@@ -56,6 +56,18 @@ pub record IsRead (router octets : List ℕ) (snapshot : Snapshot) : Type 0 wher
 
 abbrev pub WrittenIsRead : Type 0
 WrittenIsRead = (snapshot : Snapshot) → IsWhole snapshot → IsRead snapshot.router (snapshot_octets snapshot) snapshot
+
+-- Each is below 256, as each octet of a file is.
+abbrev pub AreOctets : List ℕ → Type 0
+AreOctets octets = (k : ℕ) → slice_index octets k < 256
+
+-- Octets without a fault are the octets of the snapshot that they encode, and that one is whole: no two lists of octets encode the same snapshot.
+pub record IsWritten (octets : List ℕ) : Type 0 where
+  pub whole : IsWhole (snapshot_in octets)
+  pub same : snapshot_octets (snapshot_in octets) ≡ octets
+
+abbrev pub ReadIsWritten : Type 0
+ReadIsWritten = (router octets : List ℕ) → AreOctets octets → restore_fault router octets ≡ None → IsWritten octets
 
 -- Two snapshots with the same octets are equal.
 abbrev pub OctetsAreExact : Type 0

@@ -2,8 +2,7 @@
 
 ghost use Rattle.std.specs.Prelude.{◌≡◌};
 ghost use Rattle.babel_sources.specs.declared.sources.TheConstants.{SOURCE_PLACES, COLLECTION_TIME};
-ghost use Rattle.babel_route.specs.declared.routes.TheConstants.{ROUTE_PLACES};
-ghost use Rattle.babel_route.specs.declared.routes.prefixes.TheConstants.{PREFIX_PLACES};
+ghost use Rattle.babel_route.specs.declared.routes.TheConstants.{PREFIX_PLACES, ROUTE_PLACES};
 ghost use Rattle.babel_route.specs.Rooms.{most_routes, most_listed_prefixes};
 ghost use Rattle.babel_sources.specs.Rooms.{most_sources, collection_time};
 ghost use Rattle.babel_state.specs.declared.limits.TheConstants.{MAX_INTERFACES, MAX_PEERS, MAX_PREFIXES, MAX_REQUESTS, MAX_PENDING, MAX_COST, MAX_HELLO_INTERVAL, REQUEST_HOPS, REQUEST_WAIT, LAST_REQUEST_WAIT};
