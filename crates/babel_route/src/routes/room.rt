@@ -12,7 +12,8 @@ use babel_table::Table;
 use babel_value::Prefix;
 
 /// Whether all places are taken: one for each entry, and one for each prefix that has a selection but
-/// no entry. Those prefixes are counted only if there may be too many.
+/// no entry. Those prefixes are counted only if they decide it: the entries don't take all places, and
+/// would with as many of them as there are selections.
 pub(crate) fn is_crowded<E: Table<RouteKey, Entry>, S: Table<Prefix, Selection>>(
     entries: &E,
     selections: &S,
@@ -21,6 +22,9 @@ pub(crate) fn is_crowded<E: Table<RouteKey, Entry>, S: Table<Prefix, Selection>>
     requires selections { S.room selections.now ≡ most_routes }
     ensures { result ≡ nat_le most_routes (length (E.entries entries.now) + orphans (E.entries entries.now) (S.entries selections.now)) }
 {
+    if entries.len() >= ROUTE_PLACES {
+        return true;
+    }
     if entries.len() + selections.len() < ROUTE_PLACES {
         return false;
     }
