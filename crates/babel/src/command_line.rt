@@ -1,7 +1,7 @@
 //! The command line.
 
 use crate::arguments::{details_arg, flag, option, positional};
-use crate::details::{details_of, explain_absence, explain_fault, explain_output};
+use crate::details::{details_of, explain_absence, explain_fault, explain_output, warn};
 use crate::help;
 use crate::noting::NotingWriter;
 use crate::opening::{open_config_and_snapshot, restore_arg};
@@ -156,9 +156,13 @@ where
     match run_one(rt, command, arguments, out) {
         Ok(status) => {
             if details == Details::Shown {
-                if command == "explain" && !out.get_ref().is_written() {
-                    let _ = explain_absence(rt, arguments, err);
-                }
+                let _ = match command {
+                    "check" => warn(rt, arguments, err),
+                    "explain" if !out.get_ref().is_written() => {
+                        explain_absence(rt, arguments, err)
+                    }
+                    _ => Ok(()),
+                };
             }
             status
         }

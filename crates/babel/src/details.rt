@@ -1,8 +1,12 @@
 //! The line with a sentence after the code of a fault.
 
-use crate::files::{FileFailure, MAX_TEXT_LEN, failure_of, log_line, open_again};
+use crate::files::{FileFailure, MAX_TEXT_LEN, failure_of, log_line, octets_of, open_again};
 use babel_config::FileFault;
 use babel_faults::Fault;
+use babel_file_details::{
+    FileKind, FileText, explain_config, explain_event, explain_file, explain_network,
+    explain_transport, write_warnings,
+};
 use babel_line_details::{LineProblem, explain_hex, explain_log_line};
 use babel_report::{Absence, absence_of};
 use babel_show::Details;
@@ -31,6 +35,22 @@ pub(crate) fn explain_output<E: Write>(failure: io::ErrorKind, err: &mut E) -> i
     writeln!(err, "standard output: {problem}")
 }
 
+/// Writes what can't work of a configuration that is accepted.
+pub(crate) fn warn<F: AllocGlobal + Files, E: Write>(
+    rt: &F,
+    arguments: &ArgMatches<'_>,
+    err: &mut E,
+) -> io::Result<()> {
+    let name = argument(arguments, "config");
+    match octets_of(rt.alloc(), rt, name) {
+        Some(octets) => {
+            let octets = octets.as_slice();
+            write_warnings(rt.alloc(), FileText { name, octets }, err)
+        }
+        None => Ok(()),
+    }
+}
+
 /// Writes why `explain` shows no route.
 pub(crate) fn explain_absence<F: AllocGlobal + Files, E: Write>(
     rt: &F,
@@ -48,19 +68,14 @@ pub(crate) fn explain_absence<F: AllocGlobal + Files, E: Write>(
         Ok(Absence::NeverNamed) => writeln!(err, "{name}: no Update names {prefix}"),
         Ok(Absence::OnlyIgnored(line, reason, count)) => writeln!(
             err,
-            "{name}:{line}: {prefix} is in ignored Updates alone, {count} in all, {} {reason}",
-            "the first for"
+            "{name}:{line}: {prefix} is in ignored Updates alone, {count} in all, the first for {reason}"
         ),
         Ok(Absence::OnlyRetracted(line)) => {
-            writeln!(
-                err,
-                "{name}:{line}: {prefix} was retracted, and never advertised"
-            )
+            writeln!(err, "{name}:{line}: {prefix} was retracted, and never advertised")
         }
         Ok(Absence::NoRouteLeft(line)) => writeln!(
             err,
-            "{name}:{line}: the last Update of {prefix}; no route of it is left, {}",
-            "as babel replay shows"
+            "{name}:{line}: the last Update of {prefix}; no route of it is left, as babel replay shows"
         ),
         Err(_) => Ok(()),
     }
@@ -92,7 +107,7 @@ pub(crate) fn explain_fault<F: AllocGlobal + Files, E: Write>(
             "a socket can't be made: the address of an interface is not one of this machine, {}",
             "or the port is taken or not allowed"
         ),
-        fault => write_phrase(file_name(command, arguments), fault, err),
+        fault => explain_text(rt, command, arguments, fault, err),
     }
 }
 
@@ -112,7 +127,35 @@ fn file_name<'m>(command: &str, arguments: &'m ArgMatches<'_>) -> &'m str {
     }
 }
 
-/// What a fault of a configuration or a scenario means.
+/// A fault of what is in the file of a configuration or a scenario.
+fn explain_text<F: AllocGlobal + Files, E: Write>(
+    rt: &F,
+    command: &str,
+    arguments: &ArgMatches<'_>,
+    fault: Fault,
+    err: &mut E,
+) -> io::Result<()> {
+    let name = file_name(command, arguments);
+    let Some(octets) = octets_of(rt.alloc(), rt, name) else {
+        return write_phrase(name, fault, err);
+    };
+    let octets = octets.as_slice();
+    let file = FileText { name, octets };
+    let kind = match command {
+        "net" => FileKind::Scenario,
+        _ => FileKind::Config,
+    };
+    match fault {
+        Fault::File(fault) => explain_file(rt.alloc(), file, kind, fault, err),
+        Fault::Config(fault) => explain_config(rt.alloc(), file, fault, err),
+        Fault::Net(fault) => explain_network(rt.alloc(), file, fault, err),
+        Fault::Event(number, fault) => explain_event(rt.alloc(), file, number, fault, err),
+        Fault::Transport => explain_transport(rt.alloc(), file, err),
+        _ => Ok(()),
+    }
+}
+
+/// What a fault means, if nothing is known of the file.
 fn write_phrase<E: Write>(name: &str, fault: Fault, err: &mut E) -> io::Result<()> {
     match fault {
         Fault::File(fault) => writeln!(err, "{name}: {fault}"),

@@ -1,6 +1,6 @@
 //! Files that are read a second time, to say what is wrong with them.
 
-use babel_config::MAX_FILE_LEN;
+use babel_config::{MAX_FILE_LEN, read_file};
 use babel_text::MAX_LINE_LEN;
 use std::alloc::Global;
 use std::fs::{self, Files};
@@ -23,6 +23,11 @@ pub(crate) fn open_again<F: Files>(rt: &F, path: &str) -> Option<F::File> {
         return None;
     }
     fs::open(rt, path).ok()
+}
+
+/// The octets of the file of a configuration or a scenario, if it can be read again.
+pub(crate) fn octets_of<F: Files>(alloc: Global, rt: &F, path: &str) -> Option<Vec<u8>> {
+    read_file(alloc, open_again(rt, path)?).ok()
 }
 
 /// Why a file of at most so many octets can't be opened or read.

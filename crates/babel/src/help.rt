@@ -80,7 +80,8 @@ Codes of a fault, on standard error, with --stdin after the line's number:
 pub(crate) const CHECK: &str =
     "Prints ok if a speaker can be made of the configuration. Else the first code
 that applies is on standard error. On a terminal, or with --details, a sentence
-follows it.
+follows it. It says where the fault is, and what is allowed. For a configuration
+that is ok there are warnings of what cannot work.
 
 
 With --restore, a speaker is restored from the snapshot too, and ok is followed
