@@ -28,3 +28,12 @@ pub(crate) fn flag<'a>(alloc: Global, name: &'a str, help: &'a str) -> Arg<'a> {
         .help(help)
         .action(ArgAction::SetTrue)
 }
+
+/// The option of every command with which people read what is wrong.
+pub(crate) fn details_arg<'a>(alloc: Global) -> Arg<'a> {
+    flag(
+        alloc,
+        "details",
+        "Writes what is wrong after a code, as to a terminal",
+    )
+}

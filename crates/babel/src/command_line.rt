@@ -1,20 +1,23 @@
 //! The command line.
 
-use crate::arguments::{flag, option, positional};
+use crate::arguments::{details_arg, flag, option, positional};
+use crate::details::{details_of, explain_absence, explain_fault, explain_output, warn};
 use crate::help;
-use crate::opening::{open_config_and_snapshot, report_open, restore_arg};
+use crate::noting::NotingWriter;
+use crate::opening::{open_config_and_snapshot, restore_arg};
 use crate::speaking::{run_speak, speak_command};
-use babel_check::check;
+use babel_check::try_check;
 use babel_config::FileFault;
-use babel_hops::net;
-use babel_report::{explain, replay};
-use babel_show::{LineOptions, Status, show, show_lines};
+use babel_faults::{Fault, report};
+use babel_hops::try_net;
+use babel_report::{try_explain, try_replay};
+use babel_show::{BadLines, Details, LineOptions, Status, show_lines, try_show};
 use babel_text::LineFault;
 use clap::error::ErrorKind;
 use clap::{Arg, ArgAction, ArgMatches, Command};
 use std::alloc::{AllocError, Global};
 use std::fs::{self, Files};
-use std::io::{BufWriter, Read, Write};
+use std::io::{BufWriter, IsTerminal, Read, Write};
 use std::net::Net;
 use std::rt::Env;
 use std::time::Clock;
@@ -51,7 +54,7 @@ pub(crate) fn read_arguments<R: AllocGlobal + Env>(rt: &R) -> Result<Vec<String>
 }
 
 /// Writes why the arguments can't be read.
-pub(crate) fn report<E: Write>(error: ArgumentsError, err: &mut E) -> Status {
+pub(crate) fn report_arguments<E: Write>(error: ArgumentsError, err: &mut E) -> Status {
     match error {
         ArgumentsError::NotText => {
             // If writing fails too, the status still reports the error.
@@ -63,39 +66,49 @@ pub(crate) fn report<E: Write>(error: ArgumentsError, err: &mut E) -> Status {
 }
 
 /// Runs the command that the arguments name.
-pub(crate) fn run<F: AllocGlobal + Files + Net + Clock, R: Read + Drop, W: Write + Drop, E: Write>(
+pub(crate) fn run<F, R: Read + Drop, W: Write + Drop, E: Write + IsTerminal>(
     rt: &F,
     arguments: &[String],
     input: R,
     out: W,
     err: &mut E,
-) -> Status {
+) -> Status
+where
+    F: AllocGlobal + Files + Net + Clock,
+{
     match try_run(rt, arguments, input, out, err) {
         Ok(status) => status,
         Err(fault) => babel_show::report(fault, err),
     }
 }
 
-fn try_run<F: AllocGlobal + Files + Net + Clock, R: Read + Drop, W: Write + Drop, E: Write>(
+fn try_run<F, R: Read + Drop, W: Write + Drop, E: Write + IsTerminal>(
     rt: &F,
     arguments: &[String],
     input: R,
     out: W,
     err: &mut E,
-) -> Result<Status, LineFault> {
+) -> Result<Status, LineFault>
+where
+    F: AllocGlobal + Files + Net + Clock,
+{
+    let out = NotingWriter::new(out);
     let mut out = BufWriter::with_capacity(rt.alloc(), WRITE_LEN, out).map_err(
         LineFault::of_writing,
     )?;
     run_command(rt, arguments, input, &mut out, err)
 }
 
-fn run_command<'a, F: AllocGlobal + Files + Net + Clock, R: Read + Drop, W: Write, E: Write>(
+fn run_command<'a, F, R: Read + Drop, W: Write + Drop, E: Write + IsTerminal>(
     rt: &F,
     arguments: &'a [String],
     input: R,
-    out: &mut W,
+    out: &mut BufWriter<NotingWriter<W>>,
     err: &mut E,
-) -> Result<Status, LineFault> {
+) -> Result<Status, LineFault>
+where
+    F: AllocGlobal + Files + Net + Clock,
+{
     let command: Command<'a> = command(rt.alloc())?;
     match command.try_get_matches_from(arguments) {
         Ok(matches) => Ok(dispatch(rt, &matches, input, out, err)),
@@ -121,107 +134,160 @@ fn write_usage<W: Write, E: Write>(
     Ok(Status::Done)
 }
 
-fn dispatch<F: AllocGlobal + Files + Net + Clock, R: Read + Drop, W: Write, E: Write>(
+/// Runs the command, and writes its fault. If people read it, a sentence follows.
+fn dispatch<F, R: Read + Drop, W: Write + Drop, E: Write + IsTerminal>(
     rt: &F,
     matches: &ArgMatches<'_>,
     input: R,
-    out: &mut W,
+    out: &mut BufWriter<NotingWriter<W>>,
     err: &mut E,
-) -> Status {
-    match matches.subcommand() {
-        Some(("show", arguments)) => run_show(rt.alloc(), arguments, input, out, err),
-        Some(("check", arguments)) => run_check(rt, arguments, out, err),
-        Some(("replay", arguments)) => run_replay(rt, arguments, out, err),
-        Some(("explain", arguments)) => run_explain(rt, arguments, out, err),
-        Some(("net", arguments)) => run_net(rt, arguments, out, err),
-        Some(("speak", arguments)) => run_speak(rt, arguments, out, err),
-        _ => Status::Usage,
+) -> Status
+where
+    F: AllocGlobal + Files + Net + Clock,
+{
+    let Some((command, arguments)) = matches.subcommand() else {
+        return Status::Usage;
+    };
+    if command == "show" && arguments.get_flag("stdin") {
+        return show_input(rt.alloc(), arguments, input, out, err);
     }
-}
-
-fn run_show<R: Read + Drop, W: Write, E: Write>(
-    alloc: Global,
-    arguments: &ArgMatches<'_>,
-    input: R,
-    out: &mut W,
-    err: &mut E,
-) -> Status {
-    let source = arguments.get_str("source").unwrap_or(DEFAULT_SOURCE);
-    match arguments.get_str("hex") {
-        Some(hex) => show(alloc, source, hex, out, err),
-        None => {
-            let header = arguments.get_flag("header");
-            let options = LineOptions { source, header };
-            show_lines(alloc, options, input, out, err)
+    let details = details_of(arguments, err);
+    // If writing the sentence fails, the status still reports the fault.
+    match run_one(rt, command, arguments, out) {
+        Ok(status) => {
+            if details == Details::Shown {
+                let _ = match command {
+                    "check" => warn(rt, arguments, err),
+                    "explain" if !out.get_ref().is_written() => {
+                        explain_absence(rt, arguments, err)
+                    }
+                    _ => Ok(()),
+                };
+            }
+            status
+        }
+        Err(fault) => {
+            let status = report(fault, err);
+            if details == Details::Shown {
+                let _ = match out.get_ref().failure() {
+                    Some(failure) if is_of_writing(fault) => explain_output(failure, err),
+                    _ => explain_fault(rt, command, arguments, fault, err),
+                };
+            }
+            status
         }
     }
 }
 
-fn run_check<F: AllocGlobal + Files, W: Write, E: Write>(
-    rt: &F,
-    arguments: &ArgMatches<'_>,
-    out: &mut W,
-    err: &mut E,
-) -> Status {
-    match open_config_and_snapshot(rt, arguments) {
-        Ok((config, snapshot)) => check(rt.alloc(), config, snapshot, out, err),
-        Err(fault) => report_open(fault, err),
-    }
+/// Whether the output couldn't be written.
+fn is_of_writing(fault: Fault) -> bool {
+    matches!(
+        fault,
+        Fault::Output(LineFault::Write) | Fault::Line(_, LineFault::Write)
+    )
 }
 
-fn run_replay<F: AllocGlobal + Files, W: Write, E: Write>(
+/// Runs a command that reads no standard input of its own.
+fn run_one<F: AllocGlobal + Files + Net + Clock, W: Write>(
     rt: &F,
+    command: &str,
     arguments: &ArgMatches<'_>,
     out: &mut W,
-    err: &mut E,
-) -> Status {
-    match open_config_and_log(rt, arguments) {
-        Ok((config, log)) => replay(rt.alloc(), config, log, out, err),
-        Err(error) => report_file(FileFault::from(error), err),
+) -> Result<Status, Fault> {
+    match command {
+        "show" => {
+            let hex = arguments.get_str("hex").unwrap_or("");
+            return Ok(try_show(rt.alloc(), source_of(arguments), hex, out)?);
+        }
+        "check" => run_check(rt, arguments, out)?,
+        "replay" => run_replay(rt, arguments, out)?,
+        "explain" => run_explain(rt, arguments, out)?,
+        "net" => run_net(rt, arguments, out)?,
+        "speak" => run_speak(rt, arguments, out)?,
+        _ => return Ok(Status::Usage),
     }
+    Ok(Status::Done)
 }
 
-fn run_explain<F: AllocGlobal + Files, W: Write, E: Write>(
+/// The source address of a datagram that comes without one.
+fn source_of<'m>(arguments: &'m ArgMatches<'_>) -> &'m str {
+    arguments.get_str("source").unwrap_or(DEFAULT_SOURCE)
+}
+
+/// Shows the datagrams of the standard input.
+fn show_input<R: Read + Drop, W: Write + Drop, E: Write + IsTerminal>(
+    alloc: Global,
+    arguments: &ArgMatches<'_>,
+    input: R,
+    out: &mut BufWriter<NotingWriter<W>>,
+    err: &mut E,
+) -> Status {
+    let details = details_of(arguments, err);
+    let bad_lines = if arguments.get_flag("keep-going") {
+        BadLines::GoOn
+    } else {
+        BadLines::End
+    };
+    let options = LineOptions {
+        source: source_of(arguments),
+        header: arguments.get_flag("header"),
+        bad_lines,
+        details,
+    };
+    let status = show_lines(alloc, options, input, out, err);
+    if let (Details::Shown, Some(failure)) = (details, out.get_ref().failure()) {
+        // If writing the sentence fails, the status still reports the fault.
+        let _ = explain_output(failure, err);
+    }
+    status
+}
+
+fn run_check<F: AllocGlobal + Files, W: Write>(
     rt: &F,
     arguments: &ArgMatches<'_>,
     out: &mut W,
-    err: &mut E,
-) -> Status {
+) -> Result<(), Fault> {
+    let (config, snapshot) = open_config_and_snapshot(rt, arguments)?;
+    try_check(rt.alloc(), config, snapshot, out)
+}
+
+fn run_replay<F: AllocGlobal + Files, W: Write>(
+    rt: &F,
+    arguments: &ArgMatches<'_>,
+    out: &mut W,
+) -> Result<(), Fault> {
+    let (config, log) = open_config_and_log(rt, arguments)?;
+    try_replay(rt.alloc(), config, log, out)
+}
+
+fn run_explain<F: AllocGlobal + Files, W: Write>(
+    rt: &F,
+    arguments: &ArgMatches<'_>,
+    out: &mut W,
+) -> Result<(), Fault> {
     let prefix = arguments.get_str("prefix").unwrap_or("");
-    match open_config_and_log(rt, arguments) {
-        Ok((config, log)) => explain(rt.alloc(), config, log, prefix, out, err),
-        Err(error) => report_file(FileFault::from(error), err),
-    }
+    let (config, log) = open_config_and_log(rt, arguments)?;
+    try_explain(rt.alloc(), config, log, prefix, out)
 }
 
 /// Opens the files of `replay` and `explain`, in the order of the arguments.
 fn open_config_and_log<F: Files>(
     rt: &F,
     arguments: &ArgMatches<'_>,
-) -> io::Result<(F::File, F::File)> {
+) -> Result<(F::File, F::File), FileFault> {
     let config = fs::open(rt, arguments.get_str("config").unwrap_or(""))?;
     let log = fs::open(rt, arguments.get_str("log").unwrap_or(""))?;
     Ok((config, log))
 }
 
-fn run_net<F: AllocGlobal + Files, W: Write, E: Write>(
+fn run_net<F: AllocGlobal + Files, W: Write>(
     rt: &F,
     arguments: &ArgMatches<'_>,
     out: &mut W,
-    err: &mut E,
-) -> Status {
+) -> Result<(), Fault> {
     let path = arguments.get_str("scenario").unwrap_or("");
-    match fs::open(rt, path) {
-        Ok(file) => net(rt.alloc(), file, out, err),
-        Err(error) => report_file(FileFault::from(error), err),
-    }
-}
-
-/// Writes why a file can't be opened.
-fn report_file<E: Write>(fault: FileFault, err: &mut E) -> Status {
-    // If writing fails too, the status still reports the fault.
-    let _ = writeln!(err, "babel: {}", fault.code());
-    Status::Refused
+    let file = fs::open(rt, path).map_err(FileFault::from)?;
+    try_net(rt.alloc(), file, out)
 }
 
 /// The commands and their arguments.
@@ -266,6 +332,15 @@ fn header_arg<'a>(alloc: Global) -> Result<Arg<'a>, AllocError> {
     header.conflicts_with("hex")
 }
 
+fn keep_going_arg<'a>(alloc: Global) -> Result<Arg<'a>, AllocError> {
+    let keep_going = flag(
+        alloc,
+        "keep-going",
+        "With --stdin, goes on after a line that cannot be read",
+    );
+    keep_going.conflicts_with("hex")
+}
+
 fn hex_arg<'a>(alloc: Global) -> Result<Arg<'a>, AllocError> {
     let hex = Arg::new(alloc, "hex")
         .value_name("HEX")
@@ -278,10 +353,13 @@ fn hex_arg<'a>(alloc: Global) -> Result<Arg<'a>, AllocError> {
 fn show_command<'a>(alloc: Global) -> Result<Command<'a>, AllocError> {
     Command::new(alloc, "show")
         .about("Shows what each TLV of a datagram means")
+        .override_usage(help::SHOW_USAGE)
         .after_help(help::SHOW)
         .arg(source_arg(alloc))?
         .arg(stdin_arg(alloc))?
         .arg(header_arg(alloc)?)?
+        .arg(keep_going_arg(alloc)?)?
+        .arg(details_arg(alloc))?
         .arg(hex_arg(alloc)?)
 }
 
@@ -312,7 +390,8 @@ fn check_command<'a>(alloc: Global) -> Result<Command<'a>, AllocError> {
         )
         .after_help(help::CHECK)
         .arg(config_arg(alloc))?
-        .arg(restore_arg(alloc))
+        .arg(restore_arg(alloc))?
+        .arg(details_arg(alloc))
 }
 
 fn replay_command<'a>(alloc: Global) -> Result<Command<'a>, AllocError> {
@@ -320,7 +399,8 @@ fn replay_command<'a>(alloc: Global) -> Result<Command<'a>, AllocError> {
         .about("Shows what a speaker makes of a log, and the routes that it selects")
         .after_help(help::REPLAY)
         .arg(config_arg(alloc))?
-        .arg(log_arg(alloc))
+        .arg(log_arg(alloc))?
+        .arg(details_arg(alloc))
 }
 
 /// The argument that names the prefix of `explain`.
@@ -339,7 +419,8 @@ fn explain_command<'a>(alloc: Global) -> Result<Command<'a>, AllocError> {
         .after_help(help::EXPLAIN)
         .arg(config_arg(alloc))?
         .arg(log_arg(alloc))?
-        .arg(prefix_arg(alloc))
+        .arg(prefix_arg(alloc))?
+        .arg(details_arg(alloc))
 }
 
 fn scenario_arg<'a>(alloc: Global) -> Arg<'a> {
@@ -355,5 +436,6 @@ fn net_command<'a>(alloc: Global) -> Result<Command<'a>, AllocError> {
     Command::new(alloc, "net")
         .about("Runs a network of speakers, and shows its next hops")
         .after_help(help::NET)
-        .arg(scenario_arg(alloc))
+        .arg(scenario_arg(alloc))?
+        .arg(details_arg(alloc))
 }

@@ -9,6 +9,8 @@ pub(crate) const PROGRAM: &str = "Examples:
   babel explain router.toml router.log 10.0.0.0/8
   babel show --help      units, and what each code means
   babel check --help     the keys of a configuration, and of a snapshot
+  babel check --details router.toml
+                         what is wrong with it, in words, as to a terminal
   babel replay --help    the lines of a log, and of its report
 
 Exit status:
@@ -17,14 +19,21 @@ Exit status:
   2  the command line is not one of the commands
   3  the script ./babel could not build the program";
 
+/// The usage of `show`: octets are an argument, or lines of the standard input.
+pub(crate) const SHOW_USAGE: &str = "babel show [--source ADDR] [--details] HEX
+       babel show [--source ADDR] [--details] --stdin [--header] [--keep-going]";
+
 /// After the help of `show`.
 pub(crate) const SHOW: &str =
-    "A line for each TLV: how many octets of the datagram come before it, then its message, `state`
-(a Router-Id or Next Hop, for the Updates after it), or `ignored` and a code. A datagram that cannot
-be read as a whole is `refused` and a code.
+    "A line for each TLV: how many octets of the datagram come before it, then its
+message, `state` (a Router-Id or Next Hop, for the Updates after it), or
+`ignored` and a code. A datagram that cannot be read as a whole is `refused` and
+a code.
 
-With --stdin, an empty line separates two datagrams. Blank lines and lines that begin with # are
-skipped. Output is flushed whenever no further line is waiting.
+With --stdin, an empty line separates two datagrams. Blank lines and lines that
+begin with # are skipped. Output is flushed whenever no further line is waiting.
+It ends at the first line that cannot be read. With --keep-going it goes on, and
+the status is 1 at the end.
 
 Examples:
   babel show 2a0200080406000000010190
@@ -34,8 +43,9 @@ Examples:
   tail -f datagrams.txt | babel show --stdin --header
 
 Units:
-  Intervals are in centiseconds: interval 400 is 4 seconds. Metrics and rxcosts are costs without a
-  unit, from 0 to 65535, and 65535 is infinity. Offsets and lengths are in octets.
+  Intervals are in centiseconds: interval 400 is 4 seconds. Metrics and rxcosts
+  are costs without a unit, from 0 to 65535, and 65535 is infinity. Offsets and
+  lengths are in octets.
 
 Exit status:
   0  shown; with --stdin also if single datagrams are refused
@@ -44,16 +54,18 @@ Exit status:
 
 Codes of a refused datagram, on standard output:
   P1  fewer than 4 octets           P4  the body is longer than the datagram
-  P2  the first octet is not 42     P5  a TLV runs past the body: its offset follows
-  P3  the version is not 2          P6  out of memory
+  P2  the first octet is not 42     P5  a TLV runs past the body: its offset
+  P3  the version is not 2              follows
+                                    P6  out of memory
 
 Codes of an ignored TLV, the first that applies:
   I1  padding                       I8   no router-id, or a reserved one
   I2  a type above 10               I9   no next hop of the prefix's family
   I3  its fields are not whole      I10  interval 0
   I4  a sub-TLV runs past the TLV   I11  rxcost 0
-  I5  a mandatory sub-TLV of an     I12  a wildcard with a prefix length, omitted octets or a
-      unknown type, which follows        finite metric, or in a Seqno Request
+  I5  a mandatory sub-TLV of an     I12  a wildcard with a prefix length,
+      unknown type, which follows        omitted octets or a finite metric, or
+                                         in a Seqno Request
   I6  an address encoding that      I13  hop count 0
       the TLV does not take
   I7  no default prefix
@@ -66,29 +78,41 @@ Codes of a fault, on standard error, with --stdin after the line's number:
 
 /// After the help of `check`.
 pub(crate) const CHECK: &str =
-    "Prints ok if a speaker can be made of the configuration. Else the first code that applies is on
-standard error.
+    "Prints ok if a speaker can be made of the configuration. Else the first code
+that applies is on standard error. On a terminal, or with --details, a sentence
+follows it. It says where the fault is, and what is allowed. For a configuration
+that is ok there are warnings of what cannot work.
 
-With --restore, a speaker is restored from the snapshot too, and ok is followed by what it restored:
+
+With --restore, a speaker is restored from the snapshot too, and ok is followed
+by what it restored:
   ok <n> sources seqno <n> raises <n>
-babel speak --save writes snapshots, and babel speak --help explains when it is safe to restore one.
+babel speak --save writes snapshots, and babel speak --help explains when it is
+safe to restore one.
 
 Keys of the file, which is TOML of at most 1048576 octets:
   router-id   16 hexadecimal digits, not all 0 and not all f; required
   seqno       the speaker's first sequence number, 0 to 65535 [default: 0]
   collect     true if entries of the source table are collected [default: false]
-  prefixes    a list of prefixes that the speaker announces, at most 64 [default: none]
+  prefixes    a list of prefixes that the speaker announces, at most 64
+              [default: none]
   interface   a list of tables, 1 to 8, numbered from 0
 
 Keys of an [[interface]]:
-  transport   \"ipv4\" or \"ipv6\": the addresses that datagrams are sent from; required
-  ipv4        the interface's IPv4 address and its network's length, as 192.168.0.2/24
+  transport   \"ipv4\" or \"ipv6\": the addresses that datagrams are sent from;
+              required
+  ipv4        the interface's IPv4 address and its network's length, as
+              192.168.0.2/24
   ipv6        the interface's IPv6 address, in fe80::/10
-  peers       a list of addresses that are sent what is for all neighbours, at most 16 [default: none]
-  cost        the nominal cost of receiving, 1 to 65534, without a unit [default: 96]
-  hello       the interval between two Hellos in centiseconds, 1 to 4000 [default: 400]
+  peers       a list of addresses that are sent what is for all neighbours, at
+              most 16 [default: none]
+  cost        the nominal cost of receiving, 1 to 65534, without a unit
+              [default: 96]
+  hello       the interval between two Hellos in centiseconds, 1 to 4000
+              [default: 400]
 
-Bits of a prefix past its length are cleared. An interface needs the address of its transport.
+Bits of a prefix past its length are cleared. An interface needs the address of
+its transport.
 
 Example, a file router.toml:
   router-id = \"0000000000000002\"
@@ -110,25 +134,32 @@ Exit status:
   2  the command line is not one of the commands
 
 Codes of a file:
-  F1  not TOML                      F3  the text of an address, a prefix or a router-id can't be read
-  F2  a key is unknown, missing     F4  out of memory
-      or of the wrong kind, or a    F5  the file can't be read, or is longer than 1048576 octets
+  F1  not TOML                      F4  out of memory
+  F2  a key is unknown, missing     F5  the file can't be read, or is longer
+      or of the wrong kind, or a        than 1048576 octets
       number is out of range
+  F3  the text of an address, a
+      prefix or a router-id can't
+      be read
 
 Codes of a configuration, in the order of test:
-  C1  the router-id is reserved     C5  more than 64 prefixes, or one twice
-  C2  no interface, or more than 8  C6  an interface without an address of its transport, an IPv6
-  C3  a cost outside 1 to 65534         address outside fe80::/10, a length above 32, more than 16
-  C4  a Hello interval outside          peers, or a peer of another family than the transport
-      1 to 4000
+  C1  the router-id is reserved     C6  an interface without an address of its
+  C2  no interface, or more than 8      transport, an IPv6 address outside
+  C3  a cost outside 1 to 65534         fe80::/10, a length above 32, more than
+  C4  a Hello interval outside          16 peers, or a peer of another family
+      1 to 4000                         than the transport
+  C5  more than 64 prefixes, or
+      one twice
 
-Codes of a snapshot, in the order of test after C1 to C6 and before C7. Records count from 0:
+Codes of a snapshot, in the order of test after C1 to C6 and before C7. Records
+count from 0:
   K8  the file can't be read, or has more than 15384 octets
-  K1  fewer than 24 octets          K6 i  record i is no source, or its metric is infinite
-  K2  it is no snapshot             K7 i  record i is not greater than the one before it
-  K3  another router-id             C7    out of memory
-  K4  more than 512 sources
-  K5  a length other than that of its records
+  K1  fewer than 24 octets          K6 i  record i is no source, or its metric is
+  K2  it is no snapshot                   infinite
+  K3  another router-id             K7 i  record i is not greater than the one
+  K4  more than 512 sources               before it
+  K5  a length other than that      C7    out of memory
+      of its records
 A snapshot that can't be opened is K8 before the configuration is read.
 
 Codes of writing:
@@ -140,21 +171,27 @@ Lines of the log, whose fields one blank separates:
   <time> in <iface> <source> <hex>   a datagram came; - for no octets
   <time> tick                        time passed: timers that are due fire
   <time> cost <iface> <n>            an interface got another nominal cost
-Empty lines and lines that begin with # are skipped. A line has at most 131200 octets.
+Empty lines and lines that begin with # are skipped. A line has at most 131200
+octets.
 
 Lines of the report, for each line of the log:
-  <time> <offset> <message> <code>   a TLV, how many octets come before it, and what became of it
-  <time> <offset> state              a Router-Id or Next Hop, for the Updates after it
+  <time> <offset> <message> <code>   a TLV, how many octets come before it, and
+                                     what became of it
+  <time> <offset> state              a Router-Id or Next Hop, for the Updates
+                                     after it
   <time> <offset> ignored <code>     a TLV that can't be used
   <time> refused <code>              a datagram or a cost that was refused
   <time> select <prefix> <route>     the selected route of the prefix changed
-  <time> out <iface> <address> <n>   a datagram of n messages is sent; `all` goes to each peer
-At the end there is a line `table <prefix> <route>` for each prefix of which an Update came. A route
-is `via <iface> <address> metric <n> router <id> seqno <n>`, or `none`.
+  <time> out <iface> <address> <n>   a datagram of n messages is sent; `all`
+                                     goes to each peer
+At the end there is a line `table <prefix> <route>` for each prefix of which an
+Update came. A route is `via <iface> <address> metric <n> router <id> seqno
+<n>`, or `none`.
 
 Units:
-  Times and intervals are in centiseconds: 100 is a second. Metrics and costs have no unit, and 65535
-  is infinity. Interfaces are numbered from 0, as the configuration lists them.
+  Times and intervals are in centiseconds: 100 is a second. Metrics and costs
+  have no unit, and 65535 is infinity. Interfaces are numbered from 0, as the
+  configuration lists them.
 
 Example, a file router.log (router.toml is that of babel check --help):
   0 tick
@@ -166,7 +203,8 @@ Example, a file router.log (router.toml is that of babel check --help):
 
 Exit status:
   0  the report is whole, also if it has refused datagrams
-  1  refused: the code is on standard error, after the number of the line if it is one of the log
+  1  refused: the code is on standard error, after the number of the line if it
+     is one of the log
   2  the command line is not one of the commands
 
 Codes of a message:
@@ -184,7 +222,8 @@ Codes of a refused line of the report:
       not on the interface's link   E2  a cost outside 1 to 65534
   S3  an own address
 
-Codes of a fault, on standard error. F1 to F5 and C1 to C7: see babel check --help.
+Codes of a fault, on standard error. F1 to F5 and C1 to C7: see babel check
+--help.
   L1  a line of another form, or    L5  a line of more than 131200 octets
       not UTF-8                     L6  reading failed
   L2  not a number, or too large    L7  writing failed
@@ -193,14 +232,15 @@ Codes of a fault, on standard error. F1 to F5 and C1 to C7: see babel check --he
 
 /// After the help of `explain`.
 pub(crate) const EXPLAIN: &str = "\
-The log is that of babel replay --help. For each route to the prefix there is a line, in the order of
-the neighbours:
-  <prefix> via <iface> <address> router <id> seqno <n> advertised <n> cost <n> metric <n>
-  source <seqno> <metric> <verdict>
+The log is that of babel replay --help. For each route to the prefix there is a
+line, in the order of the neighbours:
+  <prefix> via <iface> <address> router <id> seqno <n> advertised <n> cost <n>
+  metric <n> source <seqno> <metric> <verdict>
 
-The neighbour advertised the metric after `advertised`. The cost of the link to it is added, which
-gives the metric. A route is feasible if its seqno and advertised metric are better than those of its
-source, which are those of the best Update that was sent; `source none` if none was sent.
+The neighbour advertised the metric after `advertised`. The cost of the link to
+it is added, which gives the metric. A route is feasible if its seqno and
+advertised metric are better than those of its source, which are those of the
+best Update that was sent; `source none` if none was sent.
 
 The verdict is the first of these that applies:
   local         the speaker announces the prefix itself
@@ -221,48 +261,57 @@ Exit status:
   1  refused: the code is on standard error
   2  the command line is not one of the commands
 
-Codes of a fault, on standard error. F1 to F5 and C1 to C7: see babel check --help; L1 to L8: see babel
-replay --help. After a fault of the log, the routes after the lines before it are shown.
+Codes of a fault, on standard error. F1 to F5 and C1 to C7: see babel check
+--help; L1 to L8: see babel replay --help. After a fault of the log, the routes
+after the lines before it are shown.
   F3  the argument is not a prefix";
 
 /// After the help of `speak`.
 pub(crate) const SPEAK: &str =
-    "A speaker has one UDP socket for each interface, bound to its IPv4 address and the port. In a turn it waits
-at most 10 ms on each socket for a datagram, takes its timers, and sends at most 64 datagrams. A datagram
-for all neighbours is sent to each of the interface's peers. Datagrams from another port are dropped.
+    "A speaker has one UDP socket for each interface, bound to its IPv4 address and
+the port. In a turn it waits at most 10 ms on each socket for a datagram, takes
+its timers, and sends at most 64 datagrams. A datagram for all neighbours is
+sent to each of the interface's peers. Datagrams from another port are dropped.
 
 At the end it prints, on one line
   turns <n> received <n> sent <n> refused <n> faults <n>
 
 With --routes, each change of a selected route is a line
-  <time> select <prefix> via <interface> <address> metric <n> router <id> seqno <n>
+  <time> select <prefix> via <iface> <address> metric <n> router <id> seqno <n>
   <time> select <prefix> none
-where <time> is in centiseconds since the start. At the end there is a line `table`, in place of <time>
-and `select`, for each prefix to which the speaker has a route.
+where <time> is in centiseconds since the start. At the end there is a line
+`table`, in place of <time> and `select`, for each prefix to which the speaker
+has a route.
 
 Example, 30 seconds with one interface:
   babel speak router.toml --turns 3000 --routes
 
-Restarts: --save writes a snapshot after the last turn, with the own seqno and the source table. It is
-written to FILE.tmp, which then replaces FILE: after a crash, FILE is whole, the old one or the new one.
---restore reads a snapshot before the first turn. Both may name one file.
+Restarts: --save writes a snapshot after the last turn, with the own seqno and
+the source table. It is written to FILE.tmp, which then replaces FILE: after a
+crash, FILE is whole, the old one or the new one. --restore reads a snapshot
+before the first turn. Both may name one file.
 
-A snapshot is safe to restore if its speaker sent nothing after the save. So it is safe once, and only if
-the run that saved it ended by itself. A run that was killed saved nothing: FILE is from an earlier run,
-and a loop may come of it. Move FILE away before the run:
+A snapshot is safe to restore if its speaker sent nothing after the save. So it
+is safe once, and only if the run that saved it ended by itself. A run that was
+killed saved nothing: FILE is from an earlier run, and a loop may come of it.
+Move FILE away before the run:
   mv router.saved router.restore
-  babel speak router.toml --turns 3000 --restore router.restore --save router.saved
-If router.saved is missing after that, the snapshot is lost: wait until the routers around have no route
-through this one, at least 3 minutes, and start without --restore.
+  babel speak router.toml --turns 3000 --restore router.restore \\
+    --save router.saved
+If router.saved is missing after that, the snapshot is lost: wait until the
+routers around have no route through this one, at least 3 minutes, and start
+without --restore.
 
 Exit status:
   0  all turns were made; the counts have what failed
   1  refused: the code is on standard error
   2  the command line is not one of the commands
 
-Codes, in the order of test: those of a file, C1 to C6 (babel check --help), then
+Codes, in the order of test: those of a file, C1 to C6 (babel check --help),
+then
   W1        an interface has IPv6 transport
-  K8        the snapshot can't be read, or has more than 15384 octets; tested first if it can't be opened
+  K8        the snapshot can't be read, or has more than 15384 octets; tested
+            first if it can't be opened
   K1 to K7  the snapshot is refused (babel check --help)
   C7        out of memory
   W2        a socket can't be made
@@ -272,21 +321,24 @@ At the end, after the counts:
 
 /// After the help of `net`.
 pub(crate) const NET: &str =
-    "Runs the events of the scenario in order. After each event there is a line for each next hop that
-changed, and at the end the numbers of events and of recorded datagrams:
+    "Runs the events of the scenario in order. After each event there is a line for
+each next hop that changed, and at the end the numbers of events and of recorded
+datagrams:
   <event> hop <node> <prefix> -> <node> router <router-id>
   <event> hop <node> <prefix> -> none
   end <n> events <n> datagrams
-An event that is refused is the last line: <event> refused <code>. Nodes, events and datagrams count
-from 0. Moments are in centiseconds.
+An event that is refused is the last line: <event> refused <code>. Nodes, events
+and datagrams count from 0. Moments are in centiseconds.
 
 Keys of the file, which is TOML of at most 1048576 octets:
   events      a list of texts [default: none]
-  node        a list of tables, each a configuration (babel check --help), at most 64
+  node        a list of tables, each a configuration (babel check --help), at
+              most 64
 
 Events:
   tick N T          the timers of node N run at moment T
-  emit N T          node N sends its next datagram, which is recorded, or nothing
+  emit N T          node N sends its next datagram, which is recorded, or
+                    nothing
   deliver K N I T   node N receives the recorded datagram K over its interface I
   cost N I C        the nominal cost of interface I of node N becomes C
   raise N           the seqno of node N grows by 1
@@ -302,14 +354,16 @@ Exit status:
 
 Codes of a refused event:
   N1  no such node                  N4  a cost outside 1 to 65534
-  N2  no such datagram              N5  the node's configuration does not list the prefix
-  N3  no such interface             N6  out of memory
+  N2  no such datagram              N5  the node's configuration does not list
+  N3  no such interface                 the prefix
+                                    N6  out of memory
                                     N7  the prefix is not announced
 
 Codes of a network:
   M1  two interfaces with one       M5  more than 64 nodes
       address                       M6  out of memory
-  M2  two nodes with one router-id  M7  a node's configuration: its number and C1 to C7 follow
+  M2  two nodes with one router-id  M7  a node's configuration: its number and
+      C1 to C7 follow
   M4  a node collects sources
 
 Codes of a file: F1 to F5 as in babel check --help, and

@@ -6,18 +6,21 @@
 
 mod arguments;
 mod command_line;
+mod details;
+mod files;
 mod help;
+mod noting;
 mod opening;
 mod speaking;
 
-use command_line::{read_arguments, report, run};
+use command_line::{read_arguments, report_arguments, run};
 use std::process::ExitCode;
 
 fn main(rt: HostRuntime) -> ExitCode {
     let mut err = rt.stderr();
     let status = match read_arguments(&rt) {
         Ok(words) => run(&rt, words.as_slice(), rt.stdin(), rt.stdout(), &mut err),
-        Err(error) => report(error, &mut err),
+        Err(error) => report_arguments(error, &mut err),
     };
     ExitCode::from(status)
 }

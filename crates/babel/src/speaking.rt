@@ -1,10 +1,10 @@
 //! The command `speak`: its arguments, and what it writes if it is refused.
 
-use crate::arguments::{flag, option, positional};
+use crate::arguments::{details_arg, flag, option, positional};
 use crate::help;
-use crate::opening::{OpenFault, open_config_and_snapshot, restore_arg};
+use crate::opening::{open_config_and_snapshot, restore_arg};
 use babel_config::{FileFault, read_config, read_file};
-use babel_show::Status;
+use babel_faults::Fault;
 use babel_state::Config;
 use babel_udp::{SpeakFault, SpeakOptions, speak};
 use clap::builder::ValueParser;
@@ -21,45 +21,34 @@ const MAX_TURNS: u64 = 1_000_000;
 /// The UDP port that is used if none is given (RFC 8966, section 4).
 const DEFAULT_PORT: u16 = 6696;
 
-/// Why a speaker doesn't speak, or stops.
-enum Fault {
-    Open(OpenFault),
-    File(FileFault),
-    Speak(SpeakFault),
-}
-
-/// Reads the configuration, restores the speaker, and speaks. A fault is written to `err`.
-pub(crate) fn run_speak<F: AllocGlobal + Files + Net + Clock, W: Write, E: Write>(
-    rt: &F,
-    arguments: &ArgMatches<'_>,
-    out: &mut W,
-    err: &mut E,
-) -> Status {
-    // If writing fails too, the status still reports the fault.
-    let _ = match try_speak(rt, arguments, out) {
-        Ok(()) => return Status::Done,
-        Err(Fault::Open(fault)) => writeln!(err, "babel: {fault}"),
-        Err(Fault::File(fault)) => writeln!(err, "babel: {}", fault.code()),
-        Err(Fault::Speak(fault)) => writeln!(err, "babel: {}", fault.code()),
-    };
-    Status::Refused
-}
-
-fn try_speak<F: AllocGlobal + Files + Net + Clock, W: Write>(
+/// Reads the configuration, restores the speaker, and speaks.
+pub(crate) fn run_speak<F: AllocGlobal + Files + Net + Clock, W: Write>(
     rt: &F,
     arguments: &ArgMatches<'_>,
     out: &mut W,
 ) -> Result<(), Fault> {
     let alloc = rt.alloc();
-    let (file, snapshot) = open_config_and_snapshot(rt, arguments).map_err(Fault::Open)?;
-    let config = config_in(alloc, file).map_err(Fault::File)?;
+    let (file, snapshot) = open_config_and_snapshot(rt, arguments)?;
+    let config = config_in(alloc, file)?;
     let options = SpeakOptions {
         turns: arguments.get_one::<u32>("turns").unwrap_or(1),
         port: arguments.get_one::<u16>("port").unwrap_or(DEFAULT_PORT),
         routes: arguments.get_flag("routes"),
         save: arguments.get_str("save"),
     };
-    speak(alloc, rt, config, snapshot, options, out).map_err(Fault::Speak)
+    speak(alloc, rt, config, snapshot, options, out).map_err(fault_of)
+}
+
+/// The fault of a command for that of a speaker.
+fn fault_of(fault: SpeakFault) -> Fault {
+    match fault {
+        SpeakFault::Config(fault) => Fault::Config(fault),
+        SpeakFault::Transport => Fault::Transport,
+        SpeakFault::SnapshotFile(fault) => Fault::SnapshotFile(fault),
+        SpeakFault::Restore(fault) => Fault::Restore(fault),
+        SpeakFault::Socket => Fault::Socket,
+        SpeakFault::Output(fault) => Fault::Output(fault),
+    }
 }
 
 /// Reads a configuration.
@@ -126,5 +115,6 @@ pub(crate) fn speak_command<'a>(alloc: Global) -> Result<Command<'a>, AllocError
         .arg(port_arg(alloc))?
         .arg(routes_arg(alloc))?
         .arg(restore_arg(alloc))?
-        .arg(save_arg(alloc))
+        .arg(save_arg(alloc))?
+        .arg(details_arg(alloc))
 }

@@ -1,7 +1,7 @@
 //! `babel check CONFIG --restore FILE`.
 
-use crate::CheckFault;
 use babel_config::{read_config, read_file};
+use babel_faults::{Fault, end};
 use babel_show::Status;
 use babel_snapshot::SavedState;
 use babel_snapshot_file::read_snapshot;
@@ -24,22 +24,16 @@ pub fn check<C: Read + Drop, S: Read + Drop, W: Write, E: Write>(
     out: &mut W,
     err: &mut E,
 ) -> Status {
-    match try_check(alloc, config, snapshot, out) {
-        Ok(()) => Status::Done,
-        Err(fault) => {
-            // If writing fails too, the status still reports the fault.
-            let _ = writeln!(err, "babel: {}", fault);
-            Status::Refused
-        }
-    }
+    end(try_check(alloc, config, snapshot, out), err)
 }
 
-fn try_check<C: Read + Drop, S: Read + Drop, W: Write>(
+/// The same, and the fault is returned.
+pub fn try_check<C: Read + Drop, S: Read + Drop, W: Write>(
     alloc: Global,
     config: C,
     snapshot: Option<S>,
     out: &mut W,
-) -> Result<(), CheckFault> {
+) -> Result<(), Fault> {
     let config = checked_config(alloc, config)?;
     match snapshot {
         Some(file) => check_snapshot(alloc, config, file, out),
@@ -48,7 +42,7 @@ fn try_check<C: Read + Drop, S: Read + Drop, W: Write>(
 }
 
 /// Reads a configuration of which a speaker can be made.
-fn checked_config<C: Read + Drop>(alloc: Global, config: C) -> Result<Config, CheckFault> {
+fn checked_config<C: Read + Drop>(alloc: Global, config: C) -> Result<Config, Fault> {
     let octets = read_file(alloc, config)?;
     let config = read_config(alloc, octets.as_slice())?;
     config.check()?;
@@ -60,7 +54,7 @@ fn check_snapshot<S: Read + Drop, W: Write>(
     config: Config,
     snapshot: S,
     out: &mut W,
-) -> Result<(), CheckFault> {
+) -> Result<(), Fault> {
     let octets = read_snapshot(alloc, snapshot)?;
     check_octets(alloc, config, octets.as_slice(), out)
 }
@@ -71,7 +65,7 @@ fn check_octets<W: Write>(
     config: Config,
     octets: &[u8],
     out: &mut W,
-) -> Result<(), CheckFault> {
+) -> Result<(), Fault> {
     let router_id = config.router_id;
     Speaker::restore(alloc, config, MOMENT, octets)?;
     let saved = SavedState::read(&router_id, octets)?;

@@ -3,7 +3,5 @@
 #![tactic(auto)]
 
 mod checking;
-mod errors;
 
-pub use checking::check;
-pub(crate) use errors::CheckFault;
+pub use checking::{check, try_check};

@@ -1,8 +1,7 @@
 //! The command `net`: the next hops of a network after each event of a scenario.
 #![tactic(auto)]
 
-mod errors;
 mod hops;
 mod running;
 
-pub use running::net;
+pub use running::{net, try_net};

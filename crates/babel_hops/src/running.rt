@@ -1,11 +1,11 @@
 //! `babel net SCENARIO`.
 
-use crate::errors::NetCommandFault;
 use crate::hops::Hops;
 use babel_config::{Scenario, read_file, read_scenario};
-use babel_net::{Event, NetFault, StepFault};
+use babel_faults::{Fault, end};
+use babel_net::{Event, StepFault};
 use babel_network::Network;
-use babel_show::{Status, report};
+use babel_show::Status;
 use babel_text::LineFault;
 use std::alloc::Global;
 use std::io::{Read, Write};
@@ -19,38 +19,27 @@ pub fn net<R: Read + Drop, W: Write, E: Write>(
     out: &mut W,
     err: &mut E,
 ) -> Status {
-    match try_net(alloc, scenario, out) {
-        Ok(status) => status,
-        Err(NetCommandFault::Output(fault)) => report(fault, err),
-        Err(fault) => {
-            // If writing fails too, the status still reports the fault.
-            let _ = match fault {
-                NetCommandFault::File(fault) => writeln!(err, "babel: {}", fault.code()),
-                NetCommandFault::Net(NetFault::BadConfig { node, fault }) => {
-                    writeln!(err, "babel: M7 {node} {}", fault.code())
-                }
-                NetCommandFault::Net(fault) => writeln!(err, "babel: {}", fault.code()),
-                NetCommandFault::Output(fault) => writeln!(err, "babel: {}", fault.code()),
-            };
-            Status::Refused
-        }
-    }
+    end(try_net(alloc, scenario, out), err)
 }
 
-fn try_net<R: Read + Drop, W: Write>(
+/// The same, and the fault is returned.
+pub fn try_net<R: Read + Drop, W: Write>(
     alloc: Global,
     scenario: R,
     out: &mut W,
-) -> Result<Status, NetCommandFault> {
+) -> Result<(), Fault> {
     let octets = read_file(alloc, scenario)?;
     let Scenario { configs, events } = read_scenario(alloc, octets.as_slice())?;
     let mut hops = Hops::new(alloc, configs.as_slice())?;
     let mut network = Network::new(alloc, configs)?;
     // Without the room each datagram takes its own, and is refused if there is none.
     let _ = network.reserve(count_emits(events.as_slice()));
-    let refused = write_events(events.as_slice(), &mut network, &mut hops, out)?;
+    let outcome = write_events(events.as_slice(), &mut network, &mut hops, out)?;
     out.flush().map_err(LineFault::of_writing)?;
-    Ok(refused)
+    match outcome {
+        Outcome::AllRun => Ok(()),
+        Outcome::Refused(number, fault) => Err(Fault::Event(number, fault)),
+    }
 }
 
 /// How many datagrams the events may send.
@@ -64,19 +53,28 @@ fn count_emits(events: &[Event]) -> usize {
     count
 }
 
+/// How the events were run.
+#[derive(Clone, Copy)]
+enum Outcome {
+    /// Each was run.
+    AllRun,
+    /// The one of this number was refused.
+    Refused(usize, StepFault),
+}
+
 /// Runs the events, up to the first that is refused.
 fn write_events<W: Write>(
     events: &[Event],
     network: &mut Network,
     hops: &mut Hops,
     out: &mut W,
-) -> Result<Status, LineFault> {
+) -> Result<Outcome, LineFault> {
     let mut datagrams = 0;
     for (number, event) in events.iter().enumerate() {
         let mut changed = false;
         if let Err(fault) = network.step_tracked(event, &mut changed) {
             write_refused(number, fault, out)?;
-            return Ok(Status::Refused);
+            return Ok(Outcome::Refused(number, fault));
         }
         if network.sent(datagrams).is_some() {
             datagrams = datagrams.saturating_add(1);
@@ -88,7 +86,7 @@ fn write_events<W: Write>(
     writeln!(out, "end {} events {datagrams} datagrams", events.len()).map_err(
         LineFault::of_writing,
     )?;
-    Ok(Status::Done)
+    Ok(Outcome::AllRun)
 }
 
 fn write_refused<W: Write>(number: usize, fault: StepFault, out: &mut W) -> Result<(), LineFault> {

@@ -1,10 +1,10 @@
 //! `babel explain CONFIG LOG PREFIX`.
 
-use crate::errors::{CommandFault, status};
 use crate::replaying::config_in;
 use babel_config::FileFault;
+use babel_faults::{Fault, end};
 use babel_show::{READ_LEN, Status};
-use babel_text::parse_prefix;
+use babel_text::{LineFault, parse_prefix};
 use std::alloc::Global;
 use std::io::{BufReader, Read, Write};
 
@@ -18,21 +18,22 @@ pub fn explain<C: Read + Drop, L: Read + Drop, W: Write, E: Write>(
     out: &mut W,
     err: &mut E,
 ) -> Status {
-    status(try_explain(alloc, config, log, prefix, out), err)
+    end(try_explain(alloc, config, log, prefix, out), err)
 }
 
-fn try_explain<C: Read + Drop, L: Read + Drop, W: Write>(
+/// The same, and the fault is returned.
+pub fn try_explain<C: Read + Drop, L: Read + Drop, W: Write>(
     alloc: Global,
     config: C,
     log: L,
     prefix: &str,
     out: &mut W,
-) -> Result<(), CommandFault> {
+) -> Result<(), Fault> {
     let Some(prefix) = parse_prefix(prefix) else {
-        return Err(CommandFault::File(FileFault::Text));
+        return Err(Fault::File(FileFault::Text));
     };
     let config = config_in(alloc, config)?;
-    let mut log = BufReader::with_capacity(alloc, READ_LEN, log)?;
+    let mut log = BufReader::with_capacity(alloc, READ_LEN, log).map_err(LineFault::of_reading)?;
     babel_replay::explain(alloc, config, &mut log, prefix, out)?;
     Ok(())
 }

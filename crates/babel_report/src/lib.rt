@@ -4,9 +4,11 @@
 //! readers, and arguments are text.
 #![tactic(auto)]
 
-mod errors;
+mod absence;
 mod explaining;
 mod replaying;
+mod sightings;
 
-pub use explaining::explain;
-pub use replaying::replay;
+pub use absence::{Absence, absence_of};
+pub use explaining::{explain, try_explain};
+pub use replaying::{replay, try_replay};

@@ -1,9 +1,10 @@
 //! `babel replay CONFIG LOG`.
 
-use crate::errors::{CommandFault, status};
 use babel_config::{FileFault, read_config, read_file};
+use babel_faults::{Fault, end};
 use babel_show::{READ_LEN, Status};
 use babel_state::Config;
+use babel_text::LineFault;
 use std::alloc::Global;
 use std::io::{BufReader, Read, Write};
 
@@ -16,7 +17,7 @@ pub fn replay<C: Read + Drop, L: Read + Drop, W: Write, E: Write>(
     out: &mut W,
     err: &mut E,
 ) -> Status {
-    status(try_replay(alloc, config, log, out), err)
+    end(try_replay(alloc, config, log, out), err)
 }
 
 /// Reads a configuration.
@@ -25,14 +26,15 @@ pub(crate) fn config_in<C: Read + Drop>(alloc: Global, config: C) -> Result<Conf
     read_config(alloc, octets.as_slice())
 }
 
-fn try_replay<C: Read + Drop, L: Read + Drop, W: Write>(
+/// The same, and the fault is returned.
+pub fn try_replay<C: Read + Drop, L: Read + Drop, W: Write>(
     alloc: Global,
     config: C,
     log: L,
     out: &mut W,
-) -> Result<(), CommandFault> {
+) -> Result<(), Fault> {
     let config = config_in(alloc, config)?;
-    let mut log = BufReader::with_capacity(alloc, READ_LEN, log)?;
+    let mut log = BufReader::with_capacity(alloc, READ_LEN, log).map_err(LineFault::of_reading)?;
     babel_replay::replay(alloc, config, &mut log, out)?;
     Ok(())
 }

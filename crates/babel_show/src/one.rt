@@ -11,8 +11,9 @@ use std::io::Write;
 /// The text of no octets: an empty text is bad hexadecimal.
 const NO_OCTETS: &str = "-";
 
-/// Writes what a datagram means: a line for each TLV, or `refused` and the code. `source` is the address
-/// that it came from, `hex` its octets in hexadecimal. A fault of the arguments is written to `err`.
+/// Writes what a datagram means: a line for each TLV, or `refused` and the code. `source` is the
+/// address that it came from, `hex` its octets in hexadecimal. A fault of the arguments is written
+/// to `err`.
 pub fn show<W: Write, E: Write>(
     alloc: Global,
     source: &str,
@@ -26,7 +27,8 @@ pub fn show<W: Write, E: Write>(
     }
 }
 
-fn try_show<W: Write>(
+/// The same, and a fault of the arguments, of writing or of memory is returned.
+pub fn try_show<W: Write>(
     alloc: Global,
     source: &str,
     hex: &str,

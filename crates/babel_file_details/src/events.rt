@@ -1,0 +1,90 @@
+//! Why an event of a scenario can't be read, or is refused.
+
+use crate::event_problems::{EventProblem, EventWord};
+use crate::findings::Finding;
+use crate::keys::Key;
+use crate::locations::{Location, Owner};
+use crate::problems::Problem;
+use crate::ranges::AddrRange;
+use crate::nearest::Nearest;
+use babel_config::Scenario;
+use babel_net::{Event, StepFault};
+use std::alloc::Global;
+
+/// Why the text is no event.
+pub(crate) fn event_text_problem(alloc: Global, text: &str) -> EventProblem {
+    let (name, _fields) = text.split_once(' ').unwrap_or((text, ""));
+    let mut nearest = Nearest::to(name);
+    for word in EventWord::ALL {
+        if word.name() == name {
+            return EventProblem::Form(word);
+        }
+        nearest.take(alloc, word, word.name());
+    }
+    EventProblem::UnknownWord(nearest.found)
+}
+
+/// Why the event of this number is refused. `text` is that of the event.
+pub(crate) fn refused_event<'a>(
+    scenario: &Scenario,
+    number: usize,
+    text: &'a str,
+    fault: StepFault,
+) -> Option<Finding<'a>> {
+    let event = scenario.events.get(number)?;
+    let problem = step_problem(scenario, event, fault)?;
+    Some(Finding {
+        at: Location::of_element(Owner::FILE, Key::Events, number),
+        text,
+        problem: Problem::Event(number, problem),
+    })
+}
+
+fn step_problem(scenario: &Scenario, event: &Event, fault: StepFault) -> Option<EventProblem> {
+    let node = node_of(event);
+    match fault {
+        StepFault::NoNode => Some(EventProblem::NoNode(node, scenario.configs.len())),
+        StepFault::NoDatagram => match event {
+            Event::Deliver { datagram, .. } => Some(EventProblem::NoDatagram(*datagram)),
+            _ => None,
+        },
+        StepFault::NoInterface => {
+            let count = scenario.configs.get(node)?.interfaces.len();
+            Some(EventProblem::NoInterface(node, iface_of(event)?, count))
+        }
+        StepFault::CostOutOfRange => match event {
+            Event::SetCost { cost, .. } => Some(EventProblem::Cost(*cost)),
+            _ => None,
+        },
+        StepFault::NotListed => Some(EventProblem::NotListed(node, prefix_of(event)?)),
+        StepFault::NotAnnounced => Some(EventProblem::NotAnnounced(node, prefix_of(event)?)),
+        StepFault::Memory => Some(EventProblem::Memory),
+    }
+}
+
+fn node_of(event: &Event) -> usize {
+    match event {
+        Event::Tick { node, .. }
+        | Event::Emit { node, .. }
+        | Event::Deliver { node, .. }
+        | Event::SetCost { node, .. }
+        | Event::Raise { node }
+        | Event::Announce { node, .. }
+        | Event::Withdraw { node, .. }
+        | Event::Restart { node, .. } => *node,
+    }
+}
+
+fn iface_of(event: &Event) -> Option<u8> {
+    match event {
+        Event::Deliver { iface, .. } | Event::SetCost { iface, .. } => Some(*iface),
+        _ => None,
+    }
+}
+
+fn prefix_of(event: &Event) -> Option<AddrRange> {
+    match event {
+        Event::Announce { prefix, .. } | Event::Withdraw { prefix, .. } => Some(AddrRange::of(prefix)),
+        _ => None,
+    }
+}

@@ -1,0 +1,136 @@
+//! Why no network can be made of configurations.
+
+use crate::configs::config_problem;
+use crate::findings::Finding;
+use crate::keys::Key;
+use crate::locations::Owner;
+use crate::problems::Problem;
+use babel_net::NetFault;
+use babel_state::{Config, Interface};
+use babel_value::Addr;
+
+/// The most nodes of a network.
+const MAX_NODES: usize = 64;
+
+/// The cause of a fault whose code is known.
+pub(crate) fn network_problem<'a>(configs: &[Config], fault: NetFault) -> Option<Finding<'a>> {
+    match fault {
+        NetFault::TooManyNodes => {
+            let problem = Problem::NodeCount(configs.len());
+            Some(Finding::of_table(Owner::of_node(MAX_NODES), problem))
+        }
+        NetFault::BadConfig { node, fault } => {
+            config_problem(Owner::of_node(node), configs.get(node)?, fault)
+        }
+        NetFault::CollectsSources => {
+            let node = configs.iter().position(|config| config.collect)?;
+            let owner = Owner::of_node(node);
+            Some(Finding::of_key(owner, Key::Collect, Problem::Collects))
+        }
+        NetFault::AddressTwice => address_twice(configs),
+        NetFault::RouterIdTwice => router_id_twice(configs),
+        NetFault::Memory => Some(Finding::of_table(Owner::FILE, Problem::Memory)),
+    }
+}
+
+/// The first router-id that an earlier node has too.
+fn router_id_twice<'a>(configs: &[Config]) -> Option<Finding<'a>> {
+    for (node, config) in configs.iter().enumerate() {
+        let first = configs
+            .iter()
+            .position(|other| other.router_id == config.router_id);
+        if let Some(first) = first {
+            if first < node {
+                let owner = Owner::of_node(node);
+                let problem = Problem::RouterIdTwice(first);
+                return Some(Finding::of_key(owner, Key::RouterId, problem));
+            }
+        }
+    }
+    None
+}
+
+/// The first interface with an address that an earlier one has too.
+fn address_twice<'a>(configs: &[Config]) -> Option<Finding<'a>> {
+    for (node, config) in configs.iter().enumerate() {
+        for (iface, interface) in config.interfaces.iter().enumerate() {
+            let owner = Owner::of_node(node).interface(iface);
+            if let Some(finding) = shared_with_earlier(configs, owner, interface) {
+                return Some(finding);
+            }
+        }
+    }
+    None
+}
+
+/// An address of the interface that an interface before it has too.
+fn shared_with_earlier<'a>(
+    configs: &[Config],
+    owner: Owner,
+    interface: &Interface,
+) -> Option<Finding<'a>> {
+    for (node, config) in configs.iter().enumerate() {
+        let found = shared_in(Owner::of_node(node), config, owner, interface);
+        if found.is_some() {
+            return found;
+        }
+        if owner.node == Some(node) {
+            return None;
+        }
+    }
+    None
+}
+
+/// An address of the interface that another one of the configuration has too, among those before it.
+pub(crate) fn shared_in<'a>(
+    config_owner: Owner,
+    config: &Config,
+    owner: Owner,
+    interface: &Interface,
+) -> Option<Finding<'a>> {
+    for (iface, other) in config.interfaces.iter().enumerate() {
+        let other_owner = config_owner.interface(iface);
+        if other_owner == owner {
+            return None;
+        }
+        if let Some((key, addr)) = shared_address(interface, other) {
+            let problem = Problem::AddressTwice(addr, other_owner);
+            return Some(Finding::of_key(owner, key, problem));
+        }
+    }
+    None
+}
+
+/// An address that both have, and its key.
+fn shared_address(interface: &Interface, other: &Interface) -> Option<(Key, Addr)> {
+    if let Some(addr) = ipv4_of(interface) {
+        if is_same(addr, ipv4_of(other)) {
+            return Some((Key::Ipv4, addr));
+        }
+    }
+    let addr = ipv6_of(interface)?;
+    if is_same(addr, ipv6_of(other)) {
+        Some((Key::Ipv6, addr))
+    } else {
+        None
+    }
+}
+
+pub(crate) fn is_same(addr: Addr, other: Option<Addr>) -> bool {
+    match other {
+        Some(other) => addr.cmp(&other).is_eq(),
+        None => false,
+    }
+}
+
+/// The interface's IPv4 address.
+pub(crate) fn ipv4_of(interface: &Interface) -> Option<Addr> {
+    let (octets, _length) = interface.ipv4?;
+    Some(Addr::V4(octets))
+}
+
+/// The interface's IPv6 address.
+pub(crate) fn ipv6_of(interface: &Interface) -> Option<Addr> {
+    let octets = interface.ipv6?;
+    Some(Addr::V6(octets))
+}

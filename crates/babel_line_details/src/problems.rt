@@ -1,0 +1,193 @@
+//! What is wrong with a line, as a sentence.
+
+use crate::Excerpt;
+use std::fmt;
+
+/// A field of a log's line that is a number.
+#[derive(Clone, Copy, Debug, PartialEq, Eq)]
+pub enum NumberField {
+    /// The moment, in centiseconds.
+    Time,
+    /// The number of the interface.
+    Interface,
+    /// The cost of the interface.
+    Cost,
+}
+
+impl NumberField {
+    fn name(self) -> &'static str {
+        match self {
+            NumberField::Time => "time",
+            NumberField::Interface => "interface",
+            NumberField::Cost => "cost",
+        }
+    }
+
+    fn greatest(self) -> u64 {
+        match self {
+            NumberField::Time => u64::MAX,
+            NumberField::Interface | NumberField::Cost => 65535,
+        }
+    }
+}
+
+/// Why a text isn't octets in hexadecimal.
+#[derive(Clone, Copy, Debug, PartialEq, Eq)]
+pub enum HexProblem {
+    /// There are no digits.
+    Empty,
+    /// The first character that is no digit.
+    NotADigit(char),
+    /// The last octet has one digit.
+    OddDigits(usize),
+    /// There are more octets than a line has room for.
+    TooMany,
+}
+
+/// What is wrong with a line.
+#[derive(Clone, Copy, Debug, PartialEq, Eq)]
+pub enum LineProblem<'a> {
+    /// The line's last character is a carriage return.
+    CarriageReturn,
+    /// The line isn't UTF-8.
+    NotText,
+    /// The log's line has none of the forms.
+    Form(&'a str),
+    /// The field isn't a number, or is too large.
+    Number(NumberField, &'a str),
+    /// The text isn't an address.
+    Address(&'a str),
+    /// The text isn't octets in hexadecimal.
+    Hex(HexProblem, &'a str),
+    /// The line is longer than 131,200 octets.
+    TooLong,
+    /// Reading failed.
+    Read,
+    /// Writing failed.
+    Write,
+    /// Nobody reads the output any more.
+    BrokenPipe,
+    /// An allocation failed.
+    Memory,
+}
+
+impl fmt::Display for LineProblem<'_> {
+    fn fmt<W: fmt::Write>(&self, f: &mut fmt::Formatter<W>) -> fmt::Result {
+        match *self {
+            LineProblem::CarriageReturn => f.write_str(
+                "the line ends in a carriage return; end each line with a line feed alone",
+            ),
+            LineProblem::NotText => f.write_str("the line is not UTF-8"),
+            LineProblem::Form(line) => write_form(line, f),
+            LineProblem::Number(field, text) => write_number(field, text, f),
+            LineProblem::Address(text) => write_address(text, f),
+            LineProblem::Hex(problem, text) => write_hex(problem, text, f),
+            LineProblem::TooLong => f.write_str("the line has more than 131200 octets"),
+            LineProblem::Read => f.write_str("the input can't be read any further"),
+            LineProblem::Write => f.write_str(
+                "the output can't be written; look for a full disk or a closed output",
+            ),
+            LineProblem::BrokenPipe => f.write_str(
+                "nobody reads the output any more (broken pipe)",
+            ),
+            LineProblem::Memory => { f.write_str("out of memory; give the process more of it") }
+        }
+    }
+}
+
+fn write_form<W: fmt::Write>(line: &str, f: &mut fmt::Formatter<W>) -> fmt::Result {
+    write!(
+        f,
+        "{} has none of the forms '<time> in <iface> <source> <hex>', '<time> tick' and '<time> cost <iface> <n>'",
+        Excerpt(line)
+    )
+}
+
+fn write_number<W: fmt::Write>(
+    field: NumberField,
+    text: &str,
+    f: &mut fmt::Formatter<W>,
+) -> fmt::Result {
+    write!(
+        f,
+        "{} {} is not a number from 0 to {}, without sign or leading zeros",
+        field.name(),
+        Excerpt(text),
+        field.greatest()
+    )
+}
+
+fn write_address<W: fmt::Write>(text: &str, f: &mut fmt::Formatter<W>) -> fmt::Result {
+    write!(
+        f,
+        "source {} is not an address, as 192.168.0.1 or fe80::1",
+        Excerpt(text)
+    )?;
+    if text.contains('%') {
+        f.write_str("; leave the zone out")?;
+    }
+    Ok(())
+}
+
+fn write_hex<W: fmt::Write>(
+    problem: HexProblem,
+    text: &str,
+    f: &mut fmt::Formatter<W>,
+) -> fmt::Result {
+    match problem {
+        HexProblem::Empty => f.write_str("the octets are missing; write - for none"),
+        HexProblem::NotADigit(letter) => {
+            let mut room = [0; 4];
+            write!(
+                f,
+                "{} is not a hexadecimal digit, in {}",
+                Excerpt(letter.encode_utf8(&mut room)),
+                Excerpt(text)
+            )
+        }
+        HexProblem::OddDigits(count) => write!(
+            f,
+            "{} has {count} hexadecimal digits, and each octet has two",
+            Excerpt(text)
+        ),
+        HexProblem::TooMany => f.write_str("there are more octets than a datagram can have"),
+    }
+}
+
+/// What is wrong with a line, and in which column.
+#[derive(Clone, Copy, Debug, PartialEq, Eq)]
+pub struct LineDetail<'a> {
+    /// The column of the field, from 1 on, in characters. The whole line has none.
+    pub column: Option<usize>,
+    /// What is wrong.
+    pub problem: LineProblem<'a>,
+}
+
+impl<'a> LineDetail<'a> {
+    /// A problem of the whole line.
+    pub(crate) fn of_line(problem: LineProblem<'a>) -> LineDetail<'a> {
+        LineDetail {
+            column: None,
+            problem,
+        }
+    }
+
+    /// A problem of the field with which `rest` begins. `rest` is the end of `line`.
+    pub(crate) fn of_field(line: &str, rest: &str, problem: LineProblem<'a>) -> LineDetail<'a> {
+        let before = line.chars().count().saturating_sub(rest.chars().count());
+        LineDetail {
+            column: Some(before.saturating_add(1)),
+            problem,
+        }
+    }
+}
+
+/// What follows the number of the line: `:column: sentence`, or `: sentence`.
+impl fmt::Display for LineDetail<'_> {
+    fn fmt<W: fmt::Write>(&self, f: &mut fmt::Formatter<W>) -> fmt::Result {
+        match self.column {
+            Some(column) => write!(f, ":{column}: {}", self.problem),
+            None => write!(f, ": {}", self.problem),
+        }
+    }
+}

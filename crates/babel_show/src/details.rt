@@ -1,0 +1,10 @@
+//! Whether people read what a command writes.
+
+/// Whether a line with a sentence follows the code of a fault.
+#[derive(Clone, Copy, Debug, PartialEq, Eq)]
+pub enum Details {
+    /// The sentence follows.
+    Shown,
+    /// The code is alone, for scripts.
+    Hidden,
+}
