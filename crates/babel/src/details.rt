@@ -71,7 +71,10 @@ pub(crate) fn explain_absence<F: AllocGlobal + Files, E: Write>(
             "{name}:{line}: {prefix} is in ignored Updates alone, {count} in all, the first for {reason}"
         ),
         Ok(Absence::OnlyRetracted(line)) => {
-            writeln!(err, "{name}:{line}: {prefix} was retracted, and never advertised")
+            writeln!(
+                err,
+                "{name}:{line}: {prefix} was retracted, and never advertised"
+            )
         }
         Ok(Absence::NoRouteLeft(line)) => writeln!(
             err,

@@ -83,12 +83,7 @@ fn bad_hello<'a>(owner: Owner, interface: &Interface) -> Option<Finding<'a>> {
 }
 
 /// The number at the key, if it isn't in 1 to the greatest.
-fn out_of_range<'a>(
-    owner: Owner,
-    key: Key,
-    number: u16,
-    greatest: u16,
-) -> Option<Finding<'a>> {
+fn out_of_range<'a>(owner: Owner, key: Key, number: u16, greatest: u16) -> Option<Finding<'a>> {
     if number >= 1 && number <= greatest {
         return None;
     }

@@ -4,9 +4,9 @@ use crate::event_problems::{EventProblem, EventWord};
 use crate::findings::Finding;
 use crate::keys::Key;
 use crate::locations::{Location, Owner};
+use crate::nearest::Nearest;
 use crate::problems::Problem;
 use crate::ranges::AddrRange;
-use crate::nearest::Nearest;
 use babel_config::Scenario;
 use babel_net::{Event, StepFault};
 use std::alloc::Global;
@@ -84,7 +84,9 @@ fn iface_of(event: &Event) -> Option<u8> {
 
 fn prefix_of(event: &Event) -> Option<AddrRange> {
     match event {
-        Event::Announce { prefix, .. } | Event::Withdraw { prefix, .. } => Some(AddrRange::of(prefix)),
+        Event::Announce { prefix, .. } | Event::Withdraw { prefix, .. } => Some(AddrRange::of(
+            prefix,
+        )),
         _ => None,
     }
 }

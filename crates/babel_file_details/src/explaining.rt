@@ -35,8 +35,8 @@ pub struct FileText<'a> {
     pub octets: &'a [u8],
 }
 
-/// Writes why a file is refused: F1 to F3 and F6, and F4. If the cause isn't found, the sentence is that of
-/// the code.
+/// Writes why a file is refused: F1 to F3 and F6, and F4. If the cause isn't found, the sentence
+/// is that of the code.
 pub fn explain_file<W: Write>(
     alloc: Global,
     file: FileText<'_>,
@@ -145,7 +145,8 @@ fn event_text(file: &Value, number: usize) -> Option<&str> {
     file.get("events")?.get(number)?.as_str()
 }
 
-/// Writes a line for each thing of a configuration that can't work, though a speaker can be made of it.
+/// Writes a line for each thing of a configuration that can't work, though a speaker can be made
+/// of it.
 pub fn write_warnings<W: Write>(alloc: Global, file: FileText<'_>, out: &mut W) -> io::Result<()> {
     let Ok(config) = read_config(alloc, file.octets) else {
         return Ok(());

@@ -1,9 +1,10 @@
-//! Sentences about the file of a configuration or of a scenario that is refused: line and column, key, value,
-//! and what is allowed.
+//! Sentences about the file of a configuration or of a scenario that is refused: line and column,
+//! key, value, and what is allowed.
 //!
-//! A code is for scripts; these sentences are for people. Each `explain_` call finds the cause of a fault whose
-//! code is known, and writes one line. `schema` finds the first fault of a file's keys, `configs`, `networks` and
-//! `events` that of what was read, and `warnings` what can't work. `locating` finds a key in the text again.
+//! A code is for scripts; these sentences are for people. Each `explain_` call finds the cause of
+//! a fault whose code is known, and writes one line. `schema` finds the first fault of a file's
+//! keys, `configs`, `networks` and `events` that of what was read, and `warnings` what can't
+//! work. `locating` finds a key in the text again.
 #![tactic(auto)]
 
 mod configs;

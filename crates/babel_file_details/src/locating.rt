@@ -11,8 +11,8 @@ use toml_parser::{Key, dotted_key};
 /// The most steps of a path: a node, an interface, a key and an element.
 const MAX_STEPS: usize = 6;
 
-/// Where a value is: the texts that begin with its key and with itself. For a table with a header both begin with
-/// the header, and for an element both with the element.
+/// Where a value is: the texts that begin with its key and with itself. For a table with a header
+/// both begin with the header, and for an element both with the element.
 #[derive(Clone, Copy, Debug)]
 pub(crate) struct Place<'t> {
     pub(crate) key: &'t str,

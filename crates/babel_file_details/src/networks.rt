@@ -81,7 +81,8 @@ fn shared_with_earlier<'a>(
     None
 }
 
-/// An address of the interface that another one of the configuration has too, among those before it.
+/// An address of the interface that another one of the configuration has too, among those before
+/// it.
 pub(crate) fn shared_in<'a>(
     config_owner: Owner,
     config: &Config,

@@ -117,7 +117,11 @@ impl fmt::Display for Finding<'_> {
             Problem::NotAList(key, found) => write_not_a_list(key, found, f),
             Problem::WrongKind(key, found, kind) => write_wrong_kind(key, found, kind, f),
             Problem::OutOfRange(key, number, (least, greatest)) => {
-                write!(f, "{} = {number} is not in {least} to {greatest}", key.name())
+                write!(
+                    f,
+                    "{} = {number} is not in {least} to {greatest}",
+                    key.name()
+                )
             }
             Problem::BadText(key, kind) => {
                 write!(f, "{} {} is not {kind}", key.noun(), Excerpt(text))
@@ -180,7 +184,10 @@ fn write_not_a_list<W: fmt::Write>(
     f: &mut fmt::Formatter<W>,
 ) -> fmt::Result {
     let name = key.name();
-    write!(f, "'{name}' is {found}, and must be a list, as {name} = [..]")
+    write!(
+        f,
+        "'{name}' is {found}, and must be a list, as {name} = [..]"
+    )
 }
 
 fn write_wrong_kind<W: fmt::Write>(
@@ -205,10 +212,15 @@ fn write_config_problem<W: fmt::Write>(
 ) -> fmt::Result {
     match problem {
         Problem::ReservedRouterId => {
-            f.write_str("a router-id of zeros alone or of ones alone is reserved; choose another one")
+            f.write_str(
+                "a router-id of zeros alone or of ones alone is reserved; choose another one",
+            )
         }
         Problem::InterfaceCount(0) => {
-            write!(f, "{owner} has no interface; write 1 to 8 tables [[interface]]")
+            write!(
+                f,
+                "{owner} has no interface; write 1 to 8 tables [[interface]]"
+            )
         }
         Problem::InterfaceCount(count) => {
             write!(f, "there are {count} interfaces, and at most 8 are allowed")
@@ -217,13 +229,19 @@ fn write_config_problem<W: fmt::Write>(
             write!(f, "there are {count} prefixes, and at most 64 are allowed")
         }
         Problem::PrefixTwice(prefix, first) => {
-            write!(f, "prefix {prefix} is listed twice; it is element {first} too")
+            write!(
+                f,
+                "prefix {prefix} is listed twice; it is element {first} too"
+            )
         }
         Problem::NodeCount(count) => {
             write!(f, "there are {count} nodes, and at most 64 are allowed")
         }
         Problem::Collects => {
-            write!(f, "{owner} collects sources, which a network can't; write collect = false")
+            write!(
+                f,
+                "{owner} collects sources, which a network can't; write collect = false"
+            )
         }
         Problem::RouterIdTwice(first) => {
             write!(f, "the router-id of {owner} is that of node {first} too")
@@ -241,13 +259,20 @@ fn write_interface_problem<W: fmt::Write>(
 ) -> fmt::Result {
     match problem {
         Problem::NoAddress(family) => {
-            write!(f, "{owner} has no {} address, which its transport needs", name(family))
+            write!(
+                f,
+                "{owner} has no {} address, which its transport needs",
+                name(family)
+            )
         }
         Problem::NotLinkLocal(addr) => {
             write!(f, "ipv6 address {addr} of {owner} is not in fe80::/10")
         }
         Problem::LongNetwork(length) => {
-            write!(f, "the length {length} of {owner}'s network is not in 0 to 32")
+            write!(
+                f,
+                "the length {length} of {owner}'s network is not in 0 to 32"
+            )
         }
         Problem::PeerCount(count) => {
             write!(f, "{owner} has {count} peers, and at most 16 are allowed")
@@ -276,7 +301,10 @@ fn write_warning<W: fmt::Write>(
 ) -> fmt::Result {
     match problem {
         Problem::NoPeers => {
-            write!(f, "{owner} has no peers, so it sends to nobody; list them, as peers = [..]")
+            write!(
+                f,
+                "{owner} has no peers, so it sends to nobody; list them, as peers = [..]"
+            )
         }
         Problem::PeerOutside(peer, Some(network)) => write!(
             f,

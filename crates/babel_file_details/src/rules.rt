@@ -26,6 +26,7 @@ impl TableKind {
 }
 
 static SCENARIO_KEYS: [Key; 2] = [Key::Events, Key::Node];
+
 static CONFIG_KEYS: [Key; 5] = [
     Key::RouterId,
     Key::Seqno,
@@ -33,6 +34,7 @@ static CONFIG_KEYS: [Key; 5] = [
     Key::Prefixes,
     Key::Interface,
 ];
+
 static INTERFACE_KEYS: [Key; 6] = [
     Key::Transport,
     Key::Ipv4,

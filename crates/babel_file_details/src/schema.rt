@@ -105,7 +105,12 @@ impl Schema {
     }
 
     /// A key that the table may not have.
-    fn unknown_key<'a>(self, kind: TableKind, owner: Owner, table: &'a Table) -> Option<Finding<'a>> {
+    fn unknown_key<'a>(
+        self,
+        kind: TableKind,
+        owner: Owner,
+        table: &'a Table,
+    ) -> Option<Finding<'a>> {
         for (key, _value) in table.iter() {
             let key = key.as_str();
             if !kind.keys().iter().any(|known| known.name() == key) {

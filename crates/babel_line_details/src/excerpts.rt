@@ -5,8 +5,8 @@ use std::fmt;
 /// The most characters of a text that are shown.
 const MAX_SHOWN: usize = 40;
 
-/// A text in quotation marks. A long one is cut, and control characters are escaped, since a terminal would
-/// obey them.
+/// A text in quotation marks. A long one is cut, and control characters are escaped, since a
+/// terminal would obey them.
 #[derive(Clone, Copy, Debug, PartialEq, Eq)]
 pub struct Excerpt<'a>(pub &'a str);
 

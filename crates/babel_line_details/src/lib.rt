@@ -1,7 +1,7 @@
 //! Sentences about a line of input that can't be read: which field, its text, and what is allowed.
 //!
-//! A code is for scripts; these sentences are for people. `logs` finds the field of a log's line, `shown` that
-//! of a line or an argument of `show`, and `problems` has the sentences.
+//! A code is for scripts; these sentences are for people. `logs` finds the field of a log's line,
+//! `shown` that of a line or an argument of `show`, and `problems` has the sentences.
 #![tactic(auto)]
 
 mod excerpts;
