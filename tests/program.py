@@ -1,4 +1,6 @@
 """The program that the scripts of tests/ run."""
+import importlib.machinery
+import importlib.util
 import os
 import subprocess
 
@@ -13,3 +15,12 @@ def find_program():
         return os.environ["BABEL"]
     ran = subprocess.run([os.path.join(ROOT, "tools", "program")], stdout=subprocess.PIPE, text=True, check=True)
     return ran.stdout.strip()
+
+
+def load_script(name):
+    """Another script of tests/ as a module."""
+    path = os.path.join(ROOT, "tests", name)
+    loader = importlib.machinery.SourceFileLoader(name.replace("-", "_"), path)
+    module = importlib.util.module_from_spec(importlib.util.spec_from_loader(loader.name, loader))
+    loader.exec_module(module)
+    return module
