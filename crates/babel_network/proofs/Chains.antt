@@ -1,5 +1,5 @@
 -- Lists of events, one after the other.
-use Rattle.std.proofs.Common.{◌≡◌, ◌<◌, ◌+◌, ℕ, length, take, get_or, List, [], ◌∷◌, ◌++◌, All, Option, Some, None, Result, Ok, Err, OnOk, OnErr, map, refl, sym, ap, ◌∙◌, subst}
+use Rattle.std.proofs.Common.{◌≡◌, ◌<◌, ◌+◌, ℕ, zero, suc, length, take, get_or, List, [], ◌∷◌, ◌++◌, All, Option, Some, None, Result, Ok, Err, OnOk, OnErr, map, refl, sym, ap, ◌∙◌, subst}
 use Rattle.std.proofs.Math.Seq.{take-length}
 use Rattle.std.proofs.lemmas.List.{take_more}
 use Rattle.std.proofs.lemmas.Option.{slice_get_read}
@@ -17,7 +17,7 @@ use Rattle.babel_network.specs.Steps.{MakesCall, MakesEmit, Makes, next_of, reco
 use Rattle.babel_network.specs.EventRefusals.{node_of, step_fault, IsStepFault}
 use Rattle.babel_network.specs.Invariants.{IsNetwork}
 use Rattle.babel_network.specs.Laws.{EventsHappen, EventsKeepNetworks}
-use Rattle.babel_network.specs.Promises.{MakeAll, last_network, RanBy, Ran, StopsAt}
+use Rattle.babel_network.specs.Promises.{MakeAll, last_network, RanBy, RunsTogether, Ran, StopsAt}
 
 -- ---- configurations stay
 
@@ -86,14 +86,28 @@ network_after kept (e ∷ es) old (n ∷ ns) net h = network_after kept es n ns 
 pub ran_network : EventsKeepNetworks → (done : List Event) (old new : NetworkState) → IsNetwork old → RanBy done old new → IsNetwork new
 ran_network kept done old new net ran = subst IsNetwork ran.last (network_after kept done old ran.networks net ran.made)
 
+runs_together : EventsHappen → EventsKeepNetworks → SoundRunsTogether → (done : List Event) (old : NetworkState) (networks : List NetworkState) → IsNetwork old → MakeAll done old networks →
+    RunsTogether old networks (last_network old networks)
+runs_together happens kept sound done old networks net made sources all =
+    let is : last_world (world_of old) (map world_of networks) ≡ world_of (last_network old networks) = last_seen old networks in
+    subst (λ (w : World). RunTogetherThrough old.configs sources (world_of old) (map world_of networks) × All NoCycle (views old.configs sources w)) is
+    (sound old.configs (world_of old) done (map world_of networks) sources net.apart net.sound (happen_all happens kept old.configs done old networks refl net made)
+    (subst (λ (w : World). All (λ s. IsSource old.configs s × IsCounted s w) sources) (sym is) all))
+
+-- the first of the events make the first of the networks
+make_first : (count : ℕ) (done : List Event) (old : NetworkState) (networks : List NetworkState) → MakeAll done old networks → MakeAll (take count done) old (take count networks)
+make_first zero done old networks made = tt
+make_first (suc count) [] old [] made = tt
+make_first (suc count) [] old (n ∷ ns) made = absurd made
+make_first (suc count) (e ∷ es) old [] made = absurd made
+make_first (suc count) (e ∷ es) old (n ∷ ns) made = (made.0, made.1, make_first count es n ns made.2)
+
 pub ran_together : EventsHappen → EventsKeepNetworks → SoundRunsTogether → (done : List Event) (old new : NetworkState) → IsNetwork old → RanBy done old new → Ran done old new
 ran_together happens kept sound done old new net ran = record {
   ran = ran;
-  together = λ sources all.
-      let is : last_world (world_of old) (map world_of ran.networks) ≡ world_of new = last_seen old ran.networks ∙ ap world_of ran.last in
-      subst (λ (w : World). RunTogetherThrough old.configs sources (world_of old) (map world_of ran.networks) × All NoCycle (views old.configs sources w)) is
-      (sound old.configs (world_of old) done (map world_of ran.networks) sources net.apart net.sound (happen_all happens kept old.configs done old ran.networks refl net ran.made)
-      (subst (λ (w : World). All (λ s. IsSource old.configs s × IsCounted s w) sources) (sym is) all));
+  together = subst (RunsTogether old ran.networks) ran.last (runs_together happens kept sound done old ran.networks net ran.made);
+  after_each = λ count.
+      runs_together happens kept sound (take count done) old (take count ran.networks) net (make_first count done old ran.networks ran.made);
 }
 
 -- the network after an event that made its step, or was refused

@@ -69,9 +69,12 @@ RunsTogether old networks new =
     (sources : List NetSource) → All (λ s. IsSource old.configs s × IsCounted s (world_of new)) sources →
     RunTogetherThrough old.configs sources (world_of old) (map world_of networks) × All NoCycle (views old.configs sources (world_of new))
 
+-- The same holds after each of the events, for the prefixes and router-ids that are counted then. So no view of any of the networks has a cycle while its
+-- router-id made at most 32,767 raises.
 pub record Ran (events : List Event) (old new : NetworkState) : Type 0 where
   pub ran : RanBy events old new
   pub together : RunsTogether old ran.networks new
+  pub after_each : (count : ℕ) → RunsTogether old (take count ran.networks) (last_network old (take count ran.networks))
 
 -- The event of this index is the first that is refused.
 pub record StopsAt (events : List Event) (index : ℕ) (fault : StepFault) (old new : NetworkState) : Type 0 where

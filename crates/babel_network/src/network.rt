@@ -65,7 +65,7 @@ impl Network {
     pub fn new(alloc: Global, configs: Vec<Config>) -> Result<Network, NetFault>
         ensures ok { IfOk result (λ network. network ≡ first_network configs.items) }
         ensures valid { IsOk result → IsNone (net_fault configs.items) }
-        ensures refused { IfErr result (IsMakingFault (net_fault configs.items)) }
+        ensures refused { IfErr result (IsMakingFault configs.items (net_fault configs.items)) }
     {
         networks_begin();
         if let Some(fault) = net_fault(&configs) {

@@ -47,7 +47,7 @@ impl Nodes {
         requires { first_bad_from 0 configs.items ≡ None }
         ensures ok { IfOk result (λ nodes. nodes ≡ first_network configs.items) }
         ensures words { OnOk result (All (λ (c : Config). c.seqno < seqno_modulus) configs.items) }
-        ensures refused { IfErr result IsOutOfMemory }
+        ensures refused { IfErr result (IsOutOfMemory configs.items) }
     {
         let speakers = speakers_of(alloc, &configs)?;
         Ok(Nodes {
@@ -209,7 +209,7 @@ fn speakers_of(alloc: Global, configs: &[Config]) -> Result<Vec<Speaker>, NetFau
     requires { first_bad_from 0 configs.now ≡ None }
     ensures ok { IfOk result (λ speakers. speakers.items ≡ map first_state configs.now) }
     ensures words { OnOk result (All (λ (c : Config). c.seqno < seqno_modulus) configs.now) }
-    ensures refused { IfErr result IsOutOfMemory }
+    ensures refused { IfErr result (IsOutOfMemory configs.now) }
 {
     let mut speakers = match Vec::with_capacity(alloc, configs.len()) {
         Ok(speakers) => speakers,
