@@ -211,7 +211,10 @@ fn run_one<F: AllocGlobal + Files + Net + Clock, W: Write>(
 
 /// The source address of a datagram that comes without one.
 fn source_of<'m>(arguments: &'m ArgMatches<'_>) -> &'m str {
-    arguments.get_str("source").unwrap_or(DEFAULT_SOURCE)
+    match arguments.get_str("source") {
+        Some(source) => source,
+        None => DEFAULT_SOURCE,
+    }
 }
 
 /// Shows the datagrams of the standard input.

@@ -115,7 +115,10 @@ pub(crate) fn explain_fault<F: AllocGlobal + Files, E: Write>(
 }
 
 fn argument<'m>(arguments: &'m ArgMatches<'_>, id: &str) -> &'m str {
-    arguments.get_str(id).unwrap_or("")
+    match arguments.get_str(id) {
+        Some(text) => text,
+        None => "",
+    }
 }
 
 fn has_prefix(arguments: &ArgMatches<'_>) -> bool {
