@@ -216,6 +216,18 @@ Codes of a message:
   V4  from a node that is no neighbour
   V5  no room for a new neighbour or route
 
+Codes of an ignored TLV, the first that applies:
+  I1  padding                       I8   no router-id, or a reserved one
+  I2  a type above 10               I9   no next hop of the prefix's family
+  I3  its fields are not whole      I10  interval 0
+  I4  a sub-TLV runs past the TLV   I11  rxcost 0
+  I5  a mandatory sub-TLV of an     I12  a wildcard with a prefix length,
+      unknown type, which follows        omitted octets or a finite metric, or
+                                         in a Seqno Request
+  I6  an address encoding that      I13  hop count 0
+      the TLV does not take
+  I7  no default prefix
+
 Codes of a refused line of the report:
   S1  no such interface             P1 to P6  as in babel show --help
   S2  a source address that is      E1  no such interface
