@@ -10,8 +10,10 @@ use babel_check::try_check;
 use babel_config::FileFault;
 use babel_faults::{Fault, report};
 use babel_hops::try_net;
-use babel_report::{try_explain, try_replay};
-use babel_show::{BadLines, Details, LineOptions, Status, show_lines, try_show};
+use babel_report::{NamedLog, try_explain, try_replay, try_replay_explained};
+use babel_show::{
+    BadLines, Details, LineOptions, Status, show_lines, try_show, try_show_explained,
+};
 use babel_text::LineFault;
 use clap::error::ErrorKind;
 use clap::{Arg, ArgAction, ArgMatches, Command};
@@ -153,7 +155,7 @@ where
     }
     let details = details_of(arguments, err);
     // If writing the sentence fails, the status still reports the fault.
-    match run_one(rt, command, arguments, out) {
+    match run_one(rt, command, arguments, out, err) {
         Ok(status) => {
             if details == Details::Shown {
                 let _ = match command {
@@ -187,20 +189,22 @@ fn is_of_writing(fault: Fault) -> bool {
     )
 }
 
-/// Runs a command that reads no standard input of its own.
-fn run_one<F: AllocGlobal + Files + Net + Clock, W: Write>(
+/// Runs a command that reads no standard input of its own. Only sentences on its output are written to
+/// `err`.
+fn run_one<F, W: Write, E: Write + IsTerminal>(
     rt: &F,
     command: &str,
     arguments: &ArgMatches<'_>,
     out: &mut W,
-) -> Result<Status, Fault> {
+    err: &mut E,
+) -> Result<Status, Fault>
+where
+    F: AllocGlobal + Files + Net + Clock,
+{
     match command {
-        "show" => {
-            let hex = arguments.get_str("hex").unwrap_or("");
-            return Ok(try_show(rt.alloc(), source_of(arguments), hex, out)?);
-        }
+        "show" => return Ok(run_show(rt.alloc(), arguments, out, err)?),
         "check" => run_check(rt, arguments, out)?,
-        "replay" => run_replay(rt, arguments, out)?,
+        "replay" => run_replay(rt, arguments, out, err)?,
         "explain" => run_explain(rt, arguments, out)?,
         "net" => run_net(rt, arguments, out)?,
         "speak" => run_speak(rt, arguments, out)?,
@@ -214,6 +218,21 @@ fn source_of<'m>(arguments: &'m ArgMatches<'_>) -> &'m str {
     match arguments.get_str("source") {
         Some(source) => source,
         None => DEFAULT_SOURCE,
+    }
+}
+
+/// Shows the datagram of an argument.
+fn run_show<W: Write, E: Write + IsTerminal>(
+    alloc: Global,
+    arguments: &ArgMatches<'_>,
+    out: &mut W,
+    err: &mut E,
+) -> Result<Status, LineFault> {
+    let source = source_of(arguments);
+    let hex = arguments.get_str("hex").unwrap_or("");
+    match details_of(arguments, err) {
+        Details::Shown => try_show_explained(alloc, source, hex, out, err),
+        Details::Hidden => try_show(alloc, source, hex, out),
     }
 }
 
@@ -254,13 +273,20 @@ fn run_check<F: AllocGlobal + Files, W: Write>(
     try_check(rt.alloc(), config, snapshot, out)
 }
 
-fn run_replay<F: AllocGlobal + Files, W: Write>(
+fn run_replay<F: AllocGlobal + Files, W: Write, E: Write + IsTerminal>(
     rt: &F,
     arguments: &ArgMatches<'_>,
     out: &mut W,
+    err: &mut E,
 ) -> Result<(), Fault> {
     let (config, log) = open_config_and_log(rt, arguments)?;
-    try_replay(rt.alloc(), config, log, out)
+    match details_of(arguments, err) {
+        Details::Shown => {
+            let name = arguments.get_str("log").unwrap_or("");
+            try_replay_explained(rt.alloc(), config, NamedLog { name, log }, out, err)
+        }
+        Details::Hidden => try_replay(rt.alloc(), config, log, out),
+    }
 }
 
 fn run_explain<F: AllocGlobal + Files, W: Write>(

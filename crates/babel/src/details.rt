@@ -7,7 +7,7 @@ use babel_file_details::{
     FileKind, FileText, explain_config, explain_event, explain_file, explain_network,
     explain_transport, write_warnings,
 };
-use babel_line_details::{LineProblem, explain_hex, explain_log_line};
+use babel_line_details::{LineProblem, ReportCode, explain_hex, explain_log_line};
 use babel_report::{Absence, absence_of};
 use babel_show::Details;
 use babel_snapshot_file::{MAX_SNAPSHOT_LEN, SnapshotFileFault};
@@ -66,10 +66,13 @@ pub(crate) fn explain_absence<F: AllocGlobal + Files, E: Write>(
     };
     match absence_of(rt.alloc(), log, &prefix) {
         Ok(Absence::NeverNamed) => writeln!(err, "{name}: no Update names {prefix}"),
-        Ok(Absence::OnlyIgnored(line, reason, count)) => writeln!(
-            err,
-            "{name}:{line}: {prefix} is in ignored Updates alone, {count} in all, the first for {reason}"
-        ),
+        Ok(Absence::OnlyIgnored(line, reason, count)) => {
+            writeln!(
+                err,
+                "{name}:{line}: {prefix} is in ignored Updates alone, {count} in all, the first for {reason}"
+            )?;
+            writeln!(err, "{name}:{line}: {}", ReportCode::from(reason))
+        }
         Ok(Absence::OnlyRetracted(line)) => {
             writeln!(
                 err,

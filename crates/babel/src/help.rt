@@ -35,6 +35,10 @@ begin with # are skipped. Output is flushed whenever no further line is waiting.
 It ends at the first line that cannot be read. With --keep-going it goes on, and
 the status is 1 at the end.
 
+On a terminal, or with --details, a sentence for each code is on standard error,
+once: what it means, where it was first, and what to do. Standard output is the
+same.
+
 Examples:
   babel show 2a0200080406000000010190
     4 hello multicast seqno 1 interval 400
@@ -187,6 +191,10 @@ Lines of the report, for each line of the log:
 At the end there is a line `table <prefix> <route>` for each prefix of which an
 Update came. A route is `via <iface> <address> metric <n> router <id> seqno
 <n>`, or `none`.
+
+On a terminal, or with --details, a sentence for each code is on standard error,
+once: the log and the line that has it first, what it means, and what to do.
+Standard output is the same.
 
 Units:
   Times and intervals are in centiseconds: 100 is a second. Metrics and costs

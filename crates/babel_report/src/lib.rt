@@ -6,9 +6,11 @@
 
 mod absence;
 mod explaining;
+mod log_places;
 mod replaying;
+mod sentences;
 mod sightings;
 
 pub use absence::{Absence, absence_of};
 pub use explaining::{explain, try_explain};
-pub use replaying::{replay, try_replay};
+pub use replaying::{NamedLog, replay, try_replay, try_replay_explained};

@@ -5,6 +5,7 @@
 #![tactic(auto)]
 
 mod details;
+mod explaining;
 mod many;
 mod one;
 mod reading;
@@ -13,7 +14,7 @@ mod status;
 
 pub use details::Details;
 pub use many::{BadLines, LineOptions, show_lines};
-pub use one::{show, try_show};
+pub use one::{show, try_show, try_show_explained};
 pub use reading::{READ_LEN, read_line};
 pub use reporting::{LineCode, refuse, report};
 pub use status::Status;

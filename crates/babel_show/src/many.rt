@@ -1,10 +1,11 @@
 //! `babel show --stdin`: what many datagrams mean, one a line.
 
+use crate::explaining::{Origin, explain_meaning};
 use crate::one::{read_source, write_meaning};
 use crate::reading::{flush_before_waiting, is_skipped, parse_line, read_line, skip_line};
 use crate::{Details, LineCode, READ_LEN, Status, refuse, report};
-use babel_line_details::{LineDetail, LineProblem, explain_shown_line};
-use babel_message::Refusal;
+use babel_line_details::{LineDetail, LineProblem, SeenCodes, explain_shown_line};
+use babel_message::{Placed, Refusal};
 use babel_packet::decode;
 use babel_text::{LineFault, MAX_LINE_LEN, parse_octets};
 use babel_value::Addr;
@@ -29,7 +30,8 @@ pub struct LineOptions<'a> {
     pub header: bool,
     /// What becomes of a line that can't be read.
     pub bad_lines: BadLines,
-    /// Whether a sentence follows the code of a line that can't be read.
+    /// Whether a sentence follows the code of a line that can't be read, and the first of each code
+    /// of the lines that are shown.
     pub details: Details,
 }
 
@@ -93,6 +95,8 @@ struct Shower {
     heads: Heads,
     bad_lines: BadLines,
     details: Details,
+    /// The codes that were explained.
+    seen: SeenCodes,
     /// The number of the line that is read, and 0 before the first.
     number: u64,
     /// Whether a line couldn't be read.
@@ -117,6 +121,7 @@ impl Shower {
             },
             bad_lines: options.bad_lines,
             details: options.details,
+            seen: SeenCodes::new(),
             number: 0,
             has_bad_line: false,
             line,
@@ -170,7 +175,7 @@ impl Shower {
         out: &mut W,
         err: &mut E,
     ) -> Result<bool, LineFault> {
-        match self.try_show_next(input, out) {
+        match self.try_show_next(input, out, err) {
             Err(fault) if self.goes_on_after(fault) => {
                 // What was shown before is written before the code.
                 out.flush().map_err(LineFault::of_writing)?;
@@ -185,15 +190,16 @@ impl Shower {
         }
     }
 
-    fn try_show_next<R: Read + Drop, W: Write>(
+    fn try_show_next<R: Read + Drop, W: Write, E: Write>(
         &mut self,
         input: &mut BufReader<R>,
         out: &mut W,
+        err: &mut E,
     ) -> Result<bool, LineFault> {
         if !read_line(input, &mut self.line)? {
             return Ok(false);
         }
-        self.show_line(out)?;
+        self.show_line(out, err)?;
         Ok(true)
     }
 
@@ -207,7 +213,7 @@ impl Shower {
     }
 
     /// Shows the datagram of the line, if it has one.
-    fn show_line<W: Write>(&mut self, out: &mut W) -> Result<(), LineFault> {
+    fn show_line<W: Write, E: Write>(&mut self, out: &mut W, err: &mut E) -> Result<(), LineFault> {
         if is_skipped(self.line.as_slice()) {
             return Ok(());
         }
@@ -218,8 +224,25 @@ impl Shower {
         self.heads.write(self.number, source, out)?;
         match decode(self.alloc, datagram, source) {
             Err(Refusal::Memory) => Err(LineFault::Memory),
-            meaning => write_meaning(&meaning, out),
+            meaning => {
+                write_meaning(&meaning, out)?;
+                self.explain(&meaning, out, err)
+            }
         }
+    }
+
+    /// Writes the sentence of each code of the datagram's lines, if it is wanted and new.
+    fn explain<W: Write, E: Write>(
+        &mut self,
+        meaning: &Result<Vec<Placed>, Refusal>,
+        out: &mut W,
+        err: &mut E,
+    ) -> Result<(), LineFault> {
+        if self.details == Details::Hidden {
+            return Ok(());
+        }
+        let origin = Origin::Line(self.number);
+        explain_meaning(meaning, origin, &mut self.seen, out, err)
     }
 
     /// Writes the line's number and code, and the sentence if it is wanted. If writing fails, the

@@ -1,6 +1,8 @@
 //! `babel show HEX`: what one datagram means.
 
+use crate::explaining::{Origin, explain_meaning};
 use crate::{Status, report};
+use babel_line_details::SeenCodes;
 use babel_message::{Placed, Refusal};
 use babel_packet::decode;
 use babel_text::LineFault;
@@ -34,10 +36,41 @@ pub fn try_show<W: Write>(
     hex: &str,
     out: &mut W,
 ) -> Result<Status, LineFault> {
+    let meaning = read_meaning(alloc, source, hex)?;
+    write_whole(&meaning, out)
+}
+
+/// The same, and the sentence of each code of the lines is written to `err`, once for each code.
+pub fn try_show_explained<W: Write, E: Write>(
+    alloc: Global,
+    source: &str,
+    hex: &str,
+    out: &mut W,
+    err: &mut E,
+) -> Result<Status, LineFault> {
+    let meaning = read_meaning(alloc, source, hex)?;
+    let status = write_whole(&meaning, out)?;
+    explain_meaning(&meaning, Origin::Argument, &mut SeenCodes::new(), out, err)?;
+    Ok(status)
+}
+
+/// What the datagram means.
+fn read_meaning(
+    alloc: Global,
+    source: &str,
+    hex: &str,
+) -> Result<Result<Vec<Placed>, Refusal>, LineFault> {
     let source = read_source(source)?;
     let octets = read_octets(alloc, hex)?;
-    let meaning = decode(alloc, octets.as_slice(), source);
-    write_meaning(&meaning, out)?;
+    Ok(decode(alloc, octets.as_slice(), source))
+}
+
+/// Writes the lines of a datagram, which is the only one.
+fn write_whole<W: Write>(
+    meaning: &Result<Vec<Placed>, Refusal>,
+    out: &mut W,
+) -> Result<Status, LineFault> {
+    write_meaning(meaning, out)?;
     out.flush().map_err(LineFault::of_writing)?;
     Ok(if meaning.is_ok() {
         Status::Done
