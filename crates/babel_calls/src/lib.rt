@@ -7,15 +7,18 @@
 //! - `making`: the first state of a configuration.
 //! - `restarts`: what is kept over a restart.
 //! - `calls`: costs and prefixes that are set, and routes that are reported.
+//! - `deadlines`: when a tick next has something to do.
 #![tactic(auto)]
 
 mod calls;
+mod deadlines;
 mod making;
 mod outgoing_messages;
 mod restarts;
 mod sending;
 
 pub use calls::{announce, reported_entry, selected_route, set_cost, withdraw};
+pub use deadlines::{early_ticks_change_nothing, next_due};
 pub use making::make;
 pub use outgoing_messages::{certain_target, outgoing};
 pub use restarts::{restore, save};

@@ -326,6 +326,14 @@ impl Neighbours {
         Some(peer)
     }
 
+    /// The neighbours with what is known of each, in ascending order.
+    pub fn as_slice(&self) -> &[(Peer, Link)]
+        ensures links { result.now ≡ self.now }
+        ensures few { length self.now ≤ max_neighbours }
+    {
+        self.links.as_slice()
+    }
+
     /// The neighbours, in ascending order.
     pub fn peers(&self) -> Peers<'_>
         ensures peers { result ≡ peers_of self.now }

@@ -126,6 +126,13 @@ impl<T: Table<Source, SourceEntry>> SourcesOver<T> {
             .map(|entry| (entry.0, entry.1.distance))
     }
 
+    /// The source that has exactly `place` lesser ones, with its whole entry.
+    pub fn entry_at(&self, place: usize) -> Option<(Source, SourceEntry)>
+        ensures { result ≡ slice_get self.now place }
+    {
+        self.table.at(place)
+    }
+
     /// Whether an update for the source is feasible (RFC 8966, section 3.5.1), by its advertised
     /// metric.
     pub fn feasible(&self, source: Source, update: Distance) -> bool

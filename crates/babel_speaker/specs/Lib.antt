@@ -1,6 +1,7 @@
 pub mod PendingItems
 pub mod Sending
 pub use Rattle.babel_calls.specs.Making
+pub use Rattle.babel_calls.specs.Deadlines
 pub use Rattle.babel_calls.specs.SentMessages
 pub use Rattle.babel_parts.specs.Costs
 pub use Rattle.babel_state.specs.Limits

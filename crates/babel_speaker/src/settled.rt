@@ -1,9 +1,11 @@
 //! The state of a speaker, and whether all its selections are current. Then Hellos and IHUs that change no
 //! cost, and ticks in which no deadline is due, select no route again.
 
-ghost use Rattle.std.specs.Prelude.{◌≡◌, ◌↔◌, [], true, false, Ok, Some, IsOk, IsErr, IsNone, IfOk, IfErr, IfSome, OnOk, OnErr, IsFalse};
+ghost use Rattle.std.specs.Prelude.{◌≡◌, ◌≢◌, ◌<◌, ◌↔◌, ℕ, [], true, false, Ok, Some, IsOk, IsErr, IsNone, IfOk, IfErr, IfSome, OnOk, OnErr, IsFalse};
 ghost use Rattle.babel_packet.specs.Meaning.{meaning};
 ghost use Rattle.babel_state.specs.Addresses.{source_fault, transport_at};
+ghost use Rattle.babel_calls.specs.Deadlines.{next_deadline};
+ghost use Rattle.babel_state.specs.CurrentSelections.{AreCurrent};
 ghost use Rattle.babel_state.specs.Calls.{set_cost_fault, cost_set, first_state, is_prefix_too_many, announced_also, withdrawn};
 ghost use Rattle.babel_state.specs.Configs.{config_fault};
 ghost use Rattle.babel_state.specs.KeptRoutes.{KeepsRoutes};
@@ -167,6 +169,16 @@ impl SettledCore {
         ensures kept { IsFalse changed.new → KeepsRoutes self.old self.new }
     {
         self.is_settled = self.core.tick(now, self.is_settled, changed, scratch);
+    }
+
+    /// The moment before which a tick changes nothing, as `babel_calls::next_due`.
+    pub(crate) fn next_due(&self) -> u64
+        ensures idle { (now : ℕ) → now < result → ticked now self.now ≡ self.now }
+        ensures pending { self.now.pending.items ≢ [] → result ≡ 0 }
+        ensures current { 0 < result → AreCurrent self.now }
+        ensures deadline { self.now.pending.items ≡ [] → AreCurrent self.now → result ≡ next_deadline self.now }
+    {
+        babel_calls::next_due(&self.core, self.is_settled)
     }
 
     /// Raises the speaker's own seqno by 1.
