@@ -12,11 +12,11 @@ use Rattle.babel_state.specs.Seen.{Seen, UpdateValue, IsSelecting, Advertises, I
 use Rattle.babel_net.specs.declared.machine.pair.Pair.{Pair}
 use Rattle.babel_net.specs.declared.machine.pick.Pick.{Pick}
 use Rattle.babel_net.specs.declared.machine.step.Step.TheVariants.{Announce}
-use Rattle.babel_net.specs.Machine.{NodeState, node_at, with_sent, HasPicked, MaySend, PassesOn, Run, beginning}
+use Rattle.babel_net.specs.Machine.{NodeState, node_at, with_sent, MaySend, PassesOn, Run, beginning}
 use Rattle.babel_net.specs.Owners.{AreApart}
 use Rattle.babel_net.specs.Worlds.{World, SentDatagram, speaker_at, updates_of}
 use Rattle.babel_net.specs.Happenings.{Emits}
-use Rattle.babel_net.specs.Views.{NetSource, IsSource, IsCounted, lifted, sent_by, pick_of, node_view, view}
+use Rattle.babel_net.specs.Views.{NetSource, IsSource, IsCounted, lifted, sent_by, pick_of, view}
 use Rattle.babel_net.specs.Invariants.{WasSent, Holds, HoldsFor, Bounds}
 use Rattle.babel_net.proofs.Membership.{Contains-from_filter, All-from_Contains}
 use Rattle.babel_net.proofs.MachineSound.{IsSound-run, counted_to_send}
@@ -25,7 +25,7 @@ use Rattle.babel_net.proofs.SourceEntries.{lowered_by_all}
 use Rattle.babel_net.proofs.Speakers.{each_speaker, speaker_now, speaker_other, length-view, picture_node, picture, node_at-picture, length-picture, written-picture}
 use Rattle.babel_net.proofs.ViewRuns.{announce_run}
 use Rattle.babel_net.proofs.Picking.{of_source, pick_of-route}
-use Rattle.babel_net.proofs.MovedRuns.{MovedRun, state_same, start_word}
+use Rattle.babel_net.proofs.MovedRuns.{MovedRun, start_word}
 use Rattle.babel_net.proofs.Emitting.{datagram_of, emitted, updates-own, updates-other, route_sent, known_now}
 
 -- the datagram's updates for the source

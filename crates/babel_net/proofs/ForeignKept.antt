@@ -1,5 +1,5 @@
 -- Among routers of others: what every event keeps, and the steps of the machine that it is.
-use Rattle.std.proofs.Common.{◌≡◌, ◌⊎◌, ◌<◌, ◌≤◌, ℕ, Bool, true, List, [], ◌∷◌, ◌++◌, Some, None, length, Contains, All, refl, sym, ap, ◌∙◌, subst, inl, inr}
+use Rattle.std.proofs.Common.{◌≡◌, ◌⊎◌, ◌<◌, ℕ, Bool, List, [], ◌∷◌, ◌++◌, length, All, refl, sym, ap, ◌∙◌, subst, inl, inr}
 use Rattle.std.proofs.lemmas.Option.{none-some}
 use Rattle.std.proofs.lemmas.List.Elements.{All-append, All-nil, Contains-append_left, Contains-append_right}
 use Rattle.babel_value.specs.declared.keys.Peer.{Peer}
@@ -11,15 +11,13 @@ use Rattle.babel_net.specs.declared.events.Event.{Event}
 use Rattle.babel_net.specs.declared.events.Event.TheVariants as events
 use Rattle.babel_net.specs.declared.machine.step.Step.TheVariants.{Raise}
 use Rattle.babel_net.specs.Machine.{first_state}
-use Rattle.babel_net.specs.ForeignMachine.{RunAmong}
-use Rattle.babel_net.specs.ForeignWorlds.{ForeignWorld, HearEvent, ForeignEvent, Hears, NamesOthers, HappensAmong, HappenAllAmong, last_foreign_world, IsFirstAmong, WasHeardFor, WasSentFor, AreInHalf, source_among, pick_among, view_among, IsRunAmong}
-use Rattle.babel_net.specs.ForeignLaws.{WasForeign, CameFrom, IsNamedByUs, HoldsForAmong, IsInvariantAmong, NetworksAmongAreSound, HappeningsAreRuns}
+use Rattle.babel_net.specs.ForeignWorlds.{ForeignWorld, HearEvent, ForeignEvent, Hears, NamesOthers, HappensAmong, HappenAllAmong, last_foreign_world, IsFirstAmong, AreInHalf, source_among, pick_among, view_among}
+use Rattle.babel_net.specs.ForeignLaws.{CameFrom, IsNamedByUs, HoldsForAmong, IsInvariantAmong, NetworksAmongAreSound, HappeningsAreRuns}
 use Rattle.babel_net.specs.Owners.{owner_of, AreApart}
-use Rattle.babel_net.specs.Worlds.{World, speaker_at, nothing, with_speaker, updates_of}
+use Rattle.babel_net.specs.Worlds.{World, speaker_at, with_speaker}
 use Rattle.babel_net.specs.Happenings.{StepsAlone, Receives, Emits, Restarts, Happens}
 use Rattle.babel_net.specs.Views.{NetSource}
-use Rattle.babel_net.specs.Invariants.{WasSent, IsKnown, HoldsWith, Holds, update_heard}
-use Rattle.babel_net.proofs.Membership.{Contains-nil}
+use Rattle.babel_net.specs.Invariants.{WasSent, IsKnown, HoldsWith, update_heard}
 use Rattle.babel_net.proofs.MachineAmong.{IsSoundAmong-first_state, IsSoundAmong-run, no_cycle_among}
 use Rattle.babel_net.proofs.Speakers.{speaker_now}
 use Rattle.babel_net.proofs.Moving.{Moved, Holds-moved}

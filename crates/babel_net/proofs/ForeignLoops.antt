@@ -11,10 +11,10 @@ use Rattle.babel_net.specs.declared.machine.pick.Pick.{Pick}
 use Rattle.babel_net.specs.Machine.{NodeState}
 use Rattle.babel_net.specs.Cycle.{next_hop_of}
 use Rattle.babel_net.specs.Owners.{owner_of}
-use Rattle.babel_net.specs.Worlds.{World, speaker_at, next_hop_in, router_in, Follows, FollowsThrough, IsLoop, NoLoopNaming}
+use Rattle.babel_net.specs.Worlds.{World, speaker_at, Follows, FollowsThrough, NoLoopNaming}
 use Rattle.babel_net.specs.Views.{NetSource}
-use Rattle.babel_net.specs.Invariants.{WasSent, update_heard}
-use Rattle.babel_net.specs.ForeignWorlds.{ForeignWorld, last_foreign_world, AreInHalf, NamesNoNode, source_among, pick_among, view_among, gateway_in, Forwards, NoForwardingLoop}
+use Rattle.babel_net.specs.Invariants.{update_heard}
+use Rattle.babel_net.specs.ForeignWorlds.{ForeignWorld, last_foreign_world, AreInHalf, NamesNoNode, source_among, pick_among, view_among, Forwards, NoForwardingLoop}
 use Rattle.babel_net.specs.ForeignLaws.{CameFrom, IsNamedByUs, IsInvariantAmong, NoLoopOfNeighbours, NoLoopOfNextHops, SeqnosGoAround}
 use Rattle.babel_net.proofs.MachineAmong.{no_cycle_among}
 use Rattle.babel_net.proofs.Speakers.{speaker_past, node_at-picture}

@@ -1,5 +1,5 @@
 -- Among routers of others: steps of one speaker as steps of the machine.
-use Rattle.std.proofs.Common.{◌≡◌, ◌≢◌, ◌⊎◌, ◌<◌, ◌≤◌, ℕ, zero, suc, ◌+◌, Bool, true, false, List, [], ◌∷◌, ◌++◌, Option, Some, None, option_map, unwrap_or, cond, length, map, slice_get, Contains, All, refl, sym, ap, ◌∙◌, subst, inl, inr, arith}
+use Rattle.std.proofs.Common.{◌≡◌, ◌<◌, ℕ, zero, suc, ◌+◌, Bool, true, false, List, [], ◌∷◌, ◌++◌, Option, Some, None, unwrap_or, cond, length, map, slice_get, Contains, All, refl, sym, ap, ◌∙◌, subst, inl, inr, arith}
 use Rattle.std.proofs.lemmas.Bool.{false≢true}
 use Rattle.std.proofs.lemmas.Option.{same_Some, none-some}
 use Rattle.std.proofs.lemmas.List.Elements.{All-contains, All-map, Contains-append_right}
@@ -10,20 +10,20 @@ use Rattle.babel_value.specs.Seqnos.{lift}
 use Rattle.babel_state.specs.declared.configs.Config.{Config}
 use Rattle.babel_state.specs.declared.selected.Selected.{Selected}
 use Rattle.babel_state.specs.Sameness.{is_same_router}
-use Rattle.babel_state.specs.Seen.{Seen, UpdateValue, HeardValue, Advertises, IsOwnUpdate, IsRouteUpdate, is_of_source, heard_of}
+use Rattle.babel_state.specs.Seen.{Seen, UpdateValue, HeardValue, Advertises, is_of_source, heard_of}
 use Rattle.babel_net.specs.declared.machine.pair.Pair.{Pair}
 use Rattle.babel_net.specs.declared.machine.pick.Pick.{Pick}
 use Rattle.babel_net.specs.declared.machine.step.Step.{Step}
 use Rattle.babel_net.specs.declared.machine.step.Step.TheVariants.{Raise, Announce, Choose, Drop}
 use Rattle.babel_net.specs.Machine.{SourceState, NodeState, node_at, with_sent, with_pick, HasSent, MaySend, beginning, IsBetterPair}
 use Rattle.babel_net.specs.ForeignMachine.{MayPickAmong, StepsAmong, RunAmong}
-use Rattle.babel_net.specs.ForeignWorlds.{ForeignWorld, NamesOthers, WasHeardFor, WasSentFor, AreInHalf, sender_of, node_named, source_among, pick_among, view_among}
-use Rattle.babel_net.specs.ForeignLaws.{WasForeign, CameFrom, IsNamedByUs, HoldsForAmong}
+use Rattle.babel_net.specs.ForeignWorlds.{ForeignWorld, NamesOthers, AreInHalf, sender_of, node_named, source_among, pick_among, view_among}
+use Rattle.babel_net.specs.ForeignLaws.{CameFrom, IsNamedByUs, HoldsForAmong}
 use Rattle.babel_net.specs.Owners.{owner_of, AreApart}
-use Rattle.babel_net.specs.Worlds.{World, SentDatagram, speaker_at, with_speaker, updates_of}
+use Rattle.babel_net.specs.Worlds.{World, speaker_at, with_speaker, updates_of}
 use Rattle.babel_net.specs.Happenings.{Emits}
 use Rattle.babel_net.specs.Views.{NetSource, lifted, sent_by}
-use Rattle.babel_net.specs.Invariants.{WasSent, HoldsWith, Bounds, update_heard}
+use Rattle.babel_net.specs.Invariants.{HoldsWith, Bounds, update_heard}
 use Rattle.babel_net.proofs.Membership.{Contains-from_filter, All-from_Contains}
 use Rattle.babel_net.proofs.MachineAmong.{IsSoundAmong-run, announced_among}
 use Rattle.babel_net.proofs.Circular.{IsReached}
@@ -32,7 +32,7 @@ use Rattle.babel_net.proofs.ViewRuns.{announce_run}
 use Rattle.babel_net.proofs.Picking.{same_router, same_router_itself, of_source, of_source_itself, sent_by-update}
 use Rattle.babel_net.proofs.Beginning.{past}
 use Rattle.babel_net.proofs.Moving.{Moved, source_kept, better_than_all}
-use Rattle.babel_net.proofs.Emitting.{datagram_of, emitted, updates-own, updates-kept, route_heard, own_hop}
+use Rattle.babel_net.proofs.Emitting.{datagram_of, emitted, updates-own, route_heard, own_hop}
 use Rattle.babel_net.proofs.EmittedRuns.{updates_for, pairs_for, route_passes, picture_emitted, bounds_emitted, seqno-kept}
 
 -- ---- nodes and router-ids

@@ -1,5 +1,5 @@
 -- Among routers of others: the first state is sound, every step keeps it so, and a sound state has no cycle of our nodes.
-use Rattle.std.proofs.Common.{◌≡◌, ◌≢◌, ℕ, ◌<◌, ◌⊎◌, List, [], ◌∷◌, Option, Some, None, length, map, All, refl, sym, ap, ◌∙◌, subst, inl, inr, arith}
+use Rattle.std.proofs.Common.{◌≡◌, ◌≢◌, ℕ, ◌<◌, List, [], ◌∷◌, Option, Some, None, length, map, refl, sym, ap, ◌∙◌, subst, inl, inr, arith}
 use Rattle.std.proofs.lemmas.Bool.{cases_lt}
 use Rattle.std.proofs.lemmas.List.{get_or_past, length-set, length-replicate}
 use Rattle.std.proofs.lemmas.Option.{same_Some, none-some}
@@ -9,9 +9,9 @@ use Rattle.babel_net.specs.declared.machine.step.Step.{Step}
 use Rattle.babel_net.specs.declared.machine.step.Step.TheVariants.{Raise, Announce, Choose, Drop}
 use Rattle.babel_net.specs.Machine.{SourceState, NodeState, quiet, HasPicked, IsBetterPair, MaySend, Run, first_state, with_pick}
 use Rattle.babel_net.specs.Cycle.{NoCycle}
-use Rattle.babel_net.specs.ForeignMachine.{MayPickAmong, StepsAmong, RunAmong, IsRising, IsSoundAmong, NoCycleAmongForeignRouters}
+use Rattle.babel_net.specs.ForeignMachine.{MayPickAmong, StepsAmong, RunAmong, IsSoundAmong, NoCycleAmongForeignRouters}
 use Rattle.babel_net.proofs.MachineNodes.{each_pick, pick-with_sent}
-use Rattle.babel_net.proofs.MachineRising.{nothing_sent, nothing_picked, better_than_passed, IsRising-sent, IsRising-with_pick}
+use Rattle.babel_net.proofs.MachineRising.{nothing_picked, better_than_passed, IsRising-sent, IsRising-with_pick}
 use Rattle.babel_net.proofs.MachineCycle.{no_cycle_rising, no_pick}
 
 pub IsSoundAmong-first_state : (nodes owner : ℕ) → IsSoundAmong nodes (first_state nodes owner)

@@ -1,14 +1,13 @@
 -- The first state is sound, and every step keeps it so.
-use Rattle.std.proofs.Common.{◌≡◌, ℕ, ◌+◌, ◌<◌, ◌≤◌, List, [], ◌∷◌, Option, Some, None, length, replicate, Contains, All, sym, ap, ◌∙◌, subst, inl, inr, arith}
-use Rattle.std.proofs.lemmas.List.{get_or-replicate, get_or_past, length-set, length-replicate}
-use Rattle.std.proofs.lemmas.List.Elements.{All-contains, All-set, All-map, All-weaker}
+use Rattle.std.proofs.Common.{◌≡◌, ℕ, ◌+◌, ◌<◌, ◌≤◌, List, [], ◌∷◌, Option, Some, None, length, All, sym, ap, ◌∙◌, subst, inl, inr, arith}
+use Rattle.std.proofs.lemmas.List.{length-set, length-replicate}
+use Rattle.std.proofs.lemmas.List.Elements.{All-set, All-map, All-weaker}
 use Rattle.std.proofs.lemmas.Option.{get_or_from_slice_get, same_Some, none-some, slice_get_within}
-use Rattle.std.proofs.lemmas.Bool.{cases_lt}
 use Rattle.babel_net.specs.declared.machine.pair.Pair.{Pair}
 use Rattle.babel_net.specs.declared.machine.pick.Pick.{Pick}
 use Rattle.babel_net.specs.declared.machine.step.Step.{Step}
 use Rattle.babel_net.specs.declared.machine.step.Step.TheVariants.{Raise, Announce, Choose, Drop}
-use Rattle.babel_net.specs.Machine.{SourceState, NodeState, node_at, quiet, HasSent, HasPicked, beginning, first_state, first_states, with_sent, with_pick, IsBetterPair, MaySend, MayPick, Adds, Steps, StepsAt, Run, MachineRun}
+use Rattle.babel_net.specs.Machine.{SourceState, node_at, HasSent, HasPicked, beginning, first_state, first_states, with_sent, with_pick, IsBetterPair, MaySend, MayPick, Adds, Steps, StepsAt, Run, MachineRun}
 use Rattle.babel_net.specs.Sound.{IsSound}
 use Rattle.babel_net.specs.ForeignMachine.{IsRising}
 use Rattle.babel_net.proofs.MachineNodes.{sent_stays, sent_now, each_sent}

@@ -1,15 +1,14 @@
 -- A step of one speaker that sends nothing is a list of machine steps: raises, then a pick or a drop.
-use Rattle.std.proofs.Common.{◌≡◌, ◌≢◌, ◌<◌, ◌≤◌, ℕ, ◌+◌, List, [], ◌∷◌, ◌++◌, Option, Some, None, length, refl, sym, ap, ◌∙◌, subst, arith}
-use Rattle.std.proofs.lemmas.List.{length-set}
+use Rattle.std.proofs.Common.{◌≡◌, ◌<◌, ◌≤◌, ℕ, ◌+◌, List, [], ◌∷◌, ◌++◌, Option, Some, None, refl, sym, ap, ◌∙◌, subst, arith}
 use Rattle.babel_state.specs.declared.configs.Config.{Config}
 use Rattle.babel_state.specs.Seen.{Seen}
 use Rattle.babel_net.specs.declared.machine.pick.Pick.{Pick}
 use Rattle.babel_net.specs.declared.machine.step.Step.{Step}
 use Rattle.babel_net.specs.declared.machine.step.Step.TheVariants.{Choose, Drop}
-use Rattle.babel_net.specs.Machine.{SourceState, NodeState, node_at, with_pick, Steps, Run}
+use Rattle.babel_net.specs.Machine.{SourceState, with_pick, Steps, Run}
 use Rattle.babel_net.specs.Owners.{AreApart}
 use Rattle.babel_net.specs.Worlds.{World, speaker_at, with_speaker}
-use Rattle.babel_net.specs.Views.{NetSource, IsSource, IsCounted, sent_by, pick_of, node_view, view}
+use Rattle.babel_net.specs.Views.{NetSource, IsSource, IsCounted, sent_by, pick_of, view}
 use Rattle.babel_net.specs.Invariants.{WasSent, Holds, HoldsFor, Bounds}
 use Rattle.babel_net.proofs.MachineSound.{IsSound-run}
 use Rattle.babel_net.proofs.SourceEntries.{Bounds-raised}

@@ -1,10 +1,9 @@
 -- A network of ours among routers of others (profile): what is heard from them, and what of it has to be known.
-use Rattle.std.specs.Prelude.{◌≡◌, ◌⊎◌, ◌<◌, ◌≤◌, ℕ, ◌+◌, true, List, [], ◌∷◌, ◌++◌, length, map, All, Contains, Option, Some, None, option_map, unwrap_or, if◌then◌else◌}
+use Rattle.std.specs.Prelude.{◌≡◌, ◌⊎◌, ◌<◌, ◌≤◌, ℕ, ◌+◌, true, List, [], ◌∷◌, ◌++◌, length, map, All, Contains, Option, Some, None, unwrap_or, if◌then◌else◌}
 use mathlib.Core.Logic.{inl, inr}
 use Rattle.std.specs.Option.{option_and_then}
 use Rattle.std.specs.List.{range_with_len}
 use Rattle.babel_value.specs.declared.addresses.Addr.{Addr}
-use Rattle.babel_value.specs.declared.keys.Peer.{Peer}
 use Rattle.babel_value.specs.Prefixes.{PrefixValue}
 use Rattle.babel_value.specs.Seqnos.{seqno_modulus, lift}
 use Rattle.babel_state.specs.declared.configs.Config.{Config}
