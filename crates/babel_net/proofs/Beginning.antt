@@ -16,25 +16,27 @@ use Rattle.babel_state.specs.declared.configs.Interface.{Interface}
 use Rattle.babel_state.specs.Addresses.{address_of, transport_of}
 use Rattle.babel_state.specs.Calls.{new_interface}
 use Rattle.babel_state.specs.Seen.{Seen, HeardValue, IsSelecting, IsNew}
+use Rattle.babel_state.specs.declared.selected.Selected.{Selected}
+use Rattle.babel_net.specs.declared.machine.pick.Pick.{Pick}
 use Rattle.babel_net.specs.Machine.{quiet, first_state}
 use Rattle.babel_net.specs.Sound.{IsSound}
 use Rattle.babel_net.specs.Owners.{owner_of, addresses_of, interface_addresses, listed, Lists, AreApart}
 use Rattle.babel_net.specs.Worlds.{World, SentDatagram, speaker_at, nothing, updates_of, IsFirst}
-use Rattle.babel_net.specs.Views.{NetSource, IsSource, sent_by, pick_of, node_view, view}
+use Rattle.babel_net.specs.Views.{NetSource, IsSource, sent_by, pick_of, view}
 use Rattle.babel_net.specs.Invariants.{WasSent, Holds, HoldsFor, Bounds, IsInvariant}
 use Rattle.babel_net.proofs.Membership.{Contains-nil, Contains-here, Contains-flat_map}
 use Rattle.std.proofs.lemmas.List.Elements.{Contains-append_left, Contains-append_right}
 use Rattle.babel_net.proofs.MachineSound.{IsSound-first_state}
-use Rattle.babel_net.proofs.Speakers.{speaker_past}
-use Rattle.babel_net.proofs.MovedRuns.{state_same, start_word}
+use Rattle.babel_net.proofs.Speakers.{speaker_past, picture_node, picture}
+use Rattle.babel_net.proofs.MovedRuns.{start_word}
 use Rattle.babel_net.proofs.EmittedRuns.{node_same}
 
-past : (configs : List Config) (b : ℕ) → slice_get configs b ≡ None → length configs ≤ b
+pub past : (configs : List Config) (b : ℕ) → slice_get configs b ≡ None → length configs ≤ b
 past [] b is = omega arith
 past (c ∷ cs) b is = elim (cases_lt b (length (c ∷ cs))) [ inl inside ↦ absurd (none-some _ (sym is ∙ slice_get-get_or (c ∷ cs) b c inside)) | inr out ↦ out ]
 
 -- what holds of each new speaker, and of a number that is no node's, holds of each number
-each_new : (P : ℕ → Seen → Type 0) (configs : List Config) (w : World) → IsFirst configs w → ((b : ℕ) (c : Config) → slice_get configs b ≡ Some c → IsNew c (speaker_at w b) → P b (speaker_at w b)) → ((b : ℕ) → P b nothing) → (b : ℕ) → P b (speaker_at w b)
+pub each_new : (P : ℕ → Seen → Type 0) (configs : List Config) (w : World) → IsFirst configs w → ((b : ℕ) (c : Config) → slice_get configs b ≡ Some c → IsNew c (speaker_at w b) → P b (speaker_at w b)) → ((b : ℕ) → P b nothing) → (b : ℕ) → P b (speaker_at w b)
 each_new P configs w first new none b = by (slice_get configs b) refl
   where
     by : (o : Option Config) → slice_get configs b ≡ o → P b (speaker_at w b)
@@ -99,22 +101,28 @@ Holds-first configs w apart first = record {
 sent_none : (s : NetSource) (sent : List SentDatagram) → sent ≡ [] → (b : ℕ) → sent_by s sent b ≡ []
 sent_none s sent is b = ap (λ ds. sent_by s ds b) is
 
-pub view_first : (configs : List Config) (w : World) (s : NetSource) → IsFirst configs w → IsSource configs s → view configs s w ≡ first_state (length configs) s.owner
-view_first configs w s first source =
-    state_same (view configs s w) (first_state (length configs) s.owner) refl ((first.new s.owner source.config source.is).raises) nodes
+pub picture_first : (configs : List Config) (w : World) (pick : Option Selected → Option Pick) (s : NetSource) (raises : ℕ) → pick None ≡ None → IsFirst configs w → picture pick s raises w ≡ record (first_state (length configs) s.owner) { raises = raises }
+picture_first configs w pick s raises none first =
+    ap (λ nodes. record (picture pick s raises w) { nodes = nodes }) (sym (fill_by_all (picture_node pick s w) (replicate (length configs) quiet) (length w.speakers) quiet (rw length-replicate (sym first.size)) each))
   where
-    each : (b : ℕ) → b < length w.speakers → get_or (replicate (length configs) quiet) b quiet ≡ node_view configs s w b
+    each : (b : ℕ) → b < length w.speakers → get_or (replicate (length configs) quiet) b quiet ≡ picture_node pick s w b
     each b within =
         get_or-replicate (length configs) b quiet quiet (omega (arith, within, first.size))
-        ∙ sym (node_same (node_view configs s w b) quiet (sent_none s w.sent first.sent b) (ap (pick_of configs s) (each_new (λ b x. x.selected_at s.prefix ≡ None) configs w first (λ b c is new. new.selected s.prefix) (λ b. refl) b)))
+        ∙ sym (node_same (picture_node pick s w b) quiet (sent_none s w.sent first.sent b) (ap pick (each_new (λ b x. x.selected_at s.prefix ≡ None) configs w first (λ b c is new. new.selected s.prefix) (λ b. refl) b) ∙ none))
 
-    nodes : (view configs s w).nodes ≡ replicate (length configs) quiet
-    nodes = sym (fill_by_all (node_view configs s w) (replicate (length configs) quiet) (length w.speakers) quiet (rw length-replicate (sym first.size)) each)
+pub view_first : (configs : List Config) (w : World) (s : NetSource) → IsFirst configs w → IsSource configs s → view configs s w ≡ first_state (length configs) s.owner
+view_first configs w s first source =
+    picture_first configs w (pick_of configs s) s (speaker_at w s.owner).raises refl first
+    ∙ ap (λ raises. record (first_state (length configs) s.owner) { raises = raises }) ((first.new s.owner source.config source.is).raises)
+
+pub bounds_first : (configs : List Config) (w : World) (s : NetSource) (raises : ℕ) → IsFirst configs w → (b : ℕ) → Bounds s raises ((speaker_at w b).source_at s.prefix s.router) (sent_by s w.sent b)
+bounds_first configs w s raises first =
+    each_new (λ b x. Bounds s raises (x.source_at s.prefix s.router) (sent_by s w.sent b)) configs w first (λ b c is new. subst (λ o. Bounds s raises o (sent_by s w.sent b)) (sym (new.sources s.prefix s.router)) (sent_none s w.sent first.sent b)) (λ b. sent_none s w.sent first.sent b)
 
 pub HoldsFor-first : (configs : List Config) (w : World) (s : NetSource) → AreApart configs → IsFirst configs w → IsSource configs s → HoldsFor configs s w
 HoldsFor-first configs w s apart first source = record {
   own_seqno = omega (arith, own.seqno, own.raises, source.start, start_word configs s apart source);
-  bounds = each_new (λ b x. Bounds s (speaker_at w s.owner).raises (x.source_at s.prefix s.router) (sent_by s w.sent b)) configs w first (λ b c is new. subst (λ o. Bounds s (speaker_at w s.owner).raises o (sent_by s w.sent b)) (sym (new.sources s.prefix s.router)) (sent_none s w.sent first.sent b)) (λ b. sent_none s w.sent first.sent b);
+  bounds = bounds_first configs w s (speaker_at w s.owner).raises first;
   sound = subst IsSound (sym (view_first configs w s first source)) (IsSound-first_state (length configs) s.owner (slice_get_within configs s.owner source.config source.is));
 }
   where

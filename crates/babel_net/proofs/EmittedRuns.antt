@@ -1,5 +1,5 @@
 -- Sending a datagram is a list of machine steps: an announcement for each of its updates for the source.
-use Rattle.std.proofs.Common.{◌≡◌, ◌≢◌, ◌⊎◌, ◌<◌, ℕ, List, [], ◌∷◌, ◌++◌, Some, length, map, filter, Contains, All, true, refl, sym, ap, ◌∙◌, subst, inl, inr, arith}
+use Rattle.std.proofs.Common.{◌≡◌, ◌≢◌, ◌⊎◌, ◌<◌, ◌≤◌, ℕ, List, [], ◌∷◌, ◌++◌, Option, Some, length, map, filter, Contains, All, true, refl, sym, ap, ◌∙◌, subst, inl, inr, arith}
 use Rattle.std.proofs.lemmas.Bool.{cases_eq}
 use Rattle.std.proofs.lemmas.List.{length-set, map-append}
 use Rattle.std.proofs.lemmas.List.Elements.{filter-append, All-contains, All-map}
@@ -7,24 +7,25 @@ use Rattle.babel_value.specs.declared.distances.Distance.{Distance}
 use Rattle.babel_value.specs.Prefixes.{PrefixValue}
 use Rattle.babel_value.specs.Seqnos.{lift}
 use Rattle.babel_state.specs.declared.configs.Config.{Config}
-use Rattle.babel_state.specs.Seen.{Seen, UpdateValue, Advertises, IsOwnUpdate, IsRouteUpdate, is_of_source, heard_of}
+use Rattle.babel_state.specs.declared.selected.Selected.{Selected}
+use Rattle.babel_state.specs.Seen.{Seen, UpdateValue, IsSelecting, Advertises, IsOwnUpdate, IsRouteUpdate, is_of_source, heard_of}
 use Rattle.babel_net.specs.declared.machine.pair.Pair.{Pair}
 use Rattle.babel_net.specs.declared.machine.pick.Pick.{Pick}
 use Rattle.babel_net.specs.declared.machine.step.Step.TheVariants.{Announce}
-use Rattle.babel_net.specs.Machine.{NodeState, node_at, with_sent, HasPicked, MaySend, PassesOn, Run, beginning}
+use Rattle.babel_net.specs.Machine.{NodeState, node_at, with_sent, MaySend, PassesOn, Run, beginning}
 use Rattle.babel_net.specs.Owners.{AreApart}
 use Rattle.babel_net.specs.Worlds.{World, SentDatagram, speaker_at, updates_of}
 use Rattle.babel_net.specs.Happenings.{Emits}
-use Rattle.babel_net.specs.Views.{NetSource, IsSource, IsCounted, lifted, sent_by, pick_of, node_view, view}
+use Rattle.babel_net.specs.Views.{NetSource, IsSource, IsCounted, lifted, sent_by, pick_of, view}
 use Rattle.babel_net.specs.Invariants.{WasSent, Holds, HoldsFor, Bounds}
 use Rattle.babel_net.proofs.Membership.{Contains-from_filter, All-from_Contains}
 use Rattle.babel_net.proofs.MachineSound.{IsSound-run, counted_to_send}
 use Rattle.babel_net.proofs.Circular.{IsReached, lift_back}
 use Rattle.babel_net.proofs.SourceEntries.{lowered_by_all}
-use Rattle.babel_net.proofs.Speakers.{each_speaker, speaker_now, speaker_other, node_at-view, length-view, written-view}
+use Rattle.babel_net.proofs.Speakers.{each_speaker, speaker_now, speaker_other, length-view, picture_node, picture, node_at-picture, length-picture, written-picture}
 use Rattle.babel_net.proofs.ViewRuns.{announce_run}
 use Rattle.babel_net.proofs.Picking.{of_source, pick_of-route}
-use Rattle.babel_net.proofs.MovedRuns.{MovedRun, state_same, start_word}
+use Rattle.babel_net.proofs.MovedRuns.{MovedRun, start_word}
 use Rattle.babel_net.proofs.Emitting.{datagram_of, emitted, updates-own, updates-other, route_sent, known_now}
 
 -- the datagram's updates for the source
@@ -56,38 +57,31 @@ own_may configs node old s u apart holds for_s source counted router is = inl (o
     pair : lifted s u.distance ≡ beginning (speaker_at old s.owner).raises
     pair = ap (lifted s) is.2 ∙ ap beginning number
 
-route_may : (configs : List Config) (node : ℕ) (old : World) (s : NetSource) (u : UpdateValue) → node < length old.speakers → Holds configs old → s.prefix ≡ u.prefix → s.router ≡ u.router → IsRouteUpdate (speaker_at old node) u → MaySend (view configs s old) node (lifted s u.distance)
-route_may configs node old s u inside holds prefix router is = inr passes
+-- a selected route is passed on under its metric, whatever pick it is
+pub route_passes : (pick : Option Selected → Option Pick) (s : NetSource) (raises node : ℕ) (old : World) (u : UpdateValue) → node < length old.speakers → IsSelecting (speaker_at old node) → s.prefix ≡ u.prefix → (is : IsRouteUpdate (speaker_at old node) u) → (k : Pick) → pick (Some is.0) ≡ Some k → k.pair ≡ lifted s is.0.distance → PassesOn (picture pick s raises old) node (lifted s u.distance)
+route_passes pick s raises node old u inside selecting prefix is k picked pair = record {
+  pick = k;
+  picked = ap (λ (n : NodeState). n.pick) (node_at-picture pick s raises old node inside) ∙ ap pick selected ∙ picked;
+  same_count = ap (λ (d : Distance). lift s.start d.seqno) is.3 ∙ sym (ap (λ (p : Pair). p.raises) pair);
+  greater = omega (arith, above.0, metric, ap (λ (p : Pair). p.metric) pair);
+  finite = omega (arith, above.1, metric);
+}
   where
     selected : (speaker_at old node).selected_at s.prefix ≡ Some is.0
     selected = ap (λ p. (speaker_at old node).selected_at p) prefix ∙ is.1
 
-    was : WasSent configs old.sent s.prefix is.0.peer (heard_of is.0)
-    was = route_sent configs node old holds s.prefix is.0 selected
-
-    pick : Pick
-    pick = record { from = was.node; pair = lifted s is.0.distance }
-
-    picked : HasPicked (view configs s old) node pick
-    picked =
-        ap (λ (n : NodeState). n.pick) (node_at-view configs s old node inside)
-        ∙ ap (pick_of configs s) selected
-        ∙ pick_of-route configs s is.0 was.node (sym is.2 ∙ sym router) was.neighbour
-
     above : (is.0.distance.metric < is.0.metric) × (is.0.metric < 65535)
-    above = (holds.selecting node).above s.prefix is.0 selected
+    above = selecting.above s.prefix is.0 selected
 
     metric : u.distance.metric ≡ is.0.metric
     metric = ap (λ (d : Distance). d.metric) is.3
 
-    passes : PassesOn (view configs s old) node (lifted s u.distance)
-    passes = record {
-      pick = pick;
-      picked = picked;
-      same_count = ap (λ (d : Distance). lift s.start d.seqno) is.3;
-      greater = omega (arith, above.0, metric);
-      finite = omega (arith, above.1, metric);
-    }
+route_may : (configs : List Config) (node : ℕ) (old : World) (s : NetSource) (u : UpdateValue) → node < length old.speakers → Holds configs old → s.prefix ≡ u.prefix → s.router ≡ u.router → IsRouteUpdate (speaker_at old node) u → MaySend (view configs s old) node (lifted s u.distance)
+route_may configs node old s u inside holds prefix router is =
+    inr (route_passes (pick_of configs s) s (speaker_at old s.owner).raises node old u inside (holds.selecting node) prefix is (record { from = was.node; pair = lifted s is.0.distance }) (pick_of-route configs s is.0 was.node (sym is.2 ∙ sym router) was.neighbour) refl)
+  where
+    was : WasSent configs old.sent s.prefix is.0.peer (heard_of is.0)
+    was = route_sent configs node old holds s.prefix is.0 (ap (λ p. (speaker_at old node).selected_at p) prefix ∙ is.1)
 
 may_send : (configs : List Config) (node : ℕ) (old new : World) (e : Emits node old new) (s : NetSource) → AreApart configs → Holds configs old → HoldsFor configs s old → IsSource configs s → IsCounted s old → (u : UpdateValue) → Contains (updates_for s e.updates) u → MaySend (view configs s old) node (lifted s u.distance)
 may_send configs node old new e s apart holds for_s source counted u there =
@@ -122,40 +116,64 @@ raises-kept : (node : ℕ) (old new : World) (e : Emits node old new) (b : ℕ) 
 raises-kept node old new e =
     each_speaker (λ b x. x.raises ≡ (speaker_at old b).raises) old node e.speaker e.inside e.sends.raises (λ b _. refl)
 
-seqno-kept : (node : ℕ) (old new : World) (e : Emits node old new) (b : ℕ) → (speaker_at (emitted node old new e) b).seqno ≡ (speaker_at old b).seqno
+pub seqno-kept : (node : ℕ) (old new : World) (e : Emits node old new) (b : ℕ) → (speaker_at (emitted node old new e) b).seqno ≡ (speaker_at old b).seqno
 seqno-kept node old new e =
     each_speaker (λ b x. x.seqno ≡ (speaker_at old b).seqno) old node e.speaker e.inside e.sends.seqno (λ b _. refl)
 
-selected-kept : (node : ℕ) (old new : World) (e : Emits node old new) (prefix : PrefixValue) (b : ℕ) → (speaker_at (emitted node old new e) b).selected_at prefix ≡ (speaker_at old b).selected_at prefix
+pub selected-kept : (node : ℕ) (old new : World) (e : Emits node old new) (prefix : PrefixValue) (b : ℕ) → (speaker_at (emitted node old new e) b).selected_at prefix ≡ (speaker_at old b).selected_at prefix
 selected-kept node old new e prefix =
     each_speaker (λ b x. x.selected_at prefix ≡ (speaker_at old b).selected_at prefix) old node e.speaker e.inside (e.sends.selected prefix) (λ b _. refl)
 
 pub node_same : (m n : NodeState) → m.sent ≡ n.sent → m.pick ≡ n.pick → m ≡ n
 node_same m n sent pick = ap (λ xs. record m { sent = xs }) sent ∙ ap (λ k. record m { sent = n.sent; pick = k }) pick
 
-view_emitted : (configs : List Config) (node : ℕ) (old new : World) (e : Emits node old new) (s : NetSource) → with_sent (view configs s old) node ((node_at (view configs s old) node).sent ++ pairs_for s e.updates) ≡ view configs s (emitted node old new e)
-view_emitted configs node old new e s =
-    state_same (with_sent (view configs s old) node ((node_at (view configs s old) node).sent ++ pairs_for s e.updates)) (view configs s (emitted node old new e)) refl (sym (raises-kept node old new e s.owner)) (written-view configs s (emitted node old new e) (view configs s old) node now (rw (length-view configs s old) e.inside) size here others)
+pub picture_emitted : (pick : Option Selected → Option Pick) (s : NetSource) (raises node : ℕ) (old new : World) (e : Emits node old new) → with_sent (picture pick s raises old) node ((node_at (picture pick s raises old) node).sent ++ pairs_for s e.updates) ≡ picture pick s raises (emitted node old new e)
+picture_emitted pick s raises node old new e =
+    ap (λ nodes. record (picture pick s raises old) { nodes = nodes }) (written-picture pick s (emitted node old new e) (picture pick s raises old) node now (rw (length-picture pick s raises old) e.inside) size here others)
   where
     d : SentDatagram
     d = datagram_of node old new e
 
     now : NodeState
-    now = record (node_at (view configs s old) node) { sent = (node_at (view configs s old) node).sent ++ pairs_for s e.updates }
+    now = record (node_at (picture pick s raises old) node) { sent = (node_at (picture pick s raises old) node).sent ++ pairs_for s e.updates }
 
-    size : length (view configs s old).nodes ≡ length (emitted node old new e).speakers
-    size = length-view configs s old ∙ sym (length-set old.speakers node e.speaker)
+    size : length (picture pick s raises old).nodes ≡ length (emitted node old new e).speakers
+    size = length-picture pick s raises old ∙ sym (length-set old.speakers node e.speaker)
 
-    here : now ≡ node_view configs s (emitted node old new e) node
+    here : now ≡ picture_node pick s (emitted node old new e) node
     here =
-        node_same now (node_view configs s (emitted node old new e) node) (ap (λ (n : NodeState). n.sent ++ pairs_for s e.updates) (node_at-view configs s old node e.inside) ∙ sym (sent-own s node old.sent d refl)) (ap (λ (n : NodeState). n.pick) (node_at-view configs s old node e.inside) ∙ ap (pick_of configs s) (sym (selected-kept node old new e s.prefix node)))
+        node_same now (picture_node pick s (emitted node old new e) node) (ap (λ (n : NodeState). n.sent ++ pairs_for s e.updates) (node_at-picture pick s raises old node e.inside) ∙ sym (sent-own s node old.sent d refl)) (ap (λ (n : NodeState). n.pick) (node_at-picture pick s raises old node e.inside) ∙ ap pick (sym (selected-kept node old new e s.prefix node)))
 
-    others : (b : ℕ) → b < length (emitted node old new e).speakers → b ≢ node → node_at (view configs s old) b ≡ node_view configs s (emitted node old new e) b
+    others : (b : ℕ) → b < length (emitted node old new e).speakers → b ≢ node → node_at (picture pick s raises old) b ≡ picture_node pick s (emitted node old new e) b
     others b within other =
-        node_at-view configs s old b (omega (arith, within, length-set old.speakers node e.speaker))
-        ∙ node_same (node_view configs s old b) (node_view configs s (emitted node old new e) b) (sym (sent-other s b old.sent d (λ is. other (sym is)))) (ap (pick_of configs s) (sym (selected-kept node old new e s.prefix b)))
+        node_at-picture pick s raises old b (omega (arith, within, length-set old.speakers node e.speaker))
+        ∙ node_same (picture_node pick s old b) (picture_node pick s (emitted node old new e) b) (sym (sent-other s b old.sent d (λ is. other (sym is)))) (ap pick (sym (selected-kept node old new e s.prefix b)))
+
+view_emitted : (configs : List Config) (node : ℕ) (old new : World) (e : Emits node old new) (s : NetSource) → with_sent (view configs s old) node ((node_at (view configs s old) node).sent ++ pairs_for s e.updates) ≡ view configs s (emitted node old new e)
+view_emitted configs node old new e s =
+    picture_emitted (pick_of configs s) s (speaker_at old s.owner).raises node old new e
+    ∙ ap (λ raises. picture (pick_of configs s) s raises (emitted node old new e)) (sym (raises-kept node old new e s.owner))
 
 -- ---- what holds for the source after it
+
+-- source entries bound what was sent, after it too
+pub bounds_emitted : (node : ℕ) (old new : World) (e : Emits node old new) (s : NetSource) (raises : ℕ) → s.start < 65536 → raises ≤ 32767 → All (λ (u : UpdateValue). IsReached s raises u.distance) (updates_for s e.updates) → ((b : ℕ) → Bounds s raises ((speaker_at old b).source_at s.prefix s.router) (sent_by s old.sent b)) → (b : ℕ) → Bounds s raises ((speaker_at (emitted node old new e) b).source_at s.prefix s.router) (sent_by s (old.sent ++ datagram_of node old new e ∷ []) b)
+bounds_emitted node old new e s raises start counted reached bounds b = by b (cases_eq b node)
+  where
+    d : SentDatagram
+    d = datagram_of node old new e
+
+    own_bounds : Bounds s raises ((speaker_at (emitted node old new e) node).source_at s.prefix s.router) (sent_by s (old.sent ++ d ∷ []) node)
+    own_bounds =
+        subst (Bounds s raises ((speaker_at (emitted node old new e) node).source_at s.prefix s.router)) (sym (sent-own s node old.sent d refl)) (subst (λ (x : Seen). Bounds s raises (x.source_at s.prefix s.router) (sent_by s old.sent node ++ pairs_for s e.updates)) (sym (speaker_now old node e.speaker e.inside)) (subst (λ o. Bounds s raises o (sent_by s old.sent node ++ pairs_for s e.updates)) (sym (e.sends.sources s.prefix s.router)) (lowered_by_all s raises (updates_for s e.updates) ((speaker_at old node).source_at s.prefix s.router) (sent_by s old.sent node) start counted reached (bounds node))))
+
+    other_bounds : (b : ℕ) → b ≢ node → Bounds s raises ((speaker_at (emitted node old new e) b).source_at s.prefix s.router) (sent_by s (old.sent ++ d ∷ []) b)
+    other_bounds b other =
+        subst (Bounds s raises ((speaker_at (emitted node old new e) b).source_at s.prefix s.router)) (sym (sent-other s b old.sent d (λ is. other (sym is)))) (subst (λ (x : Seen). Bounds s raises (x.source_at s.prefix s.router) (sent_by s old.sent b)) (sym (speaker_other old node e.speaker b other)) (bounds b))
+
+    by : (b : ℕ) → ((b ≡ node) ⊎ (b ≢ node)) → Bounds s raises ((speaker_at (emitted node old new e) b).source_at s.prefix s.router) (sent_by s (old.sent ++ d ∷ []) b)
+    by b (inl is) = subst (λ c. Bounds s raises ((speaker_at (emitted node old new e) c).source_at s.prefix s.router) (sent_by s (old.sent ++ d ∷ []) c)) (sym is) own_bounds
+    by b (inr other) = other_bounds b other
 
 pub emitted_run : (configs : List Config) (node : ℕ) (old new : World) (e : Emits node old new) (s : NetSource) → AreApart configs → Holds configs old → IsSource configs s → (IsCounted s old → HoldsFor configs s old) → IsCounted s (emitted node old new e) → MovedRun configs s old (emitted node old new e)
 emitted_run configs node old new e s apart holds source was counted = record {
@@ -184,21 +202,6 @@ emitted_run configs node old new e s apart holds source was counted = record {
       reached = counted_to_send (view configs s old) for_s.sound node (lifted s u.distance) (may_send configs node old new e s apart holds for_s source before u there);
     })
 
-    d : SentDatagram
-    d = datagram_of node old new e
-
-    own_bounds : Bounds s (speaker_at old s.owner).raises ((speaker_at (emitted node old new e) node).source_at s.prefix s.router) (sent_by s (old.sent ++ d ∷ []) node)
-    own_bounds =
-        subst (Bounds s (speaker_at old s.owner).raises ((speaker_at (emitted node old new e) node).source_at s.prefix s.router)) (sym (sent-own s node old.sent d refl)) (subst (λ (x : Seen). Bounds s (speaker_at old s.owner).raises (x.source_at s.prefix s.router) (sent_by s old.sent node ++ pairs_for s e.updates)) (sym (speaker_now old node e.speaker e.inside)) (subst (λ o. Bounds s (speaker_at old s.owner).raises o (sent_by s old.sent node ++ pairs_for s e.updates)) (sym (e.sends.sources s.prefix s.router)) (lowered_by_all s (speaker_at old s.owner).raises (updates_for s e.updates) ((speaker_at old node).source_at s.prefix s.router) (sent_by s old.sent node) (start_word configs s apart source) before reached (for_s.bounds node))))
-
-    other_bounds : (b : ℕ) → b ≢ node → Bounds s (speaker_at old s.owner).raises ((speaker_at (emitted node old new e) b).source_at s.prefix s.router) (sent_by s (old.sent ++ d ∷ []) b)
-    other_bounds b other =
-        subst (Bounds s (speaker_at old s.owner).raises ((speaker_at (emitted node old new e) b).source_at s.prefix s.router)) (sym (sent-other s b old.sent d (λ is. other (sym is)))) (subst (λ (x : Seen). Bounds s (speaker_at old s.owner).raises (x.source_at s.prefix s.router) (sent_by s old.sent b)) (sym (speaker_other old node e.speaker b other)) (for_s.bounds b))
-
-    bounds : (b : ℕ) → Bounds s (speaker_at (emitted node old new e) s.owner).raises ((speaker_at (emitted node old new e) b).source_at s.prefix s.router) (sent_by s (old.sent ++ d ∷ []) b)
+    bounds : (b : ℕ) → Bounds s (speaker_at (emitted node old new e) s.owner).raises ((speaker_at (emitted node old new e) b).source_at s.prefix s.router) (sent_by s (old.sent ++ datagram_of node old new e ∷ []) b)
     bounds b =
-        subst (λ n. Bounds s n ((speaker_at (emitted node old new e) b).source_at s.prefix s.router) (sent_by s (old.sent ++ d ∷ []) b)) (sym (raises-kept node old new e s.owner)) (by b (cases_eq b node))
-      where
-        by : (b : ℕ) → ((b ≡ node) ⊎ (b ≢ node)) → Bounds s (speaker_at old s.owner).raises ((speaker_at (emitted node old new e) b).source_at s.prefix s.router) (sent_by s (old.sent ++ d ∷ []) b)
-        by b (inl is) = subst (λ c. Bounds s (speaker_at old s.owner).raises ((speaker_at (emitted node old new e) c).source_at s.prefix s.router) (sent_by s (old.sent ++ d ∷ []) c)) (sym is) own_bounds
-        by b (inr other) = other_bounds b other
+        subst (λ n. Bounds s n ((speaker_at (emitted node old new e) b).source_at s.prefix s.router) (sent_by s (old.sent ++ datagram_of node old new e ∷ []) b)) (sym (raises-kept node old new e s.owner)) (bounds_emitted node old new e s (speaker_at old s.owner).raises (start_word configs s apart source) before reached for_s.bounds b)

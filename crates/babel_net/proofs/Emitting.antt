@@ -16,7 +16,7 @@ use Rattle.babel_state.specs.Seen.{UpdateValue, HeardValue, IsSelecting, Adverti
 use Rattle.babel_net.specs.Owners.{owner_of, Lists}
 use Rattle.babel_net.specs.Worlds.{World, SentDatagram, speaker_at, with_speaker, with_datagram, updates_if, updates_of}
 use Rattle.babel_net.specs.Happenings.{Emits}
-use Rattle.babel_net.specs.Invariants.{WasSent, IsKnown, IsOrigin, Holds, update_heard}
+use Rattle.babel_net.specs.Invariants.{WasSent, IsKnown, IsOrigin, HoldsWith, Holds, update_heard}
 use Rattle.babel_net.proofs.Speakers.{each_speaker}
 
 abbrev pub datagram_of : (node : ℕ) (old new : World) → Emits node old new → SentDatagram
@@ -52,17 +52,25 @@ updates-kept b sent d u h = subst (λ us. Contains us u) (sym (updates-more b se
 
 -- ---- what is known of an update that is sent
 
--- a selected route is what a node sent
-pub route_sent : (configs : List Config) (node : ℕ) (old : World) → Holds configs old → (prefix : PrefixValue) (c : Selected) → (speaker_at old node).selected_at prefix ≡ Some c → WasSent configs old.sent prefix c.peer (heard_of c)
-route_sent configs node old holds prefix c is =
+-- a selected route is what was heard
+pub route_heard : (is_heard : PrefixValue → Peer → HeardValue → Type 0) (is_known : ℕ → UpdateValue → Type 0) (configs : List Config) (node : ℕ) (old : World) → HoldsWith is_heard is_known configs old → (prefix : PrefixValue) (c : Selected) → (speaker_at old node).selected_at prefix ≡ Some c → is_heard prefix c.peer (heard_of c)
+route_heard is_heard is_known configs node old holds prefix c is =
     holds.heard node prefix c.peer (heard_of c) ((holds.selecting node).entry prefix c is)
+
+pub route_sent : (configs : List Config) (node : ℕ) (old : World) → Holds configs old → (prefix : PrefixValue) (c : Selected) → (speaker_at old node).selected_at prefix ≡ Some c → WasSent configs old.sent prefix c.peer (heard_of c)
+route_sent configs node old holds prefix c is = route_heard (WasSent configs old.sent) (IsKnown configs) configs node old holds prefix c is
+
+-- its next hop is the node's own address
+pub own_hop : (is_heard : PrefixValue → Peer → HeardValue → Type 0) (is_known : ℕ → UpdateValue → Type 0) (configs : List Config) (node : ℕ) (old new : World) (e : Emits node old new) → HoldsWith is_heard is_known configs old → (u : UpdateValue) → Contains e.updates u → owner_of configs u.next_hop ≡ Some node
+own_hop is_heard is_known configs node old new e holds u there =
+    holds.addresses node e.iface (family_of u.prefix.addr) u.next_hop (All-contains (NamesOwnAddress (speaker_at old node) e.iface) e.updates u e.sends.next_hops there)
 
 pub known_now : (configs : List Config) (node : ℕ) (old new : World) (e : Emits node old new) → Holds configs old → (u : UpdateValue) → Contains e.updates u → IsKnown configs node u
 known_now configs node old new e holds u there =
     by (All-contains (Advertises (speaker_at old node)) e.updates u e.sends.advertised there)
   where
     hop : owner_of configs u.next_hop ≡ Some node
-    hop = holds.addresses node e.iface (family_of u.prefix.addr) u.next_hop (All-contains (NamesOwnAddress (speaker_at old node) e.iface) e.updates u e.sends.next_hops there)
+    hop = own_hop (WasSent configs old.sent) (IsKnown configs) configs node old new e holds u there
 
     own : IsOwnUpdate (speaker_at old node) u → IsKnown configs node u
     own is =
@@ -89,7 +97,7 @@ known_now configs node old new e holds u there =
 
 -- ---- what holds after it
 
-was_sent_kept : (configs : List Config) (sent : List SentDatagram) (d : SentDatagram) (prefix : PrefixValue) (peer : Peer) (h : HeardValue) → WasSent configs sent prefix peer h → WasSent configs (sent ++ d ∷ []) prefix peer h
+pub was_sent_kept : (configs : List Config) (sent : List SentDatagram) (d : SentDatagram) (prefix : PrefixValue) (peer : Peer) (h : HeardValue) → WasSent configs sent prefix peer h → WasSent configs (sent ++ d ∷ []) prefix peer h
 was_sent_kept configs sent d prefix peer h was = record {
   node = was.node;
   neighbour = was.neighbour;
@@ -97,8 +105,8 @@ was_sent_kept configs sent d prefix peer h was = record {
   recorded = updates-kept was.node sent d (update_heard prefix h) was.recorded;
 }
 
-pub Holds-emitted : (configs : List Config) (node : ℕ) (old new : World) (e : Emits node old new) → Holds configs old → Holds configs (emitted node old new e)
-Holds-emitted configs node old new e holds = record {
+pub Holds-emitted : (is_heard now_heard : PrefixValue → Peer → HeardValue → Type 0) (is_known : ℕ → UpdateValue → Type 0) (configs : List Config) (node : ℕ) (old new : World) (e : Emits node old new) → HoldsWith is_heard is_known configs old → ((prefix : PrefixValue) (peer : Peer) (h : HeardValue) → is_heard prefix peer h → now_heard prefix peer h) → ((u : UpdateValue) → Contains e.updates u → is_known node u) → HoldsWith now_heard is_known configs (emitted node old new e)
+Holds-emitted is_heard now_heard is_known configs node old new e holds kept now_known = record {
   size = rw length-set holds.size;
   router = each_speaker (λ b x. (c : Config) → slice_get configs b ≡ Some c → x.router ≡ c.router_id) old node e.speaker e.inside (λ c is. e.sends.router ∙ holds.router node c is) (λ b _. holds.router b);
   collects = each_speaker (λ b x. x.collects ≡ false) old node e.speaker e.inside (e.sends.collects ∙ holds.collects node) (λ b _. holds.collects b);
@@ -106,12 +114,12 @@ Holds-emitted configs node old new e holds = record {
   addresses = each_speaker (λ b x. (iface : ℕ) (family : Family) (addr : Addr) → x.address_at iface family ≡ Some addr → owner_of configs addr ≡ Some b) old node e.speaker e.inside (λ iface family addr is. holds.addresses node iface family addr (sym (e.sends.addresses iface family) ∙ is)) (λ b _. holds.addresses b);
   seqno = each_speaker (λ b x. x.seqno < 65536) old node e.speaker e.inside (omega (arith, e.sends.seqno, holds.seqno node)) (λ b _. holds.seqno b);
   announces = each_speaker (λ b x. (prefix : PrefixValue) → x.announces prefix ≡ true → Lists configs b prefix) old node e.speaker e.inside (λ prefix is. holds.announces node prefix (sym (e.sends.announces prefix) ∙ is)) (λ b _. holds.announces b);
-  heard = each_speaker (λ b x. (prefix : PrefixValue) (peer : Peer) (h : HeardValue) → x.heard_at prefix peer ≡ Some h → WasSent configs (old.sent ++ datagram_of node old new e ∷ []) prefix peer h) old node e.speaker e.inside (λ prefix peer h is. was_sent_kept configs old.sent (datagram_of node old new e) prefix peer h (holds.heard node prefix peer h (sym (e.sends.entries prefix peer) ∙ is))) (λ b _ prefix peer h is. was_sent_kept configs old.sent (datagram_of node old new e) prefix peer h (holds.heard b prefix peer h is));
+  heard = each_speaker (λ b x. (prefix : PrefixValue) (peer : Peer) (h : HeardValue) → x.heard_at prefix peer ≡ Some h → now_heard prefix peer h) old node e.speaker e.inside (λ prefix peer h is. kept prefix peer h (holds.heard node prefix peer h (sym (e.sends.entries prefix peer) ∙ is))) (λ b _ prefix peer h is. kept prefix peer h (holds.heard b prefix peer h is));
   selecting = each_speaker (λ b x. IsSelecting x) old node e.speaker e.inside e.sends.selecting (λ b _. holds.selecting b);
   sources = All-append (λ (d : SentDatagram). owner_of configs d.source ≡ Some d.node) old.sent (datagram_of node old new e ∷ []) holds.sources (All-cons (λ (d : SentDatagram). owner_of configs d.source ≡ Some d.node) (datagram_of node old new e) [] (holds.transports node e.iface e.source e.is_own) (All-nil (λ (d : SentDatagram). owner_of configs d.source ≡ Some d.node)));
   updates = λ b u h. known b u (updates-cases b old.sent (datagram_of node old new e) u h);
 }
   where
-    known : (b : ℕ) (u : UpdateValue) → (Contains (updates_of b old.sent) u ⊎ ((node ≡ b) × Contains e.updates u)) → IsKnown configs b u
+    known : (b : ℕ) (u : UpdateValue) → (Contains (updates_of b old.sent) u ⊎ ((node ≡ b) × Contains e.updates u)) → is_known b u
     known b u (inl was) = holds.updates b u was
-    known b u (inr now) = subst (λ n. IsKnown configs n u) now.0 (known_now configs node old new e holds u now.1)
+    known b u (inr now) = subst (λ n. is_known n u) now.0 (now_known u now.1)

@@ -9,7 +9,7 @@ use Rattle.babel_state.specs.declared.selected.Selected.{Selected}
 use Rattle.babel_state.specs.Seen.{Seen, UpdateValue, is_of_source, heard_of}
 use Rattle.babel_net.specs.declared.events.Event.{Event}
 use Rattle.babel_net.specs.declared.machine.pick.Pick.{Pick}
-use Rattle.babel_net.specs.Machine.{NodeState}
+use Rattle.babel_net.specs.Machine.{SourceState, NodeState}
 use Rattle.babel_net.specs.Cycle.{NoCycle, LeadsThrough, next_hop_of}
 use Rattle.babel_net.specs.Owners.{owner_of, Lists, AreApart}
 use Rattle.babel_net.specs.Worlds.{World, speaker_at, updates_of, IsFirst, next_hop_in, router_in, Follows, FollowsThrough, IsLoop, NoLoopNaming}
@@ -52,13 +52,18 @@ follows_pick configs w s node next h = by (cases_lt node (length w.speakers))
     by (inl inside) = next_hop_is_pick configs w s node inside h.0 ∙ h.1
     by (inr past) = absurd (none-some s.router (subst (λ (x : Seen). option_map (λ (c : Selected). c.router) (x.selected_at s.prefix) ≡ Some s.router) (speaker_past w node past) h.0))
 
-leads : (configs : List Config) (w : World) (s : NetSource) (node : ℕ) (rest : List ℕ) (end : ℕ) → FollowsThrough (Follows configs w s.prefix s.router) node rest end → LeadsThrough (view configs s w) node rest end
-leads configs w s node [] end h = follows_pick configs w s node end h
-leads configs w s node (next ∷ rest) end h = (follows_pick configs w s node next h.0, leads configs w s next rest end h.1)
+-- a list in which each follows the next is one of picks, if whoever follows has picked
+leads : (state : SourceState) (follows : ℕ → ℕ → Type 0) → ((node next : ℕ) → follows node next → next_hop_of state node ≡ Some next) → (node : ℕ) (rest : List ℕ) (end : ℕ) → FollowsThrough follows node rest end → LeadsThrough state node rest end
+leads state follows pick node [] end h = pick node end h
+leads state follows pick node (next ∷ rest) end h = (pick node next h.0, leads state follows pick next rest end h.1)
 
-pub no_loop_naming : (configs : List Config) (w : World) (s : NetSource) → NoCycle (view configs s w) → NoLoopNaming configs w s.prefix s.router
-no_loop_naming configs w s none [] loop = loop
-no_loop_naming configs w s none (node ∷ rest) loop = none (node ∷ rest) (leads configs w s node rest node loop)
+pub no_loop_of_picks : (state : SourceState) (follows : ℕ → ℕ → Type 0) → ((node next : ℕ) → follows node next → next_hop_of state node ≡ Some next) → NoCycle state → (nodes : List ℕ) → ¬ IsLoop follows nodes
+no_loop_of_picks state follows pick none [] loop = loop
+no_loop_of_picks state follows pick none (node ∷ rest) loop = none (node ∷ rest) (leads state follows pick node rest node loop)
+
+no_loop_naming : (configs : List Config) (w : World) (s : NetSource) → NoCycle (view configs s w) → NoLoopNaming configs w s.prefix s.router
+no_loop_naming configs w s none =
+    no_loop_of_picks (view configs s w) (Follows configs w s.prefix s.router) (follows_pick configs w s) none
 
 pub sound_no_loop : SoundHasNoLoop
 sound_no_loop configs w s inv source counted = no_loop_naming configs w s (no_cycle _ (inv.counted s source counted).sound)

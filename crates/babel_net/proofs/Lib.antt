@@ -1,7 +1,9 @@
 mod MachineNodes
 mod MachineAnnounced
+mod MachineRising
 mod MachineSound
 mod MachineCycle
+mod MachineAmong
 mod MachineAllowed
 mod MachineLift
 mod Membership
@@ -19,5 +21,8 @@ mod Beginning
 mod Restarting
 mod EventsKept
 mod Following
+mod ForeignRuns
+mod ForeignKept
+mod ForeignLoops
 mod Joining
 mod Accepting

@@ -1,28 +1,17 @@
 -- The first state is sound, and every step keeps it so.
-use Rattle.std.proofs.Common.{◌≡◌, ℕ, ◌+◌, ◌<◌, ◌≤◌, List, [], ◌∷◌, Option, Some, None, length, replicate, Contains, All, sym, ap, ◌∙◌, subst, inl, inr, arith}
-use Rattle.std.proofs.lemmas.List.{get_or-replicate, get_or_past, length-set, length-replicate}
-use Rattle.std.proofs.lemmas.List.Elements.{All-contains, All-set, All-map, All-weaker}
+use Rattle.std.proofs.Common.{◌≡◌, ℕ, ◌+◌, ◌<◌, ◌≤◌, List, [], ◌∷◌, Option, Some, None, length, All, sym, ap, ◌∙◌, subst, inl, inr, arith}
+use Rattle.std.proofs.lemmas.List.{length-set, length-replicate}
+use Rattle.std.proofs.lemmas.List.Elements.{All-set, All-map, All-weaker}
 use Rattle.std.proofs.lemmas.Option.{get_or_from_slice_get, same_Some, none-some, slice_get_within}
-use Rattle.std.proofs.lemmas.Bool.{cases_lt}
 use Rattle.babel_net.specs.declared.machine.pair.Pair.{Pair}
 use Rattle.babel_net.specs.declared.machine.pick.Pick.{Pick}
 use Rattle.babel_net.specs.declared.machine.step.Step.{Step}
 use Rattle.babel_net.specs.declared.machine.step.Step.TheVariants.{Raise, Announce, Choose, Drop}
-use Rattle.babel_net.specs.Machine.{SourceState, NodeState, node_at, quiet, HasSent, HasPicked, beginning, first_state, first_states, with_sent, with_pick, IsBetterPair, MaySend, MayPick, Adds, Steps, StepsAt, Run, MachineRun}
+use Rattle.babel_net.specs.Machine.{SourceState, node_at, HasSent, HasPicked, beginning, first_state, first_states, with_sent, with_pick, IsBetterPair, MaySend, MayPick, Adds, Steps, StepsAt, Run, MachineRun}
 use Rattle.babel_net.specs.Sound.{IsSound}
-use Rattle.babel_net.proofs.MachineNodes.{sent-with_pick, pick-with_sent, each_pick, sent_stays, sent_now, each_sent}
-
--- at first each node is quiet
-node_at-first_state : (nodes owner node : ℕ) → node_at (first_state nodes owner) node ≡ quiet
-node_at-first_state nodes owner node =
-    elim (cases_lt node nodes) [ inl inside ↦ get_or-replicate nodes node quiet quiet inside | inr past ↦ get_or_past (replicate nodes quiet) node quiet (rw length-replicate past) ]
-
-nothing_sent : (nodes owner node : ℕ) (pair : Pair) → HasSent (first_state nodes owner) node pair → ⊥
-nothing_sent nodes owner node pair h =
-    let sent : Contains quiet.sent pair = subst (λ (n : NodeState). Contains n.sent pair) (node_at-first_state nodes owner node) h in omega arith
-
-nothing_picked : (nodes owner node : ℕ) (k : Pick) → HasPicked (first_state nodes owner) node k → ⊥
-nothing_picked nodes owner node k h = none-some k (sym (ap (λ (n : NodeState). n.pick) (node_at-first_state nodes owner node)) ∙ h)
+use Rattle.babel_net.specs.ForeignMachine.{IsRising}
+use Rattle.babel_net.proofs.MachineNodes.{sent_stays, sent_now, each_sent}
+use Rattle.babel_net.proofs.MachineRising.{nothing_sent, nothing_picked, better_than_passed, had_sent, has_sent, IsRising-sent, IsRising-with_pick}
 
 pub IsSound-first_state : (nodes owner : ℕ) → owner < nodes → IsSound (first_state nodes owner)
 IsSound-first_state nodes owner inside = record {
@@ -48,6 +37,10 @@ IsSound-raised s sound = record {
   is_better = sound.is_better;
 }
 
+-- its picks are better than what their holders sent, and each one was sent
+pub rising_of : (s : SourceState) → IsSound s → IsRising (λ _. Unit {0}) s
+rising_of s sound = record { was_sent = λ node k h _. sound.was_sent node k h; is_better = sound.is_better }
+
 -- what a node may send has a count that the source has reached
 pub counted_to_send : (s : SourceState) → IsSound s → (a : ℕ) (pair : Pair) → MaySend s a pair → pair.raises ≤ s.raises
 counted_to_send s sound a pair (inl own) = omega (arith, ap (λ (p : Pair). p.raises) own.1)
@@ -62,37 +55,33 @@ begun_when_sent s sound a pair sent adds inside (inr passed) =
     subst (λ n. HasSent (with_sent s a sent) s.owner (beginning n)) (sym passed.same_count) (sent_stays s a pair sent adds inside s.owner _ (sound.begun passed.pick.from passed.pick.pair (sound.was_sent a passed.pick passed.picked)))
 
 -- and is worse than the node's own pick
-better_than_sent : (s : SourceState) → IsSound s → (a : ℕ) (pair : Pair) (k : Pick) → MaySend s a pair → HasPicked s a k → IsBetterPair k.pair pair
-better_than_sent s sound a pair k (inl own) picked = absurd (owner_free s sound k (subst (λ b. HasPicked s b k) own.0 picked))
-better_than_sent s sound a pair k (inr passed) picked =
-    subst (λ (j : Pick). IsBetterPair j.pair pair) (same_Some _ _ (sym passed.picked ∙ picked)) (inr (sym passed.same_count, passed.greater))
+better_than_sent : (s : SourceState) → IsSound s → (a : ℕ) (pair : Pair) → MaySend s a pair → (k : Pick) → HasPicked s a k → IsBetterPair k.pair pair
+better_than_sent s sound a pair (inl own) k picked = absurd (owner_free s sound k (subst (λ b. HasPicked s b k) own.0 picked))
+better_than_sent s sound a pair (inr passed) k picked = better_than_passed s a pair passed k picked
 
 IsSound-sent : (s : SourceState) → IsSound s → (a : ℕ) (pair : Pair) (sent : List Pair) → Adds pair (node_at s a).sent sent → a < length s.nodes → MaySend s a pair → IsSound (with_sent s a sent)
 IsSound-sent s sound a pair sent adds inside may = record {
   owner_in_range = rw length-set sound.owner_in_range;
   counted = each_sent (λ _ q. q.raises ≤ s.raises) s a pair sent adds inside sound.counted (counted_to_send s sound a pair may);
   begun = each_sent (λ _ q. HasSent (with_sent s a sent) s.owner (beginning q.raises)) s a pair sent adds inside (λ b q h. sent_stays s a pair sent adds inside s.owner _ (sound.begun b q h)) (begun_when_sent s sound a pair sent adds inside may);
-  was_sent = λ node k h. sent_stays s a pair sent adds inside k.from k.pair (sound.was_sent node k (had node k h));
-  is_better = λ node k own h is_sent. each_sent (λ b q. HasPicked s b k → IsBetterPair k.pair q) s a pair sent adds inside (λ b q h picked. sound.is_better b k q picked h) (better_than_sent s sound a pair k may) node own is_sent (had node k h);
+  was_sent = λ node k h. rising.was_sent node k h tt;
+  is_better = rising.is_better;
 }
   where
-    had : (node : ℕ) (k : Pick) → HasPicked (with_sent s a sent) node k → HasPicked s node k
-    had node k h = sym (pick-with_sent s a sent inside node) ∙ h
+    rising : IsRising (λ _. Unit {0}) (with_sent s a sent)
+    rising = IsRising-sent (λ _. Unit {0}) s (rising_of s sound) a pair sent adds inside (better_than_sent s sound a pair may)
 
 IsSound-with_pick : (s : SourceState) → IsSound s → (a : ℕ) (pick : Option Pick) → a < length s.nodes → ((k : Pick) → pick ≡ Some k → MayPick s a k.from k.pair) → IsSound (with_pick s a pick)
 IsSound-with_pick s sound a pick inside may = record {
   owner_in_range = rw length-set sound.owner_in_range;
-  counted = λ node q h. sound.counted node q (had node q h);
-  begun = λ node q h. has s.owner _ (sound.begun node q (had node q h));
-  was_sent = each_pick (λ _ k. HasSent (with_pick s a pick) k.from k.pair) s a pick inside (λ b k h. has k.from k.pair (sound.was_sent b k h)) (λ k new. has k.from k.pair (may k new).sent);
-  is_better = λ node k own h sent. each_pick (λ b j. HasSent s b own → IsBetterPair j.pair own) s a pick inside (λ b j h sent. sound.is_better b j own h sent) (λ j new sent. All-contains (λ o. IsBetterPair j.pair o) _ own (may j new).better sent) node k h (had node own sent);
+  counted = λ node q h. sound.counted node q (had_sent s a pick inside node q h);
+  begun = λ node q h. has_sent s a pick inside s.owner _ (sound.begun node q (had_sent s a pick inside node q h));
+  was_sent = λ node k h. rising.was_sent node k h tt;
+  is_better = rising.is_better;
 }
   where
-    had : (node : ℕ) (q : Pair) → HasSent (with_pick s a pick) node q → HasSent s node q
-    had node q h = subst (λ (sent : List Pair). Contains sent q) (sent-with_pick s a pick inside node) h
-
-    has : (node : ℕ) (q : Pair) → HasSent s node q → HasSent (with_pick s a pick) node q
-    has node q h = subst (λ (sent : List Pair). Contains sent q) (sym (sent-with_pick s a pick inside node)) h
+    rising : IsRising (λ _. Unit {0}) (with_pick s a pick)
+    rising = IsRising-with_pick (λ _. Unit {0}) s (rising_of s sound) a pick inside (λ k new _. (may k new).sent) (λ k new. (may k new).better)
 
 pub IsSound-step : (s t : SourceState) (step : Step) → IsSound s → Steps s step t → IsSound t
 IsSound-step s t Raise sound h = subst IsSound (sym h) (IsSound-raised s sound)

@@ -1,19 +1,18 @@
 -- A step of one speaker that sends nothing is a list of machine steps: raises, then a pick or a drop.
-use Rattle.std.proofs.Common.{◌≡◌, ◌≢◌, ◌<◌, ◌≤◌, ℕ, ◌+◌, List, [], ◌∷◌, ◌++◌, Option, Some, None, length, refl, sym, ap, ◌∙◌, subst, arith}
-use Rattle.std.proofs.lemmas.List.{length-set}
+use Rattle.std.proofs.Common.{◌≡◌, ◌<◌, ◌≤◌, ℕ, ◌+◌, List, [], ◌∷◌, ◌++◌, Option, Some, None, refl, sym, ap, ◌∙◌, subst, arith}
 use Rattle.babel_state.specs.declared.configs.Config.{Config}
 use Rattle.babel_state.specs.Seen.{Seen}
 use Rattle.babel_net.specs.declared.machine.pick.Pick.{Pick}
 use Rattle.babel_net.specs.declared.machine.step.Step.{Step}
 use Rattle.babel_net.specs.declared.machine.step.Step.TheVariants.{Choose, Drop}
-use Rattle.babel_net.specs.Machine.{SourceState, NodeState, node_at, with_pick, Steps, Run}
+use Rattle.babel_net.specs.Machine.{SourceState, with_pick, Steps, Run}
 use Rattle.babel_net.specs.Owners.{AreApart}
 use Rattle.babel_net.specs.Worlds.{World, speaker_at, with_speaker}
-use Rattle.babel_net.specs.Views.{NetSource, IsSource, IsCounted, sent_by, pick_of, node_view, view}
-use Rattle.babel_net.specs.Invariants.{Holds, HoldsFor, Bounds}
+use Rattle.babel_net.specs.Views.{NetSource, IsSource, IsCounted, sent_by, pick_of, view}
+use Rattle.babel_net.specs.Invariants.{WasSent, Holds, HoldsFor, Bounds}
 use Rattle.babel_net.proofs.MachineSound.{IsSound-run}
 use Rattle.babel_net.proofs.SourceEntries.{Bounds-raised}
-use Rattle.babel_net.proofs.Speakers.{speaker_now, speaker_other, node_at-view, length-view, written-view}
+use Rattle.babel_net.proofs.Speakers.{length-view, picture, picture_now}
 use Rattle.babel_net.proofs.ViewRuns.{raised, raise_run, Run-join}
 use Rattle.babel_net.proofs.Moving.{Moved, Grew, grew, source_kept, may_pick}
 
@@ -26,30 +25,15 @@ state_same s t owner raises nodes =
 pub start_word : (configs : List Config) (s : NetSource) → AreApart configs → IsSource configs s → s.start < 65536
 start_word configs s apart source = omega (arith, source.start, apart.seqnos s.owner source.config source.is)
 
-step_now : (configs : List Config) (node : ℕ) (old : World) (speaker : Seen) (m : Moved configs node old speaker) (s : NetSource) (j : ℕ) (pick : Option Pick) → Holds configs old → HoldsFor configs s old → s.start < 65536 → (speaker_at old s.owner).raises ≤ 32767 → pick_of configs s (speaker.selected_at s.prefix) ≡ pick → (step : Step) × Steps (raised (view configs s old) j) step (with_pick (raised (view configs s old) j) node pick)
+step_now : (configs : List Config) (node : ℕ) (old : World) (speaker : Seen) (m : Moved (WasSent configs old.sent) configs node old speaker) (s : NetSource) (j : ℕ) (pick : Option Pick) → Holds configs old → HoldsFor configs s old → s.start < 65536 → (speaker_at old s.owner).raises ≤ 32767 → pick_of configs s (speaker.selected_at s.prefix) ≡ pick → (step : Step) × Steps (raised (view configs s old) j) step (with_pick (raised (view configs s old) j) node pick)
 step_now configs node old speaker m s j None holds for_s start counted is = (Drop node, (rw (length-view configs s old) m.inside, refl))
 step_now configs node old speaker m s j (Some k) holds for_s start counted is =
     (Choose node k.from k.pair, (rw (length-view configs s old) m.inside, may_pick configs node old speaker m s j k holds for_s start counted is, refl))
 
-pub view_now : (configs : List Config) (node : ℕ) (old : World) (speaker : Seen) (m : Moved configs node old speaker) (s : NetSource) (j : ℕ) → (speaker_at (with_speaker old node speaker) s.owner).raises ≡ (speaker_at old s.owner).raises + j → with_pick (raised (view configs s old) j) node (pick_of configs s (speaker.selected_at s.prefix)) ≡ view configs s (with_speaker old node speaker)
+pub view_now : (configs : List Config) (node : ℕ) (old : World) (speaker : Seen) (m : Moved (WasSent configs old.sent) configs node old speaker) (s : NetSource) (j : ℕ) → (speaker_at (with_speaker old node speaker) s.owner).raises ≡ (speaker_at old s.owner).raises + j → with_pick (raised (view configs s old) j) node (pick_of configs s (speaker.selected_at s.prefix)) ≡ view configs s (with_speaker old node speaker)
 view_now configs node old speaker m s j raises =
-    state_same (with_pick (raised (view configs s old) j) node (pick_of configs s (speaker.selected_at s.prefix))) (view configs s (with_speaker old node speaker)) refl (sym raises) (written-view configs s (with_speaker old node speaker) (raised (view configs s old) j) node now (rw (length-view configs s old) m.inside) size here others)
-  where
-    now : NodeState
-    now = record (node_at (view configs s old) node) { pick = pick_of configs s (speaker.selected_at s.prefix) }
-
-    size : length (view configs s old).nodes ≡ length (with_speaker old node speaker).speakers
-    size = length-view configs s old ∙ sym (length-set old.speakers node speaker)
-
-    here : now ≡ node_view configs s (with_speaker old node speaker) node
-    here =
-        ap (λ (n : NodeState). record n { pick = pick_of configs s (speaker.selected_at s.prefix) }) (node_at-view configs s old node m.inside)
-        ∙ ap (λ (x : Seen). record { sent = sent_by s old.sent node; pick = pick_of configs s (x.selected_at s.prefix) }) (sym (speaker_now old node speaker m.inside))
-
-    others : (b : ℕ) → b < length (with_speaker old node speaker).speakers → b ≢ node → node_at (view configs s old) b ≡ node_view configs s (with_speaker old node speaker) b
-    others b within other =
-        node_at-view configs s old b (omega (arith, within, length-set old.speakers node speaker))
-        ∙ ap (λ (x : Seen). record { sent = sent_by s old.sent b; pick = pick_of configs s (x.selected_at s.prefix) }) (sym (speaker_other old node speaker b other))
+    picture_now (pick_of configs s) s ((speaker_at old s.owner).raises + j) node old speaker m.inside
+    ∙ ap (λ raises. picture (pick_of configs s) s raises (with_speaker old node speaker)) (sym raises)
 
 -- and keeps what holds for the source
 pub record MovedRun (configs : List Config) (s : NetSource) (old new : World) : Type 0 where
@@ -58,7 +42,7 @@ pub record MovedRun (configs : List Config) (s : NetSource) (old new : World) : 
   pub holds : HoldsFor configs s new
   pub before : IsCounted s old
 
-pub moved_run : (configs : List Config) (node : ℕ) (old : World) (speaker : Seen) (m : Moved configs node old speaker) (s : NetSource) → Holds configs old → s.start < 65536 → (IsCounted s old → HoldsFor configs s old) → IsCounted s (with_speaker old node speaker) → MovedRun configs s old (with_speaker old node speaker)
+pub moved_run : (configs : List Config) (node : ℕ) (old : World) (speaker : Seen) (m : Moved (WasSent configs old.sent) configs node old speaker) (s : NetSource) → Holds configs old → s.start < 65536 → (IsCounted s old → HoldsFor configs s old) → IsCounted s (with_speaker old node speaker) → MovedRun configs s old (with_speaker old node speaker)
 moved_run configs node old speaker m s holds start was counted =
     record {
       steps = raise.0 ++ step.0 ∷ [];
@@ -66,7 +50,7 @@ moved_run configs node old speaker m s holds start was counted =
       before = before;
       holds = record {
         own_seqno = omega (arith, g.seqno, g.raises, for_s.own_seqno);
-        bounds = λ b. subst (λ o. Bounds s (speaker_at (with_speaker old node speaker) s.owner).raises o (sent_by s old.sent b)) (sym (source_kept configs node old speaker m s.prefix s.router b)) (Bounds-raised s _ _ ((speaker_at old b).source_at s.prefix s.router) (sent_by s old.sent b) (omega (arith, g.raises)) (for_s.bounds b));
+        bounds = λ b. subst (λ o. Bounds s (speaker_at (with_speaker old node speaker) s.owner).raises o (sent_by s old.sent b)) (sym (source_kept (WasSent configs old.sent) configs node old speaker m s.prefix s.router b)) (Bounds-raised s _ _ ((speaker_at old b).source_at s.prefix s.router) (sent_by s old.sent b) (omega (arith, g.raises)) (for_s.bounds b));
         sound = IsSound-run (view configs s old) (view configs s (with_speaker old node speaker)) (raise.0 ++ step.0 ∷ []) for_s.sound run;
       };
     }

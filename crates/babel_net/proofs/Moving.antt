@@ -8,14 +8,15 @@ use Rattle.babel_value.specs.declared.keys.Peer.{Peer}
 use Rattle.babel_value.specs.Prefixes.{PrefixValue}
 use Rattle.babel_sources.specs.Distances.{is_feasible}
 use Rattle.babel_state.specs.declared.configs.Config.{Config}
-use Rattle.babel_state.specs.Seen.{Seen, HeardValue, IsSelecting, heard_of}
+use Rattle.babel_state.specs.Seen.{Seen, UpdateValue, HeardValue, IsSelecting, heard_of}
+use Rattle.babel_state.specs.declared.selected.Selected.{Selected}
 use Rattle.babel_net.specs.declared.machine.pair.Pair.{Pair}
 use Rattle.babel_net.specs.declared.machine.pick.Pick.{Pick}
 use Rattle.babel_net.specs.Machine.{NodeState, HasSent, MayPick, IsBetterPair}
 use Rattle.babel_net.specs.Owners.{owner_of, Lists}
 use Rattle.babel_net.specs.Worlds.{World, speaker_at, with_speaker}
-use Rattle.babel_net.specs.Views.{NetSource, sent_by, pick_of, view}
-use Rattle.babel_net.specs.Invariants.{WasSent, Holds, HoldsFor, update_heard}
+use Rattle.babel_net.specs.Views.{NetSource, lifted, sent_by, pick_of, view}
+use Rattle.babel_net.specs.Invariants.{WasSent, HoldsWith, Holds, HoldsFor, Bounds, update_heard}
 use Rattle.babel_net.proofs.Circular.{IsReached}
 use Rattle.babel_net.proofs.SourceEntries.{feasible_better}
 use Rattle.babel_net.proofs.Speakers.{each_speaker, node_at-view}
@@ -23,7 +24,7 @@ use Rattle.babel_net.proofs.ViewRuns.{raised}
 use Rattle.babel_net.proofs.Picking.{owner_within, sent_by-update, IsPicked, picked_from}
 
 -- a step of one speaker that sends nothing: what the network needs of it
-pub record Moved (configs : List Config) (node : ℕ) (old : World) (speaker : Seen) : Type 0 where
+pub record Moved (is_heard : PrefixValue → Peer → HeardValue → Type 0) (configs : List Config) (node : ℕ) (old : World) (speaker : Seen) : Type 0 where
   pub inside : node < length old.speakers
   pub growths : ℕ
   pub router : speaker.router ≡ (speaker_at old node).router
@@ -34,11 +35,11 @@ pub record Moved (configs : List Config) (node : ℕ) (old : World) (speaker : S
   pub raises : speaker.raises ≤ 32767 → speaker.raises ≡ (speaker_at old node).raises + growths
   pub announces : (prefix : PrefixValue) → speaker.announces prefix ≡ true → Lists configs node prefix
   pub sources : (prefix : PrefixValue) (router : List ℕ) → speaker.source_at prefix router ≡ (speaker_at old node).source_at prefix router
-  pub heard : (prefix : PrefixValue) (peer : Peer) (h : HeardValue) → speaker.heard_at prefix peer ≡ Some h → WasSent configs old.sent prefix peer h
+  pub heard : (prefix : PrefixValue) (peer : Peer) (h : HeardValue) → speaker.heard_at prefix peer ≡ Some h → is_heard prefix peer h
   pub selecting : IsSelecting speaker
 
-pub Holds-moved : (configs : List Config) (node : ℕ) (old : World) (speaker : Seen) (m : Moved configs node old speaker) → Holds configs old → Holds configs (with_speaker old node speaker)
-Holds-moved configs node old speaker m holds = record {
+pub Holds-moved : (is_heard : PrefixValue → Peer → HeardValue → Type 0) (is_known : ℕ → UpdateValue → Type 0) (configs : List Config) (node : ℕ) (old : World) (speaker : Seen) (m : Moved is_heard configs node old speaker) → HoldsWith is_heard is_known configs old → HoldsWith is_heard is_known configs (with_speaker old node speaker)
+Holds-moved is_heard is_known configs node old speaker m holds = record {
   size = rw length-set holds.size;
   router = each_speaker (λ b x. (c : Config) → slice_get configs b ≡ Some c → x.router ≡ c.router_id) old node speaker m.inside (λ c is. m.router ∙ holds.router node c is) (λ b _. holds.router b);
   collects = each_speaker (λ b x. x.collects ≡ false) old node speaker m.inside (m.collects ∙ holds.collects node) (λ b _. holds.collects b);
@@ -46,7 +47,7 @@ Holds-moved configs node old speaker m holds = record {
   addresses = each_speaker (λ b x. (iface : ℕ) (family : Family) (addr : Addr) → x.address_at iface family ≡ Some addr → owner_of configs addr ≡ Some b) old node speaker m.inside m.addresses (λ b _. holds.addresses b);
   seqno = each_speaker (λ b x. x.seqno < 65536) old node speaker m.inside (omega (arith, m.seqno)) (λ b _. holds.seqno b);
   announces = each_speaker (λ b x. (prefix : PrefixValue) → x.announces prefix ≡ true → Lists configs b prefix) old node speaker m.inside m.announces (λ b _. holds.announces b);
-  heard = each_speaker (λ b x. (prefix : PrefixValue) (peer : Peer) (h : HeardValue) → x.heard_at prefix peer ≡ Some h → WasSent configs old.sent prefix peer h) old node speaker m.inside m.heard (λ b _. holds.heard b);
+  heard = each_speaker (λ b x. (prefix : PrefixValue) (peer : Peer) (h : HeardValue) → x.heard_at prefix peer ≡ Some h → is_heard prefix peer h) old node speaker m.inside m.heard (λ b _. holds.heard b);
   selecting = each_speaker (λ b x. IsSelecting x) old node speaker m.inside m.selecting (λ b _. holds.selecting b);
   sources = holds.sources;
   updates = holds.updates;
@@ -58,19 +59,27 @@ pub record Grew (old now : Seen) : Type 0 where
   pub raises : now.raises ≡ old.raises + growths
   pub seqno : now.seqno ≡ (old.seqno + growths) % 65536
 
-pub grew : (configs : List Config) (node : ℕ) (old : World) (speaker : Seen) (m : Moved configs node old speaker) (owner : ℕ) → Holds configs old → (speaker_at (with_speaker old node speaker) owner).raises ≤ 32767 → Grew (speaker_at old owner) (speaker_at (with_speaker old node speaker) owner)
+pub grew : (configs : List Config) (node : ℕ) (old : World) (speaker : Seen) (m : Moved (WasSent configs old.sent) configs node old speaker) (owner : ℕ) → Holds configs old → (speaker_at (with_speaker old node speaker) owner).raises ≤ 32767 → Grew (speaker_at old owner) (speaker_at (with_speaker old node speaker) owner)
 grew configs node old speaker m owner holds =
     each_speaker (λ b x. x.raises ≤ 32767 → Grew (speaker_at old b) x) old node speaker m.inside here (λ b _ _. record { growths = 0; raises = omega arith; seqno = omega (arith, holds.seqno b) }) owner
   where
     here : speaker.raises ≤ 32767 → Grew (speaker_at old node) speaker
     here le = record { growths = m.growths; raises = m.raises le; seqno = m.seqno }
 
-pub source_kept : (configs : List Config) (node : ℕ) (old : World) (speaker : Seen) (m : Moved configs node old speaker) → (prefix : PrefixValue) (router : List ℕ) (b : ℕ) → (speaker_at (with_speaker old node speaker) b).source_at prefix router ≡ (speaker_at old b).source_at prefix router
-source_kept configs node old speaker m prefix router =
+pub source_kept : (is_heard : PrefixValue → Peer → HeardValue → Type 0) (configs : List Config) (node : ℕ) (old : World) (speaker : Seen) (m : Moved is_heard configs node old speaker) → (prefix : PrefixValue) (router : List ℕ) (b : ℕ) → (speaker_at (with_speaker old node speaker) b).source_at prefix router ≡ (speaker_at old b).source_at prefix router
+source_kept is_heard configs node old speaker m prefix router =
     each_speaker (λ b x. x.source_at prefix router ≡ (speaker_at old b).source_at prefix router) old node speaker m.inside (m.sources prefix router) (λ b _. refl)
 
+-- the node's selected route is better than all that the node sent for its source
+pub better_than_all : (is_heard : PrefixValue → Peer → HeardValue → Type 0) (configs : List Config) (node : ℕ) (old : World) (speaker : Seen) (m : Moved is_heard configs node old speaker) (s : NetSource) (raises : ℕ) (c : Selected) → s.start < 65536 → raises ≤ 32767 → speaker.selected_at s.prefix ≡ Some c → c.router ≡ s.router → IsReached s raises c.distance → Bounds s raises ((speaker_at old node).source_at s.prefix s.router) (sent_by s old.sent node) → All (λ own. IsBetterPair (lifted s c.distance) own) (sent_by s old.sent node)
+better_than_all is_heard configs node old speaker m s raises c start counted is router reached bounds =
+    feasible_better s raises ((speaker_at old node).source_at s.prefix s.router) (sent_by s old.sent node) c.distance start counted reached (omega (arith, above.0, above.1)) (subst (λ o. is_feasible o c.distance ≡ true) (m.sources s.prefix s.router) (subst (λ r. is_feasible (speaker.source_at s.prefix r) c.distance ≡ true) router (m.selecting.feasible s.prefix c is))) bounds
+  where
+    above : (c.distance.metric < c.metric) × (c.metric < 65535)
+    above = m.selecting.above s.prefix c is
+
 -- the node's selected route may be picked
-pub may_pick : (configs : List Config) (node : ℕ) (old : World) (speaker : Seen) (m : Moved configs node old speaker) (s : NetSource) (j : ℕ) (k : Pick) → Holds configs old → HoldsFor configs s old → s.start < 65536 → (speaker_at old s.owner).raises ≤ 32767 → pick_of configs s (speaker.selected_at s.prefix) ≡ Some k → MayPick (raised (view configs s old) j) node k.from k.pair
+pub may_pick : (configs : List Config) (node : ℕ) (old : World) (speaker : Seen) (m : Moved (WasSent configs old.sent) configs node old speaker) (s : NetSource) (j : ℕ) (k : Pick) → Holds configs old → HoldsFor configs s old → s.start < 65536 → (speaker_at old s.owner).raises ≤ 32767 → pick_of configs s (speaker.selected_at s.prefix) ≡ Some k → MayPick (raised (view configs s old) j) node k.from k.pair
 may_pick configs node old speaker m s j k holds for_s start counted is = record {
   sent = sent;
   better = subst (λ (n : NodeState). All (λ own. IsBetterPair k.pair own) n.sent) (sym (node_at-view configs s old node m.inside)) better;
@@ -100,8 +109,5 @@ may_pick configs node old speaker m s j k holds for_s start counted is = record 
       reached = subst (λ (q : Pair). q.raises ≤ (speaker_at old s.owner).raises) (sym p.pair) (for_s.sound.counted k.from k.pair sent);
     }
 
-    above : (p.route.distance.metric < p.route.metric) × (p.route.metric < 65535)
-    above = m.selecting.above s.prefix p.route p.is
-
     better : All (λ own. IsBetterPair k.pair own) (sent_by s old.sent node)
-    better = subst (λ (q : Pair). All (λ own. IsBetterPair q own) (sent_by s old.sent node)) p.pair (feasible_better s (speaker_at old s.owner).raises ((speaker_at old node).source_at s.prefix s.router) (sent_by s old.sent node) p.route.distance start counted reached (omega (arith, above.0, above.1)) (subst (λ o. is_feasible o p.route.distance ≡ true) (m.sources s.prefix s.router) (subst (λ r. is_feasible (speaker.source_at s.prefix r) p.route.distance ≡ true) p.router (m.selecting.feasible s.prefix p.route p.is))) (for_s.bounds node))
+    better = subst (λ (q : Pair). All (λ own. IsBetterPair q own) (sent_by s old.sent node)) p.pair (better_than_all (WasSent configs old.sent) configs node old speaker m s (speaker_at old s.owner).raises p.route start counted p.is p.router reached (for_s.bounds node))

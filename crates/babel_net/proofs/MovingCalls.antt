@@ -6,7 +6,7 @@ use Rattle.babel_state.specs.declared.configs.Config.{Config}
 use Rattle.babel_state.specs.Seen.{Seen, UpdateValue, HeardValue, Moves, IsHeardFrom}
 use Rattle.babel_net.specs.Owners.{owner_of, Lists}
 use Rattle.babel_net.specs.Worlds.{World, speaker_at, updates_of}
-use Rattle.babel_net.specs.Invariants.{WasSent, Holds, update_heard}
+use Rattle.babel_net.specs.Invariants.{WasSent, HoldsWith, update_heard}
 use Rattle.babel_net.proofs.Moving.{Moved}
 
 -- each update was sent by the node that owns the peer's address
@@ -18,19 +18,19 @@ AreSentBy configs old peer updates =
 abbrev pub AreListed : List Config → ℕ → World → (PrefixValue → Bool) → Type 0
 AreListed configs node old announced = (p : PrefixValue) → announced p ≡ true → ((speaker_at old node).announces p ≡ true) ⊎ Lists configs node p
 
--- a route that is new was heard from a node that sent it
-heard_from : (configs : List Config) (old : World) (peer : Peer) (updates : List UpdateValue) → Holds configs old → AreSentBy configs old peer updates → (prefix : PrefixValue) (from : Peer) (h : HeardValue) → IsHeardFrom peer updates prefix from h → WasSent configs old.sent prefix from h
-heard_from configs old peer updates holds known prefix from h is =
+-- a route that is new was heard from a node that sent it, with an own address as its next hop
+pub heard_from : (is_heard : PrefixValue → Peer → HeardValue → Type 0) (is_known : ℕ → UpdateValue → Type 0) (configs : List Config) (old : World) (peer : Peer) (updates : List UpdateValue) → HoldsWith is_heard is_known configs old → ((node : ℕ) (u : UpdateValue) → is_known node u → owner_of configs u.next_hop ≡ Some node) → AreSentBy configs old peer updates → (prefix : PrefixValue) (from : Peer) (h : HeardValue) → IsHeardFrom peer updates prefix from h → WasSent configs old.sent prefix from h
+heard_from is_heard is_known configs old peer updates holds own known prefix from h is =
     let sent = known (update_heard prefix h) is.1 in
     record {
       node = sent.0;
       neighbour = ap (λ (p : Peer). owner_of configs p.addr) is.0 ∙ sent.1;
-      next_hop = (holds.updates sent.0 (update_heard prefix h) sent.2).next_hop;
+      next_hop = own sent.0 (update_heard prefix h) (holds.updates sent.0 (update_heard prefix h) sent.2);
       recorded = sent.2;
     }
 
-pub moved_by_call : (configs : List Config) (node : ℕ) (old : World) (peer : Peer) (updates : List UpdateValue) (growths : ℕ) (announced : PrefixValue → Bool) (speaker : Seen) → Holds configs old → node < length old.speakers → Moves peer updates growths announced (speaker_at old node) speaker → AreSentBy configs old peer updates → AreListed configs node old announced → Moved configs node old speaker
-moved_by_call configs node old peer updates growths announced speaker holds inside moves known listed = record {
+pub moved_by_call : (is_heard : PrefixValue → Peer → HeardValue → Type 0) (is_known : ℕ → UpdateValue → Type 0) (configs : List Config) (node : ℕ) (old : World) (peer : Peer) (updates : List UpdateValue) (growths : ℕ) (announced : PrefixValue → Bool) (speaker : Seen) → HoldsWith is_heard is_known configs old → node < length old.speakers → Moves peer updates growths announced (speaker_at old node) speaker → ((prefix : PrefixValue) (from : Peer) (h : HeardValue) → IsHeardFrom peer updates prefix from h → is_heard prefix from h) → AreListed configs node old announced → Moved is_heard configs node old speaker
+moved_by_call is_heard is_known configs node old peer updates growths announced speaker holds inside moves known listed = record {
   inside = inside;
   growths = growths;
   router = moves.router;
@@ -52,6 +52,6 @@ moved_by_call configs node old peer updates growths announced speaker holds insi
     on prefix (inl was) = holds.announces node prefix was
     on prefix (inr lists) = lists
 
-    heard : (prefix : PrefixValue) (from : Peer) (h : HeardValue) → (((speaker_at old node).heard_at prefix from ≡ Some h) ⊎ IsHeardFrom peer updates prefix from h) → WasSent configs old.sent prefix from h
+    heard : (prefix : PrefixValue) (from : Peer) (h : HeardValue) → (((speaker_at old node).heard_at prefix from ≡ Some h) ⊎ IsHeardFrom peer updates prefix from h) → is_heard prefix from h
     heard prefix from h (inl was) = holds.heard node prefix from h was
-    heard prefix from h (inr new) = heard_from configs old peer updates holds known prefix from h new
+    heard prefix from h (inr new) = known prefix from h new

@@ -1,10 +1,13 @@
 -- A restart: a step of one speaker that drops its picks, and nothing else.
 use Rattle.std.proofs.Common.{◌≡◌, ◌<◌, ℕ, ◌+◌, ◌%◌, List, None, refl, sym, ap, ◌∙◌, arith}
 use Rattle.std.proofs.lemmas.Option.{none-some}
+use Rattle.babel_value.specs.declared.keys.Peer.{Peer}
+use Rattle.babel_value.specs.Prefixes.{PrefixValue}
 use Rattle.babel_state.specs.declared.configs.Config.{Config}
+use Rattle.babel_state.specs.Seen.{UpdateValue, HeardValue}
 use Rattle.babel_net.specs.Machine.{SourceState, with_pick}
 use Rattle.babel_net.specs.Happenings.{Restarts}
-use Rattle.babel_net.specs.Invariants.{Holds}
+use Rattle.babel_net.specs.Invariants.{WasSent, IsKnown, HoldsWith}
 use Rattle.babel_net.specs.NetworkLaws.{RestartsAreDrops}
 use Rattle.babel_net.specs.Owners.{AreApart}
 use Rattle.babel_net.specs.Views.{pick_of, view}
@@ -18,8 +21,8 @@ use Rattle.babel_net.proofs.ViewRuns.{raised}
 no_growth : (n : ℕ) → n < 65536 → n ≡ (n + 0) % 65536
 no_growth n h = omega arith
 
-pub moved_by_restart : (configs : List Config) (node : ℕ) (old new : World) → AreApart configs → Holds configs old → (h : Restarts configs node old new) → Moved configs node old h.speaker
-moved_by_restart configs node old new apart holds h = record {
+pub moved_by_restart : (is_heard : PrefixValue → Peer → HeardValue → Type 0) (is_known : ℕ → UpdateValue → Type 0) (configs : List Config) (node : ℕ) (old new : World) → AreApart configs → HoldsWith is_heard is_known configs old → (h : Restarts configs node old new) → Moved is_heard configs node old h.speaker
+moved_by_restart is_heard is_known configs node old new apart holds h = record {
   inside = h.inside;
   growths = 0;
   router = h.restarted.router ∙ sym (holds.router node h.config h.is);
@@ -56,5 +59,5 @@ restart_drops configs node now old new s apart inv h =
     dropped =
         ap (λ (v : SourceState). with_pick v node None) (sym (raised_not (view configs s old)))
         ∙ ap (with_pick (raised (view configs s old) 0) node) (ap (pick_of configs s) (sym (h.restarted.selected s.prefix)))
-        ∙ view_now configs node old h.speaker (moved_by_restart configs node old new apart inv.holds h) s 0 (raises_kept configs node old new h s.owner)
+        ∙ view_now configs node old h.speaker (moved_by_restart (WasSent configs old.sent) (IsKnown configs) configs node old new apart inv.holds h) s 0 (raises_kept configs node old new h s.owner)
         ∙ ap (view configs s) (sym h.next)

@@ -36,8 +36,9 @@ pub record IsKnown (configs : List Config) (node : ℕ) (u : UpdateValue) : Type
   pub seqno : u.distance.seqno < seqno_modulus
   pub origin : IsOrigin configs u.prefix u.router
 
--- What holds of every network, however often its nodes raised their seqnos.
-pub record Holds (configs : List Config) (w : World) : Type 0 where
+-- What holds of every network, however often its nodes raised their seqnos: with how its finite routes came about, and what
+-- is known of an update that a node sent.
+pub record HoldsWith (is_heard : PrefixValue → Peer → HeardValue → Type 0) (is_known : ℕ → UpdateValue → Type 0) (configs : List Config) (w : World) : Type 0 where
   pub size : length w.speakers ≡ length configs
   -- each speaker has its configured router-id, and doesn't collect sources
   pub router : (node : ℕ) (c : Config) → slice_get configs node ≡ Some c → (speaker_at w node).router ≡ c.router_id
@@ -48,12 +49,16 @@ pub record Holds (configs : List Config) (w : World) : Type 0 where
   -- it announces listed prefixes alone
   pub seqno : (node : ℕ) → (speaker_at w node).seqno < seqno_modulus
   pub announces : (node : ℕ) (prefix : PrefixValue) → (speaker_at w node).announces prefix ≡ true → Lists configs node prefix
-  -- each of its finite routes is a recorded update
-  pub heard : (node : ℕ) (prefix : PrefixValue) (peer : Peer) (h : HeardValue) → (speaker_at w node).heard_at prefix peer ≡ Some h → WasSent configs w.sent prefix peer h
+  -- each of its finite routes came about so
+  pub heard : (node : ℕ) (prefix : PrefixValue) (peer : Peer) (h : HeardValue) → (speaker_at w node).heard_at prefix peer ≡ Some h → is_heard prefix peer h
   pub selecting : (node : ℕ) → IsSelecting (speaker_at w node)
   -- each datagram was sent from an address of its node, and so were its next hops
   pub sources : All (λ (d : SentDatagram). owner_of configs d.source ≡ Some d.node) w.sent
-  pub updates : (node : ℕ) (u : UpdateValue) → Contains (updates_of node w.sent) u → IsKnown configs node u
+  pub updates : (node : ℕ) (u : UpdateValue) → Contains (updates_of node w.sent) u → is_known node u
+
+-- Of speakers alone: each finite route is a recorded update.
+abbrev pub Holds : List Config → World → Type 0
+Holds configs w = HoldsWith (WasSent configs w.sent) (IsKnown configs) configs w
 
 -- A source entry is at least as good as every pair that its speaker ever sent, and has a number that was reached.
 abbrev pub Bounds : NetSource → ℕ → Option Distance → List Pair → Type 0

@@ -10,3 +10,6 @@ pub mod Invariants
 pub mod NetworkLaws
 pub mod Codes
 pub mod Acceptance
+pub mod ForeignMachine
+pub mod ForeignWorlds
+pub mod ForeignLaws

@@ -2,6 +2,7 @@
 //! contract of a function that does nothing.
 
 ghost use Rattle.babel_net.specs.Acceptance.{AcceptedAreApart};
+ghost use Rattle.babel_net.specs.ForeignLaws.{NetworksAmongAreSound, HappeningsAreRuns, NoLoopOfNeighbours, NoLoopOfNextHops, SeqnosGoAround};
 ghost use Rattle.babel_net.specs.NetworkLaws.{FirstIsSound, FirstViews, EventsAreSound, EventsAreRuns, RestartsAreDrops, OrdersAgree, NextHopsArePicks, NoLoopAfterAnyEvents, NoLoopWithOneOrigin, SourcesRunTogether, SoundHasNoLoop, SoundHasNoLoopWithOneOrigin, SoundRunsTogether};
 
 /// Configurations without a fault, M5 to M2, are apart: no two nodes share an address or a router-id, and none
@@ -67,4 +68,28 @@ pub fn sound_networks_have_no_loop()
     ensures named { SoundHasNoLoop }
     ensures one_origin { SoundHasNoLoopWithOneOrigin }
     ensures together { SoundRunsTogether }
+{}
+
+/// Among routers of others, whatever these send: after any list of events, restarts included, each source entry is at least
+/// as good as every pair that its speaker ever sent, and each finite route came from a node of ours or from one of theirs.
+pub fn networks_among_foreign_routers_are_sound()
+    ensures { NetworksAmongAreSound }
+{}
+
+/// Among routers of others, every event is a list of steps of the machine with picks from outside, for each source
+/// whose seqnos kept to one half of the circle. It leaves no cycle of our nodes.
+pub fn happenings_are_machine_runs()
+    ensures { HappeningsAreRuns }
+{}
+
+/// Whatever other routers send from their own addresses, ours make no loop among themselves of selected routes that name one
+/// router-id, if its seqnos kept to one half of the circle. Traffic follows next hops: so none of theirs names an address of ours.
+pub fn no_loop_among_foreign_routers()
+    ensures neighbours { NoLoopOfNeighbours }
+    ensures next_hops { NoLoopOfNextHops }
+{}
+
+/// Why the seqnos have to keep to one half: around the circle their order isn't transitive (RFC 8966, section 3.2.1).
+pub fn seqnos_around_the_circle_have_no_order()
+    ensures { SeqnosGoAround }
 {}

@@ -6,6 +6,7 @@ ghost use Rattle.babel_net.specs.declared.machine.step.Step.{Step};
 ghost use Rattle.babel_net.specs.Machine.{SourceState, Run, MachineRun, MaySend, first_state, first_states};
 ghost use Rattle.babel_net.specs.MachineRefusals.{announced};
 ghost use Rattle.babel_net.specs.Cycle.{NoCycle, OwnerHasNoPick};
+ghost use Rattle.babel_net.specs.ForeignMachine.{NoCycleAmongForeignRouters};
 
 /// Loop freedom of the machine: no list of steps from the first state leads to a cycle, for any source. The same
 /// holds of one source by itself, and no list of steps gives its owner a pick.
@@ -23,4 +24,10 @@ pub fn no_cycle_after_any_run()
 pub fn announced_is_what_may_be_sent()
     ensures { (state : SourceState) (node metric : ℕ) (pair : Pair) → OwnerHasNoPick state →
         ((announced state node metric ≡ Some pair) ↔ (MaySend state node pair × (pair.metric ≡ metric))) }
+{}
+
+/// Loop freedom among routers of others: no list of steps leads to a cycle of our nodes, even if a node may pick from outside
+/// any pair that is better than everything that it sent. The owner has no pick, and may be no node of ours.
+pub fn no_cycle_among_foreign_routers()
+    ensures { NoCycleAmongForeignRouters }
 {}
