@@ -24,11 +24,11 @@ taken_joined [] ys = refl
 taken_joined (Drive t ∷ xs) ys = ap (λ zs. t.sendings ++ zs) (taken_joined xs ys) ∙ sym (append_assoc t.sendings (taken xs) (taken ys))
 taken_joined (Restart now ∷ xs) ys = taken_joined xs ys
 
-drives : (config : Config) (old new : State) (ts : List Turn) → AreTurns old ts new → Leads config old (map Drive ts) new
+pub drives : (config : Config) (old new : State) (ts : List Turn) → AreTurns old ts new → Leads config old (map Drive ts) new
 drives config old new [] same = same
 drives config old new (t ∷ ts) (mid, turn, rest) = (mid, turn, drives config mid new ts rest)
 
-taken_driven : (ts : List Turn) → taken (map Drive ts) ≡ taken_in ts
+pub taken_driven : (ts : List Turn) → taken (map Drive ts) ≡ taken_in ts
 taken_driven [] = refl
 taken_driven (t ∷ ts) = ap (λ zs. t.sendings ++ zs) (taken_driven ts)
 
