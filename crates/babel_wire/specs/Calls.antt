@@ -1,4 +1,4 @@
--- The calls of a wire (profile).
+-- The calls of a wire and of a store, in one history (profile).
 use Rattle.std.specs.Prelude.{◌≡◌, ◌≤◌, ℕ, Bool, true, false, List, ◌++◌, length, take, Option, Some, None, Result, Ok, Err}
 use Rattle.babel_value.specs.declared.addresses.Addr.{Addr}
 use Rattle.babel_state.specs.declared.items.Target.{Target}
@@ -23,13 +23,15 @@ pub data Call : Type 0 where
   Recv : Receipt → Call
   Now : ℕ → Call
   Send : Sending → Call
+  -- the store was given these octets to keep, and whether they are kept
+  Keep : List ℕ → Bool → Call
 
 abbrev pub receipt_of : Result (Option Arrival) WireFault → List ℕ → Receipt
 receipt_of (Ok (Some arrival)) buf = Datagram arrival.iface arrival.source (take arrival.len buf)
 receipt_of (Ok None) buf = Nothing
 receipt_of (Err fault) buf = Failed
 
-abbrev pub is_done : Result Unit WireFault → Bool
+abbrev pub is_done : {E : Type 0} → Result Unit E → Bool
 is_done (Ok u) = true
 is_done (Err fault) = false
 
@@ -44,6 +46,9 @@ call_of_now moment = Now moment
 
 abbrev pub call_of_send : Target → List ℕ → Result Unit WireFault → Call
 call_of_send target octets result = Send (sending_of target octets result)
+
+abbrev pub call_of_keep : {E : Type 0} → List ℕ → Result Unit E → Call
+call_of_keep octets result = Keep octets (is_done result)
 
 -- The history of a wire grows by these calls. A wire that knows no history, or no longer, says nothing.
 abbrev pub Grows : Option (List Call) → List Call → Option (List Call) → Type 0

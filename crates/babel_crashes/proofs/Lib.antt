@@ -1,0 +1,4 @@
+pub mod Transports
+pub mod Events
+pub mod NodeTurns
+pub mod Crashes

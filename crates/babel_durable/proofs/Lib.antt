@@ -1,0 +1,5 @@
+pub mod Members
+pub mod Turns
+pub mod Files
+pub mod Covering
+pub mod Processes

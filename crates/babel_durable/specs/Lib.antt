@@ -1,0 +1,4 @@
+pub mod Keeping
+pub mod Cuts
+pub mod Lives
+pub mod DurableLaws

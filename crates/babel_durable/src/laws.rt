@@ -1,0 +1,33 @@
+//! Laws of durable turns, each the contract of a function that does nothing.
+
+ghost use Rattle.babel_durable.specs.DurableLaws.{DurableTurnsGoOn, WhatIsKeptCoversWhatWasSent, CrashesAreRestarts, FilesAreLastTried, ProcessesAreCovered, ProcessesStayCovered};
+
+/// Lists of durable turns may be joined.
+pub fn durable_turns_go_on()
+    ensures { DurableTurnsGoOn }
+{}
+
+/// Wherever a process is killed, between two calls or within one: what is on disk is the snapshot of the
+/// speaker after some whole turns, and every datagram that was sent was taken in them. Or nothing was sent,
+/// and it is what was there before.
+pub fn what_is_kept_covers_what_was_sent()
+    ensures { WhatIsKeptCoversWhatWasSent }
+{}
+
+/// A speaker that is restored from such a file is the speaker after those turns, saved and restored at
+/// once. The datagrams that were taken in them and not sent are lost.
+pub fn crashes_are_restarts()
+    ensures { CrashesAreRestarts }
+{}
+
+/// What may be on disk is what the last keep that succeeded was given, or what was tried since.
+pub fn files_are_last_tried()
+    ensures { FilesAreLastTried }
+{}
+
+/// The same over several processes, each killed at any moment and started from what is on disk: each file
+/// is reached by turns and restarts, in which every datagram that was ever sent was taken.
+pub fn processes_are_covered()
+    ensures from_new { ProcessesAreCovered }
+    ensures go_on { ProcessesStayCovered }
+{}
