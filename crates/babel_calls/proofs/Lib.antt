@@ -2,3 +2,4 @@ pub mod FirstStates
 pub mod SettledSends
 pub mod Restoring
 pub mod SentUpdates
+pub mod SnapshotsSent
