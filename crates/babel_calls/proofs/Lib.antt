@@ -5,3 +5,4 @@ pub mod SentUpdates
 pub mod Earliest
 pub mod EarlyTicks
 pub mod CurrentWalks
+pub mod SnapshotsSent

@@ -1,12 +1,15 @@
 //! What is needed of a state to send its pending items, and what a message that is sent changes (RFC 8966, sections
 //! 3.4.1 and 3.7.3).
 
-ghost use Rattle.std.specs.Prelude.{◌≡◌, None, true, Some, slice_get, IsTrue};
+ghost use Rattle.std.specs.Prelude.{◌≡◌, None, true, Some, slice_get, IsTrue, IsFalse};
+ghost use Rattle.std.specs.FinMap.{is_sorted};
+ghost use Rattle.babel_value.specs.Orders.{source_cmp};
 ghost use Rattle.babel_message.specs.declared.messages.Message.{Message};
 ghost use Rattle.babel_state.specs.Addresses.{transport_at};
 ghost use Rattle.babel_state.specs.CurrentSelections.{AreCurrent};
 ghost use Rattle.babel_state.specs.State.{with_interface};
 ghost use Rattle.babel_state.specs.NextDatagram.{next_hello, left_out_more, after_message};
+ghost use Rattle.babel_state.specs.Restarts.{snapshot_of};
 ghost use Rattle.babel_calls.specs.SentMessages.{HasRoomFor, changes_a_pair, is_named_current, without_front};
 
 use crate::outgoing_messages::interface_entry;
@@ -38,8 +41,10 @@ fn use_hello_seqno(core: &mut Core, iface: u8)
 
 /// Whether the message, if it is sent, changes the feasibility distance of its source (RFC 8966, section 3.7.3).
 fn changes_a_pair(core: &Core, message: &Message, cursor: &mut Cursor) -> bool
-    ensures { result ≡ changes_a_pair message.now core.now }
+    ensures changes { result ≡ changes_a_pair message.now core.now }
+    ensures in_order { IsTrue (is_sorted source_cmp core.now.sources) }
 {
+    let _count = core.sources.len();
     match *message {
         Message::Update {
             prefix,
@@ -102,14 +107,16 @@ fn is_named_current(core: &Core, message: &Message, cursor: &mut Cursor) -> bool
 }
 
 /// The same. If the speaker is settled, it stays so unless the message changes the feasibility distance of its source
-/// and then the selection of its prefix is no longer current.
-#[tactic(auto, using(crate::proofs::SettledSends::sent_current, crate::proofs::SettledSends::sent_but_current))]
+/// and then the selection of its prefix is no longer current. If `lowered` is `false` then, it was so, and the snapshot is
+/// as before.
+#[tactic(auto, using(crate::proofs::SettledSends::sent_current, crate::proofs::SettledSends::sent_but_current, crate::proofs::SnapshotsSent::sent_snapshot))]
 pub fn send_message(
     core: &mut Core,
     now: u64,
     target: Target,
     message: &Message,
     settled: &mut bool,
+    lowered: &mut bool,
     cursor: &mut Cursor,
 )
     requires room { HasRoomFor core.old message.now }
@@ -117,10 +124,16 @@ pub fn send_message(
     ensures state { core.new ≡ after_message now target message.now core.old }
     ensures pending { core.new.pending ≡ core.old.pending }
     ensures current { IsTrue settled.new → AreCurrent core.new }
+    ensures marked { IsFalse lowered.new → IsFalse lowered.old }
+    ensures saved { IsFalse lowered.new → snapshot_of core.new ≡ snapshot_of core.old }
 {
-    let changes = *settled && changes_a_pair(core, message, cursor);
+    let changes = changes_a_pair(core, message, cursor);
     apply_message(core, now, target, message, cursor);
-    if changes && !is_named_current(core, message, cursor) {
+    if !changes {
+        return;
+    }
+    *lowered = true;
+    if *settled && !is_named_current(core, message, cursor) {
         *settled = false;
     }
 }

@@ -6,3 +6,4 @@ pub mod LinkChanges
 pub mod StaleReselections
 pub mod RoutesKept
 pub mod Expiries
+pub mod SnapshotsKept

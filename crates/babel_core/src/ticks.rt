@@ -7,6 +7,7 @@ ghost use Rattle.babel_state.specs.Hellos.{forget_neighbour};
 ghost use Rattle.babel_state.specs.CurrentSelections.{AreCurrent, AreRoutesInOrder};
 ghost use Rattle.babel_state.specs.SettledLaws.{AreSelectionsInOrder};
 ghost use Rattle.babel_state.specs.KeptRoutes.{KeepsRoutes};
+ghost use Rattle.babel_state.specs.Restarts.{snapshot_of};
 ghost use Rattle.babel_parts.specs.LinkChanges.{AreOthersCurrent};
 ghost use Rattle.babel_steps.specs.TickItems.{all_timers_of};
 ghost use Rattle.babel_parts.specs.DueRoutes.{prefixes_due};
@@ -138,17 +139,18 @@ impl Core {
     }
 
     /// Collects the entries of the source table whose time has come, if the speaker does so (RFC 8966,
-    /// section 3.2.5). If it returns `false`, none is due, and nothing changed.
+    /// section 3.2.5). If it returns `false`, none was due, and nothing changed.
     #[tactic(auto, unfolding(babel_state::specs::Ticks::sources_ticked))]
     pub(crate) fn tick_sources(&mut self, now: u64) -> bool
         ensures state { self.new ≡ sources_ticked now self.old }
         ensures quiet { IsFalse result → self.new ≡ self.old }
     {
-        if self.collects {
-            self.sources.collect(now)
-        } else {
-            false
+        if !self.collects {
+            return false;
         }
+        let count = self.sources.len();
+        let _ = self.sources.collect(now);
+        self.sources.len() < count
     }
 
     /// Repeats the requests whose wait is over (RFC 8966, section 3.8.2.1). As long as none can be, it looks
@@ -233,8 +235,8 @@ impl Core {
     }
 
     /// Takes all that is due (RFC 8966, sections 3.2.5, 3.4, 3.5.4, 3.7.1 and 3.8.2.1). Returns whether the
-    /// speaker is settled then: all its selections are current. Unless `changed` is `true` then, the selected routes are
-    /// reported as before.
+    /// speaker is settled then: all its selections are current, and no source was collected, so that its snapshot is as
+    /// before. Unless `changed` is `true` then, the selected routes are reported as before.
     #[tactic(auto, unfolding(babel_state::specs::Ticks::ticked), using(crate::proofs::Settling::timed_current))]
     pub fn tick(
         &mut self,
@@ -247,6 +249,7 @@ impl Core {
         ensures state { self.new ≡ ticked now self.old }
         ensures current { IsTrue result → AreCurrent self.new }
         ensures kept { IsFalse changed.new → KeepsRoutes self.old self.new }
+        ensures saved { IsTrue result → snapshot_of self.new ≡ snapshot_of self.old }
     {
         *changed = self.tick_selections(now, settled, scratch);
         self.tick_requests(now);
