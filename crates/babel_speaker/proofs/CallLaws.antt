@@ -58,8 +58,17 @@ false_if_ok result false iff ok = refl
 
 -- ---- a datagram that is received
 
-abbrev CanDecode : Result (List Placed) Refusal → Type 0
+abbrev pub CanDecode : Result (List Placed) Refusal → Type 0
 CanDecode read = (placed : List Placed) → read ≡ Ok placed → AreEncodable (messages_of placed)
+
+placed_or : Result (List Placed) Refusal → List Placed → List Placed
+placed_or (Ok placed) other = placed
+placed_or (Err refusal) other = other
+
+-- What was decoded can be encoded.
+pub can_decode : (placed : List Placed) → AreEncodable (messages_of placed) → CanDecode (Ok placed)
+unfolding placed_or
+can_decode placed encodable others is = subst (λ read. AreEncodable (messages_of (placed_or read placed))) is encodable
 
 pub received_well : {N E : Type 0} (result : Result N E) (items : N → List Note) (now : ℕ) (peer : Peer) (fault : Option RecvFault) (read : Result (List Placed) Refusal) (core new : State) →
     PlacesMove → CanDecode read → IfOk result (λ n. Receives now peer fault read core new (items n)) → OnErr result (new ≡ core) → IsWellFormed core → IsWellFormed new

@@ -20,9 +20,9 @@ use Rattle.babel_state.specs.declared.items.Target.{Target}
 use Rattle.babel_state.specs.Queueing.{Pending}
 use Rattle.babel_state.specs.State.{State}
 use Rattle.babel_state.specs.OutgoingMessages.{outgoing}
-use Rattle.babel_state.specs.NextDatagram.{Fits, Draft, is_same_receiver, is_same_target, draft_with, drafted, after_message, without_first}
-use Rattle.babel_speaker.specs.Sending.{built_of, fits_at, draft_to, with_outgoing, is_encodable_outgoing, are_encodable, IsFilling, IsFilled}
-use Rattle.babel_calls.specs.SentMessages.{without_front, IsMessageTo}
+use Rattle.babel_state.specs.NextDatagram.{Fits, Draft, is_same_receiver, is_same_target, draft_with, drafted, after_message, left_out_more, without_first}
+use Rattle.babel_speaker.specs.Sending.{built_of, fits_at, draft_to, with_outgoing, is_encodable_outgoing, are_encodable, IsFilling, IsFilled, IsSkipped}
+use Rattle.babel_calls.specs.SentMessages.{no_draft, without_front, IsMessageTo}
 
 -- Two receivers that are the same are equal, and so are two targets.
 equal : (o : Ordering) → is_eq o ≡ true → o ≡ Equal
@@ -94,6 +94,34 @@ pub drafted_first : (now : ℕ) (f : Fits) (xs : List Item) (x : Item) (d : Draf
 drafted_first now f xs x d is =
     let P : List Item → Type 0 = λ ys. drafted now f ys d ≡ option_map_or (λ c. drafted now f (drop 1 xs) (without_first (drop 1 xs) c)) (draft_with now f d (outgoing d.state x)) d in
     subst P (sym (front_first xs x is)) refl
+
+-- ---- items that mean no message
+
+pub skipped_left_out : (old s t : State) (x : Item) → IsSkipped old s → slice_get s.pending.items 0 ≡ Some x → outgoings.LeftOut ≡ outgoing s x →
+    t ≡ without_front (left_out_more s) → IsSkipped old t
+unfolding draft_with
+skipped_left_out old s t x before first out is = record {
+  interfaces = ap (λ (u : State). u.interfaces) is ∙ before.interfaces;
+  same = λ now f.
+      let xs : List Item = drop 1 s.pending.items in
+      ap (λ (u : State). drafted now f u.pending.items (no_draft u)) is
+      ∙ ap (λ o. option_map_or (λ c. drafted now f xs (without_first xs c)) (draft_with now f (no_draft s) o) (no_draft s)) out
+      ∙ sym (drafted_first now f s.pending.items x (no_draft s) first)
+      ∙ before.same now f;
+}
+
+pub skipped_nothing : (old s t : State) (x : Item) → IsSkipped old s → slice_get s.pending.items 0 ≡ Some x → outgoings.Nothing ≡ outgoing s x →
+    t ≡ without_front s → IsSkipped old t
+unfolding draft_with
+skipped_nothing old s t x before first out is = record {
+  interfaces = ap (λ (u : State). u.interfaces) is ∙ before.interfaces;
+  same = λ now f.
+      let xs : List Item = drop 1 s.pending.items in
+      ap (λ (u : State). drafted now f u.pending.items (no_draft u)) is
+      ∙ ap (λ o. option_map_or (λ c. drafted now f xs (without_first xs c)) (draft_with now f (no_draft s) o) (no_draft s)) out
+      ∙ sym (drafted_first now f s.pending.items x (no_draft s) first)
+      ∙ before.same now f;
+}
 
 -- ---- filling
 

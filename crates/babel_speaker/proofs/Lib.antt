@@ -7,3 +7,5 @@ pub mod FirstFits
 pub mod SettledSends
 pub mod TakenItems
 pub mod RequestsKept
+pub mod Snapshots
+pub mod Counting

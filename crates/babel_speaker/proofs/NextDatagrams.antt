@@ -9,7 +9,7 @@ use Rattle.std.specs.Option.{option_map_or}
 use Rattle.babel_value.specs.declared.addresses.Addr.{Addr}
 use Rattle.babel_message.specs.declared.messages.Message.{Message}
 use Rattle.babel_packet.specs.Encodable.{is_encodable}
-use Rattle.babel_packet.specs.BodyMeanings.{Means}
+use Rattle.babel_packet.specs.BodyMeanings.{Means, datagram}
 use Rattle.babel_build.specs.Built.{Built, HasEncoded, added, fits}
 use Rattle.babel_state.specs.declared.items.Item.{Item}
 use Rattle.babel_state.specs.declared.items.Outgoing.{Outgoing}
@@ -21,7 +21,7 @@ use Rattle.babel_state.specs.Queueing.{Pending}
 use Rattle.babel_state.specs.OutgoingMessages.{outgoing}
 use Rattle.babel_state.specs.NextDatagram.{Fits, Draft, is_same_target, draft_with, drafted, after_message, without_first, with_message, next_datagram}
 use Rattle.babel_state.specs.QueueLaws.{is_silent, has_no_message, NoneIfNothingPending, HasInterface, ItemsHaveInterfaces}
-use Rattle.babel_speaker.specs.Sending.{HaveTransports, built_of, empty_datagram, fits_from, fits_at, fits_by, draft_to, first_message, message_of, are_encodable, MeansFrom, IsFilled}
+use Rattle.babel_speaker.specs.Sending.{HaveTransports, built_of, empty_datagram, fits_from, fits_at, fits_by, draft_to, first_message, message_of, are_encodable, MeansFrom, IsBuiltFrom, IsFilled}
 use Rattle.babel_calls.specs.SentMessages.{no_draft, without_front}
 use Rattle.babel_speaker.proofs.Drafts.{same_target}
 
@@ -146,6 +146,14 @@ filled_means source from given t end next s first built octets filled is at begi
     let Q : Option Addr → Type 0 = λ o. MeansFrom o octets end.messages in
     let R : Addr → Type 0 = λ a. Means octets a end.messages in
     subst P (sym is) (λ whole. subst Q (sym at) (subst R from_source (means end.messages (filled.encoded begins whole)))) whole
+
+-- They are the octets that the builder makes of its messages.
+pub filled_built : (source : Addr) (from : Option Addr) (given : List Message) (t : Target) (end next : Draft) (s : State) (first built : Built) (octets : List ℕ) →
+    IsFilled (empty_datagram source) given t end s first built → next ≡ end → from ≡ Some source → octets ≡ datagram built.body → IsBuiltFrom from octets next.messages
+filled_built source from given t end next s first built octets filled is at written =
+    let P : Draft → Type 0 = λ d. IsBuiltFrom from octets d.messages in
+    let Q : Option Addr → Type 0 = λ o. IsBuiltFrom o octets end.messages in
+    subst P (sym is) (subst Q (sym at) (written ∙ ap (λ (b : Built). datagram b.body) filled.has))
 
 -- ---- whether an item means a message
 

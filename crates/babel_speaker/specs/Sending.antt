@@ -4,7 +4,7 @@ use Rattle.std.specs.List.{list_all}
 use Rattle.babel_value.specs.declared.addresses.Addr.{Addr}
 use Rattle.babel_message.specs.declared.messages.Message.{Message}
 use Rattle.babel_packet.specs.Encodable.{is_encodable, IsMessage}
-use Rattle.babel_packet.specs.BodyMeanings.{Means}
+use Rattle.babel_packet.specs.BodyMeanings.{Means, datagram}
 use Rattle.babel_build.specs.Built.{Built, HasEncoded, fits, added}
 use Rattle.babel_state.specs.declared.items.Item.{Item}
 use Rattle.babel_state.specs.declared.items.Outgoing.{Outgoing}
@@ -69,6 +69,11 @@ HaveTransports s = (iface : ℕ) → IsSome (interface_at iface s) → IsSome (t
 abbrev pub MeansFrom : Option Addr → List ℕ → List Message → Type 0
 MeansFrom None octets messages = ⊥
 MeansFrom (Some source) octets messages = Means octets source messages
+
+-- The octets are those that the builder makes of these messages, sent from the source address: nothing else is there, and no trailer.
+abbrev pub IsBuiltFrom : Option Addr → List ℕ → List Message → Type 0
+IsBuiltFrom None octets messages = ⊥
+IsBuiltFrom (Some source) octets messages = octets ≡ datagram (built_of (empty_datagram source) messages).body
 
 -- ---- drafts
 

@@ -9,11 +9,13 @@ mod receiving;
 mod sending;
 mod settled;
 mod speaker;
+mod versions;
 
 pub use babel_core::Core;
 pub use babel_parts::{
     Announced, Interfaces, LinkChange, LinkCosts, PendingItems, Prefixes, Reachable, RequestTable,
     Scratch,
 };
+pub use decoded::Decoded;
 pub use settled::SettledCore;
 pub use speaker::Speaker;

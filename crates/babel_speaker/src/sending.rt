@@ -1,7 +1,7 @@
 //! The next datagram (RFC 8966, section 4): pending items become messages one by one, from the oldest
 //! on, as long as they go to the same target and fit.
 
-ghost use Rattle.std.specs.Prelude.{◌≡◌, ◌↔◌, ℕ, None, List, [], true, Some, IfSome, IsTrue, IsNone, if◌then◌else◌};
+ghost use Rattle.std.specs.Prelude.{◌≡◌, ◌↔◌, ℕ, None, List, [], true, Some, IfSome, IsTrue, IsFalse, IsNone, if◌then◌else◌};
 ghost use Rattle.std.specs.Bool.{OnFalse};
 ghost use Rattle.babel_message.specs.declared.messages.Message.{Message};
 ghost use Rattle.babel_build.specs.Built.{Built, HasEncoded};
@@ -10,8 +10,10 @@ ghost use Rattle.babel_state.specs.CurrentSelections.{AreCurrent};
 ghost use Rattle.babel_state.specs.OutgoingMessages.{outgoing};
 ghost use Rattle.babel_state.specs.NextDatagram.{Fits, is_same_receiver, is_same_target, draft_with, drafted, next_datagram};
 ghost use Rattle.babel_state.specs.QueueLaws.{is_silent};
+ghost use Rattle.babel_state.specs.Restarts.{snapshot_of};
 ghost use Rattle.babel_calls.specs.SentMessages.{HasRoomFor, no_draft};
-ghost use Rattle.babel_speaker.specs.Sending.{HaveTransports, first_message, with_outgoing, is_encodable_outgoing, are_encodable, built_of, fits_at, fits_by, draft_to, MeansFrom, IsFilled};
+ghost use Rattle.babel_speaker.specs.Sending.{HaveTransports, first_message, with_outgoing, is_encodable_outgoing, are_encodable, built_of, fits_at, fits_by, draft_to, MeansFrom, IsBuiltFrom, IsFilled};
+ghost use Rattle.babel_speaker.specs.Versions.{KeepsSnapshot};
 
 use arrayvec::ArrayVec;
 use babel_build::Builder;
@@ -43,7 +45,7 @@ fn is_same_target(a: &Target, b: &Target) -> bool
 
 /// Removes the oldest items up to the first that means a message, and returns that message and
 /// its target. `None`: no item is left.
-#[tactic(auto, unfolding(babel_state::specs::NextDatagram::draft_with), using(crate::proofs::Drafts::none_first, crate::proofs::SettledSends::removed_current, crate::proofs::SettledSends::left_out_current))]
+#[tactic(auto, unfolding(babel_state::specs::NextDatagram::draft_with), using(crate::proofs::Drafts::none_first, crate::proofs::SettledSends::removed_current, crate::proofs::SettledSends::left_out_current, crate::proofs::Snapshots::saved_itself, crate::proofs::Snapshots::removed_saved, crate::proofs::Snapshots::left_out_saved))]
 fn skip_silent(core: &mut Core, cursor: &mut Cursor) -> Option<(Target, Message)>
     ensures message { result ≡ first_message core.new core.new.pending.items }
     ensures room { IfSome result (λ m. HasRoomFor core.new m.1) }
@@ -51,6 +53,7 @@ fn skip_silent(core: &mut Core, cursor: &mut Cursor) -> Option<(Target, Message)
     ensures draft { (now : ℕ) (fits : Fits) → drafted now fits core.new.pending.items (no_draft core.new) ≡ drafted now fits core.old.pending.items (no_draft core.old) }
     ensures interfaces { core.new.interfaces ≡ core.old.interfaces }
     ensures current { AreCurrent core.old → AreCurrent core.new }
+    ensures saved { KeepsSnapshot core.old core.new }
 {
     while let Some(item) = babel_calls::first_item(core) {
         match babel_calls::outgoing(core, &item, cursor) {
@@ -76,7 +79,7 @@ fn goes_elsewhere(core: &Core, item: &Item, target: &Target) -> bool
 
 /// Adds the message of an item to the datagram. False: it has another target or doesn't fit, and
 /// nothing has changed.
-#[tactic(auto, unfolding(babel_state::specs::NextDatagram::draft_with), using(crate::proofs::Drafts::same_target, crate::proofs::Drafts::built_more, crate::proofs::SettledSends::left_out_current))]
+#[tactic(auto, unfolding(babel_state::specs::NextDatagram::draft_with), using(crate::proofs::Drafts::same_target, crate::proofs::Drafts::built_more, crate::proofs::SettledSends::left_out_current, crate::proofs::Snapshots::left_out_snapshot))]
 fn add_item(
     core: &mut Core,
     now: u64,
@@ -84,6 +87,7 @@ fn add_item(
     builder: &mut Builder,
     item: &Item,
     settled: &mut bool,
+    lowered: &mut bool,
     cursor: &mut Cursor,
 ) -> bool
     requires settled { IsTrue settled.old → AreCurrent core.old }
@@ -93,6 +97,8 @@ fn add_item(
     ensures encoded { (ms : List Message) → HasEncoded builder.old ms → IsTrue result → is_encodable_outgoing (outgoing core.old item.now) ≡ true → HasEncoded builder.new (with_outgoing ms (outgoing core.old item.now)) }
     ensures pending { core.new.pending ≡ core.old.pending }
     ensures current { IsTrue settled.new → AreCurrent core.new }
+    ensures marked { IsFalse lowered.new → IsFalse lowered.old }
+    ensures saved { IsFalse lowered.new → snapshot_of core.new ≡ snapshot_of core.old }
 {
     // The message is not needed to see that it goes elsewhere.
     if goes_elsewhere(core, item, &target) {
@@ -103,7 +109,7 @@ fn add_item(
             if !is_same_target(&target, &to) || !builder.add(&message) {
                 return false;
             }
-            babel_calls::send_message(core, now, to, &message, settled, cursor);
+            babel_calls::send_message(core, now, to, &message, settled, lowered, cursor);
         }
         Outgoing::LeftOut => babel_calls::leave_out(core),
         Outgoing::Nothing => {}
@@ -119,14 +125,17 @@ fn fill(
     target: Target,
     builder: &mut Builder,
     settled: &mut bool,
+    lowered: &mut bool,
     cursor: &mut Cursor,
 )
     requires settled { IsTrue settled.old → AreCurrent core.old }
     ensures current { IsTrue settled.new → AreCurrent core.new }
+    ensures marked { IsFalse lowered.new → IsFalse lowered.old }
+    ensures saved { IsFalse lowered.new → snapshot_of core.new ≡ snapshot_of core.old }
     ensures filled { (b : Built) (ms : List Message) → builder.old ≡ built_of b ms → IsFilled b ms target (drafted now (fits_at b) core.old.pending.items (draft_to target core.old ms)) core.new builder.old builder.new }
 {
     while let Some(item) = babel_calls::first_item(core) {
-        if !add_item(core, now, target, builder, &item, settled, cursor) {
+        if !add_item(core, now, target, builder, &item, settled, lowered, cursor) {
             return;
         }
         babel_calls::remove_first_item(core);
@@ -137,7 +146,8 @@ fn fill(
 /// what was there, and its target is returned. `None`: no item means a message, and `out` is empty. It is built in
 /// `builder`, whatever was there.
 ///
-/// A settled speaker stays so unless an Update that is sent changes the feasibility distance of its source.
+/// A settled speaker stays so unless an Update that is sent changes the feasibility distance of its source. If
+/// `lowered` is `false` then, none did, and the snapshot is as before.
 ///
 /// That each message can be encoded, and that each interface has an address to send from, follows
 /// from the invariant of a speaker's state.
@@ -147,12 +157,15 @@ pub(crate) fn next_datagram(
     out: &mut ArrayVec<u8, DATAGRAM_LEN>,
     builder: &mut Builder,
     settled: &mut bool,
+    lowered: &mut bool,
 ) -> Option<Target>
     requires settled { IsTrue settled.old → AreCurrent core.old }
     ensures current { IsTrue settled.new → AreCurrent core.new }
+    ensures saved { IsFalse lowered.new → snapshot_of core.new ≡ snapshot_of core.old }
     ensures state { core.new ≡ (next_datagram now (fits_by core.old) core.old).state }
     ensures target { result ≡ (next_datagram now (fits_by core.old) core.old).target }
     ensures octets { IfSome result (λ target. are_encodable (next_datagram now (fits_by core.old) core.old).messages ≡ true → MeansFrom (transport_at target.iface core.old) out.new.items (next_datagram now (fits_by core.old) core.old).messages) }
+    ensures built { IfSome result (λ target. IsBuiltFrom (transport_at target.iface core.old) out.new.items (next_datagram now (fits_by core.old) core.old).messages) }
     ensures empty { IsNone result → out.new.items ≡ [] }
     ensures none { HaveTransports core.old → (IsNone result ↔ (is_silent core.old ≡ true)) }
 {
@@ -168,9 +181,17 @@ pub(crate) fn next_datagram(
     builder.begin(source);
     // The first message always fits.
     let _ = builder.add(&message);
-    babel_calls::send_message(core, now, target, &message, settled, &mut cursor);
+    babel_calls::send_message(
+        core,
+        now,
+        target,
+        &message,
+        settled,
+        lowered,
+        &mut cursor,
+    );
     babel_calls::remove_first_item(core);
-    fill(core, now, target, builder, settled, &mut cursor);
+    fill(core, now, target, builder, settled, lowered, &mut cursor);
     builder.write_to(out);
     Some(target)
 }

@@ -1,5 +1,5 @@
-//! The state of a speaker, and whether all its selections are current. Then Hellos and IHUs that change no
-//! cost, and ticks in which no deadline is due, select no route again.
+//! The state of a speaker, whether all its selections are current, and how often it changed. If they are current, Hellos
+//! and IHUs that change no cost, and ticks in which no deadline is due, select no route again.
 
 ghost use Rattle.std.specs.Prelude.{◌≡◌, ◌≢◌, ◌<◌, ◌↔◌, ℕ, [], true, false, Ok, Some, IsOk, IsErr, IsNone, IfOk, IfErr, IfSome, OnOk, OnErr, IsFalse};
 ghost use Rattle.babel_packet.specs.Meaning.{meaning};
@@ -8,7 +8,6 @@ ghost use Rattle.babel_calls.specs.Deadlines.{next_deadline};
 ghost use Rattle.babel_state.specs.CurrentSelections.{AreCurrent};
 ghost use Rattle.babel_state.specs.Calls.{set_cost_fault, cost_set, first_state, is_prefix_too_many, announced_also, withdrawn};
 ghost use Rattle.babel_state.specs.Configs.{config_fault};
-ghost use Rattle.babel_state.specs.KeptRoutes.{KeepsRoutes};
 ghost use Rattle.babel_state.specs.Messages.{Receives, IsRecvFault};
 ghost use Rattle.babel_state.specs.NextDatagram.{next_datagram};
 ghost use Rattle.babel_state.specs.SeqnoRequests.{raised};
@@ -18,10 +17,12 @@ ghost use Rattle.babel_state.specs.Restarts.{restored, IsSnapshot};
 ghost use Rattle.babel_snapshot.specs.Reading.{restore_fault, snapshot_in};
 ghost use Rattle.babel_calls.specs.Making.{IsMakingFault, IsRestoreFault};
 ghost use Rattle.babel_state.specs.QueueLaws.{is_silent};
-ghost use Rattle.babel_speaker.specs.Sending.{are_encodable, fits_by, HaveTransports, MeansFrom};
+ghost use Rattle.babel_speaker.specs.Sending.{are_encodable, fits_by, HaveTransports, IsBuiltFrom, MeansFrom};
+ghost use Rattle.babel_speaker.specs.Versions.{CountsChanges};
 
 use crate::receiving::{receive, receive_decoded};
 use crate::sending::next_datagram;
+use crate::versions::{Version, has_grown, own_seqno};
 use arrayvec::ArrayVec;
 use babel_build::Builder;
 use babel_core::Core;
@@ -37,22 +38,24 @@ use babel_value::{Addr, Prefix};
 use std::alloc::Global;
 use std::marker::Model;
 
-/// The state of a speaker. A clause sees it as the `State` that the steps are defined on. The speaker is
-/// settled only if each of its selections is current.
+/// The state of a speaker, and the counts of its changes. A clause sees the `State` that the steps are defined on, and the
+/// counts. The speaker is settled only if each of its selections is current.
 #[derive(Drop)]
 pub struct SettledCore {
     pub(crate) core: Core,
     is_settled: bool,
+    pub(crate) routes: Version,
+    pub(crate) snapshot: Version,
 }
 
 impl Model for SettledCore {
     ghost use Rattle.std.specs.Prelude.{IsTrue};
-    ghost use Rattle.babel_state.specs.State.{State};
     ghost use Rattle.babel_state.specs.CurrentSelections.{AreCurrent};
+    ghost use Rattle.babel_speaker.specs.Versions.{SpeakerValue};
 
-    ghost Value = { State };
+    ghost Value = { SpeakerValue };
 
-    ghost view = { λ s. s.core };
+    ghost view = { λ s. record { state = s.core; routes_version = s.routes; snapshot_version = s.snapshot } };
 
     ghost invariant = { λ s. IsTrue s.is_settled → AreCurrent s.core };
 }
@@ -60,7 +63,8 @@ impl Model for SettledCore {
 impl SettledCore {
     /// The first state of a speaker, as `babel_calls::make`.
     pub fn new(alloc: Global, config: &Config) -> Result<SettledCore, ConfigFault>
-        ensures ok { IfOk result (λ core. core ≡ first_state config.now) }
+        ensures ok { IfOk result (λ core. core.state ≡ first_state config.now) }
+        ensures counts { IfOk result (λ core. (core.routes_version ≡ 0) × (core.snapshot_version ≡ 0)) }
         ensures valid { IsOk result → IsNone (config_fault config.now) }
         ensures refused { IfErr result (λ fault. IsMakingFault (config_fault config.now) fault) }
     {
@@ -68,6 +72,8 @@ impl SettledCore {
             Ok(core) => Ok(SettledCore {
                 core,
                 is_settled: false,
+                routes: Version::first(),
+                snapshot: Version::first(),
             }),
             Err(fault) => Err(fault),
         }
@@ -80,7 +86,8 @@ impl SettledCore {
         now: u64,
         octets: &[u8],
     ) -> Result<SettledCore, RestoreFault>
-        ensures ok { IfOk result (λ core. core ≡ restored now config.now (snapshot_in octets.now)) }
+        ensures ok { IfOk result (λ core. core.state ≡ restored now config.now (snapshot_in octets.now)) }
+        ensures counts { IfOk result (λ core. (core.routes_version ≡ 0) × (core.snapshot_version ≡ 0)) }
         ensures valid { IsOk result → IsNone (config_fault config.now) }
         ensures whole { IsOk result → IsNone (restore_fault config.now.router_id octets.now) }
         ensures refused { IfErr result (λ fault. IsRestoreFault (config_fault config.now) (restore_fault config.now.router_id octets.now) fault) }
@@ -90,6 +97,8 @@ impl SettledCore {
             Ok(core) => Ok(SettledCore {
                 core,
                 is_settled: false,
+                routes: Version::first(),
+                snapshot: Version::first(),
             }),
             Err(fault) => Err(fault),
         }
@@ -103,30 +112,38 @@ impl SettledCore {
         iface: u8,
         source: Addr,
         octets: &[u8],
-        changed: &mut bool,
         scratch: &mut Scratch,
         trail: &mut Trail,
     ) -> Result<Vec<Note>, RecvFault>
-        ensures ok { IfOk result (λ notes. Receives now (record { iface = iface; addr = source }) (source_fault iface source self.old) (meaning octets.now source) self.old self.new notes.items) }
-        ensures refused { IfErr result (λ fault. IsRecvFault (source_fault iface source self.old) (meaning octets.now source) fault) }
+        ensures ok { IfOk result (λ notes. Receives now (record { iface = iface; addr = source }) (source_fault iface source self.old.state) (meaning octets.now source) self.old.state self.new.state notes.items) }
+        ensures refused { IfErr result (λ fault. IsRecvFault (source_fault iface source self.old.state) (meaning octets.now source) fault) }
         ensures unchanged { OnErr result (self.new ≡ self.old) }
-        ensures kept { IsFalse changed.new → KeepsRoutes self.old self.new }
+        ensures counted { CountsChanges self.old self.new }
     {
         let mut settled = self.is_settled;
-        let notes = receive(
-            &mut self.core,
+        let mut changed = false;
+        let seqno = own_seqno(&self.core);
+        let raises = self.core.raises();
+        let core = &mut self.core;
+        let notes = match receive(
+            core,
             alloc,
             now,
             iface,
             source,
             octets,
             &mut settled,
-            changed,
+            &mut changed,
             scratch,
             trail,
-        );
+        ) {
+            Ok(notes) => notes,
+            Err(fault) => return Err(fault),
+        };
         self.is_settled = settled;
-        notes
+        self.routes.note(changed);
+        self.snapshot.note(has_grown(&self.core, seqno, raises));
+        Ok(notes)
     }
 
     /// Takes a datagram that is decoded already, as `receive_decoded`.
@@ -137,92 +154,128 @@ impl SettledCore {
         iface: u8,
         source: Addr,
         placed: &[Placed],
-        changed: &mut bool,
         scratch: &mut Scratch,
         trail: &mut Trail,
     ) -> Result<Vec<Note>, RecvFault>
-        ensures ok { IfOk result (λ notes. Receives now (record { iface = iface; addr = source }) (source_fault iface source self.old) (Ok placed.now) self.old self.new notes.items) }
-        ensures refused { IfErr result (λ fault. IsRecvFault (source_fault iface source self.old) (Ok placed.now) fault) }
+        ensures ok { IfOk result (λ notes. Receives now (record { iface = iface; addr = source }) (source_fault iface source self.old.state) (Ok placed.now) self.old.state self.new.state notes.items) }
+        ensures refused { IfErr result (λ fault. IsRecvFault (source_fault iface source self.old.state) (Ok placed.now) fault) }
         ensures unchanged { OnErr result (self.new ≡ self.old) }
-        ensures kept { IsFalse changed.new → KeepsRoutes self.old self.new }
+        ensures counted { CountsChanges self.old self.new }
     {
         let mut settled = self.is_settled;
-        let notes = receive_decoded(
-            &mut self.core,
+        let mut changed = false;
+        let seqno = own_seqno(&self.core);
+        let raises = self.core.raises();
+        let core = &mut self.core;
+        let notes = match receive_decoded(
+            core,
             alloc,
             now,
             iface,
             source,
             placed,
             &mut settled,
-            changed,
+            &mut changed,
             scratch,
             trail,
-        );
+        ) {
+            Ok(notes) => notes,
+            Err(fault) => return Err(fault),
+        };
         self.is_settled = settled;
-        notes
+        self.routes.note(changed);
+        self.snapshot.note(has_grown(&self.core, seqno, raises));
+        Ok(notes)
     }
 
-    /// Takes all deadlines that are due. Unless `changed` is `true` then, the selected routes are reported as before.
-    pub(crate) fn tick(&mut self, now: u64, changed: &mut bool, scratch: &mut Scratch)
-        ensures state { self.new ≡ ticked now self.old }
-        ensures kept { IsFalse changed.new → KeepsRoutes self.old self.new }
+    /// Takes all deadlines that are due. The snapshot changes only if a source is collected, and then the speaker isn't
+    /// settled.
+    pub(crate) fn tick(&mut self, now: u64, scratch: &mut Scratch)
+        ensures state { self.new.state ≡ ticked now self.old.state }
+        ensures counted { CountsChanges self.old self.new }
     {
-        self.is_settled = self.core.tick(now, self.is_settled, changed, scratch);
+        let mut changed = false;
+        let settled = self.core.tick(now, self.is_settled, &mut changed, scratch);
+        self.is_settled = settled;
+        self.routes.note(changed);
+        self.snapshot.note(!settled);
     }
 
     /// The moment before which a tick changes nothing, as `babel_calls::next_due`.
     pub(crate) fn next_due(&self) -> u64
-        ensures idle { (now : ℕ) → now < result → ticked now self.now ≡ self.now }
-        ensures pending { self.now.pending.items ≢ [] → result ≡ 0 }
-        ensures current { 0 < result → AreCurrent self.now }
-        ensures deadline { self.now.pending.items ≡ [] → AreCurrent self.now → result ≡ next_deadline self.now }
+        ensures idle { (now : ℕ) → now < result → ticked now self.now.state ≡ self.now.state }
+        ensures pending { self.now.state.pending.items ≢ [] → result ≡ 0 }
+        ensures current { 0 < result → AreCurrent self.now.state }
+        ensures deadline { self.now.state.pending.items ≡ [] → AreCurrent self.now.state → result ≡ next_deadline self.now.state }
     {
         babel_calls::next_due(&self.core, self.is_settled)
     }
 
     /// Raises the speaker's own seqno by 1.
     pub(crate) fn raise(&mut self)
-        ensures { self.new ≡ raised self.old }
+        ensures state { self.new.state ≡ raised self.old.state }
+        ensures counted { CountsChanges self.old self.new }
     {
         self.is_settled = false;
         self.core.raise();
+        self.snapshot.note(true);
     }
 
     /// Sets the nominal cost of an interface.
     pub(crate) fn set_cost(&mut self, iface: u8, cost: u16) -> Result<(), SetCostFault>
-        ensures refused { IsOk result ↔ IsNone (set_cost_fault iface cost self.old) }
-        ensures cause { IfErr result (λ fault. set_cost_fault iface cost self.old ≡ Some fault) }
-        ensures ok { OnOk result (self.new ≡ cost_set iface cost self.old) }
+        ensures refused { IsOk result ↔ IsNone (set_cost_fault iface cost self.old.state) }
+        ensures cause { IfErr result (λ fault. set_cost_fault iface cost self.old.state ≡ Some fault) }
+        ensures ok { OnOk result (self.new.state ≡ cost_set iface cost self.old.state) }
         ensures err { OnErr result (self.new ≡ self.old) }
+        ensures counted { CountsChanges self.old self.new }
     {
         self.is_settled = false;
-        babel_calls::set_cost(&mut self.core, iface, cost)
+        match babel_calls::set_cost(&mut self.core, iface, cost) {
+            Ok(()) => {
+                self.routes.note(true);
+                Ok(())
+            }
+            Err(fault) => Err(fault),
+        }
     }
 
     /// Announces a prefix.
     pub(crate) fn announce(&mut self, prefix: &Prefix) -> Result<(), TooManyPrefixes>
-        ensures full { IsErr result ↔ (is_prefix_too_many prefix.now self.old ≡ true) }
-        ensures ok { OnOk result (self.new ≡ announced_also prefix.now self.old) }
+        ensures full { IsErr result ↔ (is_prefix_too_many prefix.now self.old.state ≡ true) }
+        ensures ok { OnOk result (self.new.state ≡ announced_also prefix.now self.old.state) }
         ensures err { OnErr result (self.new ≡ self.old) }
+        ensures counted { CountsChanges self.old self.new }
     {
         self.is_settled = false;
-        babel_calls::announce(&mut self.core, prefix)
+        match babel_calls::announce(&mut self.core, prefix) {
+            Ok(()) => {
+                self.routes.note(true);
+                Ok(())
+            }
+            Err(fault) => Err(fault),
+        }
     }
 
     /// Announces a prefix no longer.
     pub(crate) fn withdraw(&mut self, prefix: &Prefix) -> Result<(), NotAnnounced>
-        ensures unknown { IsErr result ↔ (announces prefix.now self.old ≡ false) }
-        ensures ok { OnOk result (self.new ≡ withdrawn prefix.now self.old) }
+        ensures unknown { IsErr result ↔ (announces prefix.now self.old.state ≡ false) }
+        ensures ok { OnOk result (self.new.state ≡ withdrawn prefix.now self.old.state) }
         ensures err { OnErr result (self.new ≡ self.old) }
+        ensures counted { CountsChanges self.old self.new }
     {
         self.is_settled = false;
-        babel_calls::withdraw(&mut self.core, prefix)
+        match babel_calls::withdraw(&mut self.core, prefix) {
+            Ok(()) => {
+                self.routes.note(true);
+                Ok(())
+            }
+            Err(fault) => Err(fault),
+        }
     }
 
     /// Takes the next datagram from the pending items, as `next_datagram`. If an Update in it changes the
-    /// feasibility distance of its source, the speaker may no longer be settled. If nothing is pending, nothing
-    /// changes.
+    /// feasibility distance of its source, the speaker may no longer be settled, and its snapshot has changed. If nothing is
+    /// pending, nothing changes.
     #[tactic(auto, using(crate::proofs::NoDatagrams::no_datagram, crate::proofs::NoDatagrams::silent_if_empty))]
     pub(crate) fn next_datagram(
         &mut self,
@@ -230,19 +283,23 @@ impl SettledCore {
         out: &mut ArrayVec<u8, DATAGRAM_LEN>,
         builder: &mut Builder,
     ) -> Option<Target>
-        ensures state { self.new ≡ (next_datagram now (fits_by self.old) self.old).state }
-        ensures target { result ≡ (next_datagram now (fits_by self.old) self.old).target }
-        ensures octets { IfSome result (λ target. are_encodable (next_datagram now (fits_by self.old) self.old).messages ≡ true → MeansFrom (transport_at target.iface self.old) out.new.items (next_datagram now (fits_by self.old) self.old).messages) }
+        ensures state { self.new.state ≡ (next_datagram now (fits_by self.old.state) self.old.state).state }
+        ensures target { result ≡ (next_datagram now (fits_by self.old.state) self.old.state).target }
+        ensures octets { IfSome result (λ target. are_encodable (next_datagram now (fits_by self.old.state) self.old.state).messages ≡ true → MeansFrom (transport_at target.iface self.old.state) out.new.items (next_datagram now (fits_by self.old.state) self.old.state).messages) }
+        ensures built { IfSome result (λ target. IsBuiltFrom (transport_at target.iface self.old.state) out.new.items (next_datagram now (fits_by self.old.state) self.old.state).messages) }
         ensures empty { IsNone result → out.new.items ≡ [] }
-        ensures none { HaveTransports self.old → (IsNone result ↔ (is_silent self.old ≡ true)) }
+        ensures none { HaveTransports self.old.state → (IsNone result ↔ (is_silent self.old.state ≡ true)) }
+        ensures counted { CountsChanges self.old self.new }
     {
         if self.core.pending_count() == 0 {
             out.clear();
             return None;
         }
         let mut settled = self.is_settled;
-        let target = next_datagram(&mut self.core, now, out, builder, &mut settled);
+        let mut lowered = false;
+        let target = next_datagram(&mut self.core, now, out, builder, &mut settled, &mut lowered);
         self.is_settled = settled;
+        self.snapshot.note(lowered);
         target
     }
 }

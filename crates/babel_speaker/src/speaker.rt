@@ -1,7 +1,7 @@
 //! The speaker: its calls, from moments and octets to octets. Each call's meaning is its definition in
 //! `babel_state`.
 
-ghost use Rattle.std.specs.Prelude.{◌≡◌, ◌≢◌, ◌≤◌, ◌<◌, ◌↔◌, ℕ, [], true, false, Ok, Some, length, slice_get, IsOk, IsErr, IsNone, IfOk, IfErr, IfSome, OnOk, OnErr, IsFalse, option_map};
+ghost use Rattle.std.specs.Prelude.{◌≡◌, ◌≢◌, ◌≤◌, ◌<◌, ◌↔◌, ℕ, [], true, false, Ok, Some, length, slice_get, IsOk, IsErr, IsNone, IfOk, IfErr, IfSome, OnOk, OnErr, option_map};
 ghost use Rattle.babel_packet.specs.Meaning.{meaning};
 ghost use Rattle.babel_route.specs.Selections.{prefix_after};
 ghost use Rattle.babel_state.specs.Addresses.{source_fault, transport_at};
@@ -26,14 +26,14 @@ ghost use Rattle.babel_snapshot.specs.Reading.{restore_fault, snapshot_in};
 ghost use Rattle.babel_snapshot.specs.SnapshotLaws.{IsRead};
 ghost use Rattle.babel_calls.specs.Deadlines.{next_deadline};
 ghost use Rattle.babel_calls.specs.Making.{IsMakingFault, IsRestoreFault};
-ghost use Rattle.babel_speaker.specs.Sending.{fits_by, MeansFrom};
+ghost use Rattle.babel_speaker.specs.Sending.{fits_by, IsBuiltFrom, MeansFrom};
+ghost use Rattle.babel_speaker.specs.Versions.{CountsChanges};
 
-use crate::SettledCore;
-use crate::decoded::decoded_are_encodable;
+use crate::decoded::{Decoded, decoded_are_encodable, is_encodable_again};
+use crate::settled::SettledCore;
 use arrayvec::ArrayVec;
 use babel_build::Builder;
 use babel_choice::{Entry, Selection};
-use babel_message::Placed;
 use babel_parts::Scratch;
 use babel_route::Trail;
 use babel_state::laws::{
@@ -52,6 +52,9 @@ use std::marker::Model;
 /// A speaker of the Babel routing protocol (RFC 8966). Moments are centiseconds that the caller
 /// passes.
 ///
+/// It counts how often its selected routes and its snapshot may have changed. A caller that reports the routes, or writes
+/// the snapshot to a disk, does so again only if the count is another, or `u64::MAX`.
+///
 /// Its state is well formed: tables are in order and within their room, costs are positive, and each
 /// selected route is an entry of the route table and a candidate.
 #[derive(Drop)]
@@ -65,15 +68,15 @@ pub struct Speaker {
 }
 
 impl Model for Speaker {
-    ghost use Rattle.babel_state.specs.State.{State};
+    ghost use Rattle.babel_speaker.specs.Versions.{SpeakerValue};
 
-    ghost Value = { State };
+    ghost Value = { SpeakerValue };
 
     ghost view = { λ s. s.core };
 
     ghost use Rattle.babel_state.specs.Invariants.{IsWellFormed};
 
-    ghost invariant = { λ s. IsWellFormed s.core };
+    ghost invariant = { λ s. IsWellFormed s.core.state };
 }
 
 impl Speaker {
@@ -83,11 +86,12 @@ impl Speaker {
     ///
     /// The first of C1 to C6 that the configuration has. C7 if it has none and an allocation fails.
     pub fn new(alloc: Global, config: Config) -> Result<Speaker, ConfigFault>
-        ensures ok { IfOk result (λ speaker. speaker ≡ first_state config) }
+        ensures ok { IfOk result (λ speaker. speaker.state ≡ first_state config) }
+        ensures counts { IfOk result (λ speaker. (speaker.routes_version ≡ 0) × (speaker.snapshot_version ≡ 0)) }
         ensures valid { IsOk result → IsNone (config_fault config) }
         ensures refused { IfErr result (λ fault. IsMakingFault (config_fault config) fault) }
-        ensures seen { IfOk result (λ speaker. IsNew config (seen speaker)) }
-        ensures current { IfOk result (λ speaker. AreCurrent speaker) }
+        ensures seen { IfOk result (λ speaker. IsNew config (seen speaker.state)) }
+        ensures current { IfOk result (λ speaker. AreCurrent speaker.state) }
     {
         Speaker::from_config(alloc, &config)
     }
@@ -98,11 +102,12 @@ impl Speaker {
     ///
     /// Those of [`Speaker::new`].
     pub fn from_config(alloc: Global, config: &Config) -> Result<Speaker, ConfigFault>
-        ensures ok { IfOk result (λ speaker. speaker ≡ first_state config.now) }
+        ensures ok { IfOk result (λ speaker. speaker.state ≡ first_state config.now) }
+        ensures counts { IfOk result (λ speaker. (speaker.routes_version ≡ 0) × (speaker.snapshot_version ≡ 0)) }
         ensures valid { IsOk result → IsNone (config_fault config.now) }
         ensures refused { IfErr result (λ fault. IsMakingFault (config_fault config.now) fault) }
-        ensures seen { IfOk result (λ speaker. IsNew config.now (seen speaker)) }
-        ensures current { IfOk result (λ speaker. AreCurrent speaker) }
+        ensures seen { IfOk result (λ speaker. IsNew config.now (seen speaker.state)) }
+        ensures current { IfOk result (λ speaker. AreCurrent speaker.state) }
     {
         selections_are_current();
         states_are_well_formed();
@@ -132,8 +137,8 @@ impl Speaker {
     ///
     /// `Memory`: an allocation failed.
     pub fn save(&self) -> Result<Vec<u8>, Memory>
-        ensures ok { IfOk result (λ octets. octets.items ≡ snapshot_octets (snapshot_of self.now)) }
-        ensures restorable { IfOk result (λ octets. IsRead self.now.router octets.items (snapshot_of self.now)) }
+        ensures ok { IfOk result (λ octets. octets.items ≡ snapshot_octets (snapshot_of self.now.state)) }
+        ensures restorable { IfOk result (λ octets. IsRead self.now.state.router octets.items (snapshot_of self.now.state)) }
     {
         let octets = babel_calls::save(&self.core.core, self.alloc)?;
         Ok(octets)
@@ -153,12 +158,13 @@ impl Speaker {
         now: u64,
         octets: &[u8],
     ) -> Result<Speaker, RestoreFault>
-        ensures ok { IfOk result (λ speaker. speaker ≡ restored now config (snapshot_in octets.now)) }
+        ensures ok { IfOk result (λ speaker. speaker.state ≡ restored now config (snapshot_in octets.now)) }
+        ensures counts { IfOk result (λ speaker. (speaker.routes_version ≡ 0) × (speaker.snapshot_version ≡ 0)) }
         ensures valid { IsOk result → IsNone (config_fault config) }
         ensures whole { IsOk result → IsNone (restore_fault config.router_id octets.now) }
         ensures refused { IfErr result (λ fault. IsRestoreFault (config_fault config) (restore_fault config.router_id octets.now) fault) }
-        ensures seen { IfOk result (λ speaker. IsRestartedFrom config (snapshot_in octets.now) speaker) }
-        ensures current { IfOk result (λ speaker. AreCurrent speaker) }
+        ensures seen { IfOk result (λ speaker. IsRestartedFrom config (snapshot_in octets.now) speaker.state) }
+        ensures current { IfOk result (λ speaker. AreCurrent speaker.state) }
     {
         Speaker::restore_from(alloc, &config, now, octets)
     }
@@ -174,12 +180,13 @@ impl Speaker {
         now: u64,
         octets: &[u8],
     ) -> Result<Speaker, RestoreFault>
-        ensures ok { IfOk result (λ speaker. speaker ≡ restored now config.now (snapshot_in octets.now)) }
+        ensures ok { IfOk result (λ speaker. speaker.state ≡ restored now config.now (snapshot_in octets.now)) }
+        ensures counts { IfOk result (λ speaker. (speaker.routes_version ≡ 0) × (speaker.snapshot_version ≡ 0)) }
         ensures valid { IsOk result → IsNone (config_fault config.now) }
         ensures whole { IsOk result → IsNone (restore_fault config.now.router_id octets.now) }
         ensures refused { IfErr result (λ fault. IsRestoreFault (config_fault config.now) (restore_fault config.now.router_id octets.now) fault) }
-        ensures seen { IfOk result (λ speaker. IsRestartedFrom config.now (snapshot_in octets.now) speaker) }
-        ensures current { IfOk result (λ speaker. AreCurrent speaker) }
+        ensures seen { IfOk result (λ speaker. IsRestartedFrom config.now (snapshot_in octets.now) speaker.state) }
+        ensures current { IfOk result (λ speaker. AreCurrent speaker.state) }
     {
         restarts_are_seen();
         let core = match SettledCore::restore(alloc, config, now, octets) {
@@ -208,32 +215,12 @@ impl Speaker {
         source: Addr,
         octets: &[u8],
     ) -> Result<Vec<Note>, RecvFault>
-        ensures ok { IfOk result (λ notes. Receives now (record { iface = iface; addr = source }) (source_fault iface source self.old) (meaning octets.now source) self.old self.new notes.items) }
-        ensures refused { IfErr result (λ fault. IsRecvFault (source_fault iface source self.old) (meaning octets.now source) fault) }
+        ensures ok { IfOk result (λ notes. Receives now (record { iface = iface; addr = source }) (source_fault iface source self.old.state) (meaning octets.now source) self.old.state self.new.state notes.items) }
+        ensures refused { IfErr result (λ fault. IsRecvFault (source_fault iface source self.old.state) (meaning octets.now source) fault) }
         ensures unchanged { OnErr result (self.new ≡ self.old) }
-        ensures moves { OnOk result (MovesByDatagram (record { iface = iface; addr = source }) (meaning octets.now source) self.old self.new) }
-        ensures current { OnOk result (KeepsCurrent self.old self.new) }
-    {
-        let mut changed = false;
-        self.receive_tracked(now, iface, source, octets, &mut changed)
-    }
-
-    /// The same. If `changed` is `false` then, the selected routes are reported as before: [`Speaker::selected`] returns
-    /// of each prefix what it returned.
-    pub fn receive_tracked(
-        &mut self,
-        now: u64,
-        iface: u8,
-        source: Addr,
-        octets: &[u8],
-        changed: &mut bool,
-    ) -> Result<Vec<Note>, RecvFault>
-        ensures ok { IfOk result (λ notes. Receives now (record { iface = iface; addr = source }) (source_fault iface source self.old) (meaning octets.now source) self.old self.new notes.items) }
-        ensures refused { IfErr result (λ fault. IsRecvFault (source_fault iface source self.old) (meaning octets.now source) fault) }
-        ensures unchanged { OnErr result (self.new ≡ self.old) }
-        ensures moves { OnOk result (MovesByDatagram (record { iface = iface; addr = source }) (meaning octets.now source) self.old self.new) }
-        ensures current { OnOk result (KeepsCurrent self.old self.new) }
-        ensures kept { IsFalse changed.new → KeepsRoutes self.old self.new }
+        ensures moves { OnOk result (MovesByDatagram (record { iface = iface; addr = source }) (meaning octets.now source) self.old.state self.new.state) }
+        ensures current { OnOk result (KeepsCurrent self.old.state self.new.state) }
+        ensures counted { CountsChanges self.old self.new }
     {
         calls_move();
         selections_stay_current();
@@ -246,42 +233,37 @@ impl Speaker {
             iface,
             source,
             octets,
-            changed,
             scratch,
             &mut self.trail,
         )
     }
 
-    /// The same for a datagram that is decoded already: `placed` is what `decode` returned.
+    /// The same for a datagram that is decoded already.
     pub fn receive_decoded(
         &mut self,
         now: u64,
         iface: u8,
-        source: Addr,
-        octets: &[u8],
-        placed: &[Placed],
-        changed: &mut bool,
+        decoded: &Decoded,
     ) -> Result<Vec<Note>, RecvFault>
-        requires decoded { meaning octets.now source ≡ Ok placed.now }
-        ensures ok { IfOk result (λ notes. Receives now (record { iface = iface; addr = source }) (source_fault iface source self.old) (meaning octets.now source) self.old self.new notes.items) }
-        ensures refused { IfErr result (IsRecvFault (source_fault iface source self.old) (meaning octets.now source)) }
+        ensures ok { IfOk result (λ notes. Receives now (record { iface = iface; addr = decoded.now.source }) (source_fault iface decoded.now.source self.old.state) (Ok decoded.now.placed) self.old.state self.new.state notes.items) }
+        ensures refused { IfErr result (λ fault. IsRecvFault (source_fault iface decoded.now.source self.old.state) (Ok decoded.now.placed) fault) }
         ensures unchanged { OnErr result (self.new ≡ self.old) }
-        ensures moves { OnOk result (MovesByDatagram (record { iface = iface; addr = source }) (meaning octets.now source) self.old self.new) }
-        ensures current { OnOk result (KeepsCurrent self.old self.new) }
-        ensures kept { IsFalse changed.new → KeepsRoutes self.old self.new }
+        ensures moves { OnOk result (MovesByDatagram (record { iface = iface; addr = decoded.now.source }) (Ok decoded.now.placed) self.old.state self.new.state) }
+        ensures current { OnOk result (KeepsCurrent self.old.state self.new.state) }
+        ensures counted { CountsChanges self.old self.new }
     {
         calls_move();
         selections_stay_current();
-        decoded_are_encodable(octets, &source);
+        is_encodable_again(decoded);
         let alloc = self.alloc;
+        let source = decoded.source();
         let scratch = &mut self.scratch;
         self.core.receive_decoded(
             alloc,
             now,
             iface,
             source,
-            placed,
-            changed,
+            decoded.placed(),
             scratch,
             &mut self.trail,
         )
@@ -289,25 +271,15 @@ impl Speaker {
 
     /// Takes all deadlines that are due (RFC 8966, sections 3.2.5, 3.4, 3.5.4, 3.7.1 and 3.8.2.1).
     pub fn tick(&mut self, now: u64)
-        ensures state { self.new ≡ ticked now self.old }
-        ensures moves { MovesAlone 0 (seen self.old).announces self.old self.new }
-        ensures current { self.old.collects ≡ false → AreCurrent self.new }
-    {
-        let mut changed = false;
-        self.tick_tracked(now, &mut changed);
-    }
-
-    /// The same. If `changed` is `false` then, the selected routes are reported as before.
-    pub fn tick_tracked(&mut self, now: u64, changed: &mut bool)
-        ensures state { self.new ≡ ticked now self.old }
-        ensures moves { MovesAlone 0 (seen self.old).announces self.old self.new }
-        ensures current { self.old.collects ≡ false → AreCurrent self.new }
-        ensures kept { IsFalse changed.new → KeepsRoutes self.old self.new }
+        ensures state { self.new.state ≡ ticked now self.old.state }
+        ensures moves { MovesAlone 0 (seen self.old.state).announces self.old.state self.new.state }
+        ensures current { self.old.state.collects ≡ false → AreCurrent self.new.state }
+        ensures counted { CountsChanges self.old self.new }
     {
         states_are_well_formed();
         calls_move();
         selections_are_current();
-        self.core.tick(now, changed, &mut self.scratch);
+        self.core.tick(now, &mut self.scratch);
     }
 
     /// The moment before which a tick changes nothing: until then a caller need only wait for datagrams.
@@ -319,19 +291,20 @@ impl Speaker {
     /// It is one walk over these tables, and takes no memory. If the speaker isn't known to be settled, which is
     /// rare after a tick, it also tests the selection of each prefix.
     pub fn next_due(&self) -> u64
-        ensures idle { (now : ℕ) → now < result → ticked now self.now ≡ self.now }
-        ensures pending { self.now.pending.items ≢ [] → result ≡ 0 }
-        ensures current { 0 < result → AreCurrent self.now }
-        ensures deadline { self.now.pending.items ≡ [] → AreCurrent self.now → result ≡ next_deadline self.now }
+        ensures idle { (now : ℕ) → now < result → ticked now self.now.state ≡ self.now.state }
+        ensures pending { self.now.state.pending.items ≢ [] → result ≡ 0 }
+        ensures current { 0 < result → AreCurrent self.now.state }
+        ensures deadline { self.now.state.pending.items ≡ [] → AreCurrent self.now.state → result ≡ next_deadline self.now.state }
     {
         self.core.next_due()
     }
 
     /// Raises the speaker's own seqno by 1 (RFC 8966, section 3.2.2). Nothing is queued.
     pub fn raise(&mut self)
-        ensures state { self.new ≡ raised self.old }
-        ensures moves { MovesAlone 1 (seen self.old).announces self.old self.new }
-        ensures current { KeepsCurrent self.old self.new }
+        ensures state { self.new.state ≡ raised self.old.state }
+        ensures moves { MovesAlone 1 (seen self.old.state).announces self.old.state self.new.state }
+        ensures current { KeepsCurrent self.old.state self.new.state }
+        ensures counted { CountsChanges self.old self.new }
     {
         states_are_well_formed();
         calls_move();
@@ -341,12 +314,13 @@ impl Speaker {
 
     /// Sets the nominal cost of an interface (RFC 8966, appendix A.2.1): E1 or E2 is the first cause.
     pub fn set_cost(&mut self, iface: u8, cost: u16) -> Result<(), SetCostFault>
-        ensures refused { IsOk result ↔ IsNone (set_cost_fault iface cost self.old) }
-        ensures cause { IfErr result (λ fault. set_cost_fault iface cost self.old ≡ Some fault) }
-        ensures ok { OnOk result (self.new ≡ cost_set iface cost self.old) }
+        ensures refused { IsOk result ↔ IsNone (set_cost_fault iface cost self.old.state) }
+        ensures cause { IfErr result (λ fault. set_cost_fault iface cost self.old.state ≡ Some fault) }
+        ensures ok { OnOk result (self.new.state ≡ cost_set iface cost self.old.state) }
         ensures err { OnErr result (self.new ≡ self.old) }
-        ensures moves { OnOk result (MovesAlone 0 (seen self.old).announces self.old self.new) }
-        ensures current { OnOk result (KeepsCurrent self.old self.new) }
+        ensures moves { OnOk result (MovesAlone 0 (seen self.old.state).announces self.old.state self.new.state) }
+        ensures current { OnOk result (KeepsCurrent self.old.state self.new.state) }
+        ensures counted { CountsChanges self.old self.new }
     {
         states_are_well_formed();
         calls_move();
@@ -357,11 +331,12 @@ impl Speaker {
     /// Announces a prefix (RFC 8966, section 3.7): E3 if and only if it is new and 64 others are
     /// announced.
     pub fn announce(&mut self, prefix: Prefix) -> Result<(), TooManyPrefixes>
-        ensures full { IsErr result ↔ (is_prefix_too_many prefix self.old ≡ true) }
-        ensures ok { OnOk result (self.new ≡ announced_also prefix self.old) }
+        ensures full { IsErr result ↔ (is_prefix_too_many prefix self.old.state ≡ true) }
+        ensures ok { OnOk result (self.new.state ≡ announced_also prefix self.old.state) }
         ensures err { OnErr result (self.new ≡ self.old) }
-        ensures moves { OnOk result (MovesAlone 0 (announcing_also prefix (seen self.old)) self.old self.new) }
-        ensures current { OnOk result (KeepsCurrent self.old self.new) }
+        ensures moves { OnOk result (MovesAlone 0 (announcing_also prefix (seen self.old.state)) self.old.state self.new.state) }
+        ensures current { OnOk result (KeepsCurrent self.old.state self.new.state) }
+        ensures counted { CountsChanges self.old self.new }
     {
         states_are_well_formed();
         calls_move();
@@ -371,11 +346,12 @@ impl Speaker {
 
     /// Announces a prefix no longer: E4 if and only if it isn't announced.
     pub fn withdraw(&mut self, prefix: Prefix) -> Result<(), NotAnnounced>
-        ensures unknown { IsErr result ↔ (announces prefix self.old ≡ false) }
-        ensures ok { OnOk result (self.new ≡ withdrawn prefix self.old) }
+        ensures unknown { IsErr result ↔ (announces prefix self.old.state ≡ false) }
+        ensures ok { OnOk result (self.new.state ≡ withdrawn prefix self.old.state) }
         ensures err { OnErr result (self.new ≡ self.old) }
-        ensures moves { OnOk result (MovesAlone 0 (announcing_without prefix (seen self.old)) self.old self.new) }
-        ensures current { OnOk result (KeepsCurrent self.old self.new) }
+        ensures moves { OnOk result (MovesAlone 0 (announcing_without prefix (seen self.old.state)) self.old.state self.new.state) }
+        ensures current { OnOk result (KeepsCurrent self.old.state self.new.state) }
+        ensures counted { CountsChanges self.old self.new }
     {
         states_are_well_formed();
         calls_move();
@@ -391,16 +367,18 @@ impl Speaker {
         now: u64,
         out: &mut ArrayVec<u8, DATAGRAM_LEN>,
     ) -> Option<Target>
-        ensures state { self.new ≡ (next_datagram now (fits_by self.old) self.old).state }
-        ensures target { result ≡ (next_datagram now (fits_by self.old) self.old).target }
-        ensures octets { IfSome result (λ target. MeansFrom (transport_at target.iface self.old) out.new.items (next_datagram now (fits_by self.old) self.old).messages) }
+        ensures state { self.new.state ≡ (next_datagram now (fits_by self.old.state) self.old.state).state }
+        ensures target { result ≡ (next_datagram now (fits_by self.old.state) self.old.state).target }
+        ensures octets { IfSome result (λ target. MeansFrom (transport_at target.iface self.old.state) out.new.items (next_datagram now (fits_by self.old.state) self.old.state).messages) }
+        ensures built { IfSome result (λ target. IsBuiltFrom (transport_at target.iface self.old.state) out.new.items (next_datagram now (fits_by self.old.state) self.old.state).messages) }
         ensures empty { IsNone result → out.new.items ≡ [] }
-        ensures sends { IfSome result (λ target. Sends target.iface (updates_among (next_datagram now (fits_by self.old) self.old).messages) (seen self.old) (seen self.new)) }
-        ensures unseen { IsNone result → seen self.new ≡ seen self.old }
-        ensures none { IsNone result ↔ (is_silent self.old ≡ true) }
-        ensures selections { KeepsSelections self.old self.new }
-        ensures kept { KeepsRoutes self.old self.new }
-        ensures half { (first : ℕ) (prefix : PrefixValue) → AreInHalf first prefix self.old → IsCurrentAt prefix self.old → IsCurrentAt prefix self.new }
+        ensures sends { IfSome result (λ target. Sends target.iface (updates_among (next_datagram now (fits_by self.old.state) self.old.state).messages) (seen self.old.state) (seen self.new.state)) }
+        ensures unseen { IsNone result → seen self.new.state ≡ seen self.old.state }
+        ensures none { IsNone result ↔ (is_silent self.old.state ≡ true) }
+        ensures selections { KeepsSelections self.old.state self.new.state }
+        ensures kept { KeepsRoutes self.old.state self.new.state }
+        ensures half { (first : ℕ) (prefix : PrefixValue) → AreInHalf first prefix self.old.state → IsCurrentAt prefix self.old.state → IsCurrentAt prefix self.new.state }
+        ensures counted { CountsChanges self.old self.new }
     {
         states_are_well_formed();
         datagrams_send();
@@ -412,21 +390,21 @@ impl Speaker {
     /// The selected route of the prefix, with its metric by the present cost of the link (RFC 8966,
     /// section 3.6).
     pub fn selected(&self, prefix: &Prefix) -> Option<Selected>
-        ensures { result ≡ selected_route prefix.now self.now }
+        ensures { result ≡ selected_route prefix.now self.now.state }
     {
         babel_calls::selected_route(&self.core.core, prefix)
     }
 
     /// The selection whose prefix has exactly `place` lesser ones among the selections' prefixes.
     pub fn selection_at(&self, place: usize) -> Option<(Prefix, Selection)>
-        ensures { result ≡ slice_get self.now.routes.selections place }
+        ensures { result ≡ slice_get self.now.state.routes.selections place }
     {
         self.core.core.selection_at(place)
     }
 
     /// The cost of the link to a neighbour, as of now: infinite if it is none (RFC 8966, section 3.4.3).
     pub fn cost(&self, peer: &Peer) -> Metric
-        ensures { result ≡ cost_at self.now peer.now }
+        ensures { result ≡ cost_at self.now.state peer.now }
     {
         self.core.core.cost(peer)
     }
@@ -434,14 +412,14 @@ impl Speaker {
     /// The least prefix greater than the one given that has an entry in the route table, or a selected
     /// route. With none given, the least of all.
     pub fn next_prefix(&self, after: Option<&Prefix>) -> Option<Prefix>
-        ensures { result ≡ prefix_after (option_map (λ prefix. prefix.now) after.entry) self.now.routes }
+        ensures { result ≡ prefix_after (option_map (λ prefix. prefix.now) after.entry) self.now.state.routes }
     {
         self.core.core.next_prefix(after)
     }
 
     /// The feasibility distance of a source, if it has one (RFC 8966, section 3.2.5).
     pub fn source(&self, source: &Source) -> Option<Distance>
-        ensures { result ≡ pair_at source.now.prefix source.now.router self.now }
+        ensures { result ≡ pair_at source.now.prefix source.now.router self.now.state }
     {
         self.core.core.pair(source)
     }
@@ -449,35 +427,53 @@ impl Speaker {
     /// The entry of the prefix that exactly `index` others come before, with its neighbour and the cost
     /// of the link to that.
     pub fn entry(&self, prefix: &Prefix, index: usize) -> Option<(Peer, Entry, Metric)>
-        ensures { result ≡ slice_get (reported_entries prefix.now self.now) index }
+        ensures { result ≡ slice_get (reported_entries prefix.now self.now.state) index }
     {
         babel_calls::reported_entry(&self.core.core, prefix, index)
     }
 
     /// Whether the speaker announces the prefix itself.
     pub fn announced(&self, prefix: &Prefix) -> bool
-        ensures { result ≡ announces prefix.now self.now }
+        ensures { result ≡ announces prefix.now self.now.state }
     {
         self.core.core.announces(prefix)
     }
 
     /// The own address from which datagrams of the interface are sent, if the interface exists.
     pub fn transport(&self, iface: u8) -> Option<Addr>
-        ensures { result ≡ transport_at iface self.now }
+        ensures { result ≡ transport_at iface self.now.state }
     {
         babel_calls::transport(&self.core.core, iface)
     }
 
+    /// A count that grows whenever a selected route may be reported otherwise. As long as it is the same, and below
+    /// `u64::MAX`, [`Speaker::selected`] returns of each prefix what it returned. At `u64::MAX` it can't grow, so the routes
+    /// may have changed. A new speaker's is 0.
+    pub fn routes_version(&self) -> u64
+        ensures { result ≡ self.now.routes_version }
+    {
+        self.core.routes.count()
+    }
+
+    /// A count that grows whenever what [`Speaker::save`] keeps may have changed. As long as it is the same, and below
+    /// `u64::MAX`, the snapshot is the same. At `u64::MAX` it can't grow, so the snapshot may have changed. A new
+    /// speaker's is 0, and so is that of one that was restored.
+    pub fn snapshot_version(&self) -> u64
+        ensures { result ≡ self.now.snapshot_version }
+    {
+        self.core.snapshot.count()
+    }
+
     /// How often the speaker's own seqno grew.
     pub fn raises(&self) -> u64
-        ensures { result ≡ self.now.raises }
+        ensures { result ≡ self.now.state.raises }
     {
         self.core.core.raises()
     }
 
     /// How many items are pending, at most 4,096.
     pub fn pending_count(&self) -> usize
-        ensures count { result ≡ length self.now.pending.items }
+        ensures count { result ≡ length self.now.state.pending.items }
         ensures few { result ≤ most_pending }
     {
         self.core.core.pending_count()
@@ -485,21 +481,21 @@ impl Speaker {
 
     /// How many entries the route table has.
     pub fn route_count(&self) -> usize
-        ensures { result ≡ length self.now.routes.entries }
+        ensures { result ≡ length self.now.state.routes.entries }
     {
         self.core.core.route_count()
     }
 
     /// How many pending items were dropped since there was no room.
     pub fn dropped(&self) -> u64
-        ensures { result ≡ self.now.pending.dropped }
+        ensures { result ≡ self.now.state.pending.dropped }
     {
         self.core.core.dropped()
     }
 
     /// How many Updates were left out since the source table had no room.
     pub fn left_out(&self) -> u64
-        ensures { result ≡ self.now.left_out }
+        ensures { result ≡ self.now.state.left_out }
     {
         self.core.core.left_out()
     }

@@ -5,7 +5,7 @@ use Rattle.std.proofs.lemmas.List.Sums.{sum_by_push}
 use Rattle.babel_state.specs.declared.items.Target.{Target}
 use Rattle.babel_state.specs.Addresses.{transport_at}
 use Rattle.babel_state.specs.State.{State}
-use Rattle.babel_speaker.specs.Sending.{MeansFrom}
+use Rattle.babel_speaker.specs.Sending.{IsBuiltFrom, MeansFrom}
 use Rattle.babel_wire.specs.declared.errors.WireFault.{WireFault}
 use Rattle.babel_wire.specs.declared.report.Report.{Report}
 use Rattle.babel_wire.specs.Calls.{Call, Send, Sending, Grows, call_of_send, sending_of, failures}
@@ -67,15 +67,17 @@ pub sending_goes : (count now : ℕ) (old : State) (h : Option (List Call)) (mid
     AreSentSoFar count now old h mid h1 r →
     Some target ≡ (draft_at now mid).target →
     MeansFrom (transport_at target.iface mid) out (draft_at now mid).messages →
+    IsBuiltFrom (transport_at target.iface mid) out (draft_at now mid).messages →
     octets ≡ out → new ≡ (draft_at now mid).state →
     Grows h1 (call_of_send target octets result ∷ []) h2 → q ≡ counted r (sending_of target octets result) →
     AreSentSoFar (count + 1) now old h new h2 q
-sending_goes count now old h mid h1 r target out octets new result h2 q so goes means same state grows counts = record {
+sending_goes count now old h mid h1 r target out octets new result h2 q so goes means built same state grows counts = record {
   sendings = so.sendings ++ sending_of target octets result ∷ [];
   so_many = length-append so.sendings (sending_of target octets result ∷ []) ∙ ap (λ n. n + 1) so.so_many;
   each = subst (λ s. AreSent now old (so.sendings ++ sending_of target octets result ∷ []) s) (sym state) (sent_more now old mid so.sendings (sending_of target octets result) so.each (record {
     target = sym goes;
     octets = subst (λ o. MeansFrom (transport_at target.iface mid) o (draft_at now mid).messages) (sym same) means;
+    built = subst (λ o. IsBuiltFrom (transport_at target.iface mid) o (draft_at now mid).messages) (sym same) built;
   }));
   calls = subst (λ cs. Grows h cs h2) (sym (map-append Send so.sendings (sending_of target octets result ∷ []))) (grows_more h (map Send so.sendings) h1 (Send (sending_of target octets result) ∷ []) h2 so.calls grows);
   counts = counts ∙ ap (λ r. counted r (sending_of target octets result)) so.counts ∙ counted_more so.sendings (sending_of target octets result);

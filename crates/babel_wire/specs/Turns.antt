@@ -8,7 +8,7 @@ use Rattle.babel_state.specs.Messages as messages
 use Rattle.babel_state.specs.NextDatagram.{Draft, next_datagram}
 use Rattle.babel_state.specs.State.{State}
 use Rattle.babel_state.specs.Ticks.{ticked}
-use Rattle.babel_speaker.specs.Sending.{fits_by, MeansFrom}
+use Rattle.babel_speaker.specs.Sending.{fits_by, IsBuiltFrom, MeansFrom}
 use Rattle.babel_wire.specs.declared.report.Report.{Report}
 use Rattle.babel_wire.specs.Calls.{Receipt, Nothing, Failed, Datagram, Sending, Call, Recv, Now, Send, Grows}
 
@@ -44,10 +44,12 @@ Receives now Failed is_refused old new = (is_refused ≡ false) × (new ≡ old)
 abbrev pub draft_at : ℕ → State → Draft
 draft_at now s = next_datagram now (fits_by s) s
 
--- It is what the wire was given to send: it has its target, and its messages are the meaning of the octets.
+-- It is what the wire was given to send: it has its target, and its messages are the meaning of the octets. These are the ones that the
+-- builder makes of the messages, and no others.
 pub record IsDraftSent (now : ℕ) (s : State) (sending : Sending) : Type 0 where
   pub target : (draft_at now s).target ≡ Some sending.target
   pub octets : MeansFrom (transport_at sending.target.iface s) sending.octets (draft_at now s).messages
+  pub built : IsBuiltFrom (transport_at sending.target.iface s) sending.octets (draft_at now s).messages
 
 -- The state after these datagrams were taken one after another.
 abbrev pub AreSent : ℕ → State → List Sending → State → Type 0

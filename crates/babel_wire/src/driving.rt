@@ -21,7 +21,7 @@ const MAX_SENDS: usize = 64;
 /// `buf` takes the datagrams that come.
 pub fn drive<W: Wire>(speaker: &mut Speaker, wire: &mut W, buf: &mut [u8], turns: u32) -> Report
     requires { W.fault_count wire.old ≤ 2 ^ 63 }
-    ensures run { IsRun turns speaker.old (W.history wire.old) speaker.new (W.history wire.new) result }
+    ensures run { IsRun turns speaker.old.state (W.history wire.old) speaker.new.state (W.history wire.new) result }
     ensures faults { W.fault_count wire.new ≡ W.fault_count wire.old + result.faults }
     ensures received_at_most { result.received ≤ turns }
     ensures sent_at_most { result.sent ≤ max_sends * turns }
@@ -48,7 +48,7 @@ fn run_turn<W: Wire>(
     out: &mut ArrayVec<u8, DATAGRAM_LEN>,
 ) -> Report
     requires { W.fault_count wire.old + (max_sends + 1) < 2 ^ 64 }
-    ensures turn { IsOneTurn speaker.old (W.history wire.old) speaker.new (W.history wire.new) result }
+    ensures turn { IsOneTurn speaker.old.state (W.history wire.old) speaker.new.state (W.history wire.new) result }
     ensures faults { W.fault_count wire.new ≡ W.fault_count wire.old + result.faults }
     ensures received_at_most { result.received ≤ 1 }
     ensures sent_at_most { result.sent ≤ max_sends }
@@ -76,7 +76,7 @@ fn receive(
     buf: &[u8],
 ) -> Report
     requires { IsWithin came buf.now }
-    ensures { IsReceived now (receipt_of came buf.now) speaker.old speaker.new result }
+    ensures { IsReceived now (receipt_of came buf.now) speaker.old.state speaker.new.state result }
 {
     match came {
         Err(WireFault) => Report {
@@ -98,7 +98,7 @@ fn receive(
 
 /// Passes a datagram to the speaker, and returns whether it was refused.
 fn receive_datagram(speaker: &mut Speaker, now: u64, iface: u8, source: Addr, octets: &[u8]) -> bool
-    ensures { Receives now (Datagram iface source octets.now) result speaker.old speaker.new }
+    ensures { Receives now (Datagram iface source octets.now) result speaker.old.state speaker.new.state }
 {
     speaker.receive(now, iface, source, octets).is_err()
 }
@@ -111,7 +111,7 @@ fn send_pending<W: Wire>(
     out: &mut ArrayVec<u8, DATAGRAM_LEN>,
 ) -> Report
     requires { W.fault_count wire.old + max_sends < 2 ^ 64 }
-    ensures sends { IsSent now speaker.old (W.history wire.old) speaker.new (W.history wire.new) result }
+    ensures sends { IsSent now speaker.old.state (W.history wire.old) speaker.new.state (W.history wire.new) result }
     ensures faults { W.fault_count wire.new ≡ W.fault_count wire.old + result.faults }
     ensures at_most { result.sent + result.faults ≤ max_sends }
 {

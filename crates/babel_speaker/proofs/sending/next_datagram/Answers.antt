@@ -7,7 +7,8 @@ use Rattle.babel_state.specs.declared.interfaces.InterfaceEntry.{InterfaceEntry}
 use Rattle.babel_state.specs.NextDatagram.{Draft, next_datagram, drafted}
 use Rattle.babel_speaker.specs.Sending.{fits_by, fits_at, draft_to, empty_datagram, built_of, IsFilled}
 use Rattle.babel_calls.specs.SentMessages.{no_draft}
-use Rattle.babel_speaker.proofs.NextDatagrams.{silent_if_none, speaks_if_some, transport_there, next_none, next_stays, next_begins, first_added, filled_means, alone_encoded}
+use Rattle.babel_speaker.proofs.NextDatagrams.{silent_if_none, speaks_if_some, transport_there, next_none, next_stays, next_begins, first_added, filled_means, filled_built, alone_encoded}
+use Rattle.babel_speaker.proofs.Snapshots.{removed_snapshot}
 use Rattle.babel_speaker.proofs.sending.next_datagram.Goals as goal
 
 pub returns-in_default-clause-state : goal.returns-in_default-clause-state
@@ -56,6 +57,23 @@ pub returns-clause-octets : goal.returns-clause-octets
 returns-clause-octets c =
     filled_means c.in-Some-transport.source _ (c.in-Some.message ∷ []) c.in-Some.target _ _ c.fill.new.core c.add.new.self c.fill.new.builder c.write_to.new.out.items (filled c) (next c) (at c)
     (alone_encoded c.add.new.self c.in-Some.message (c.add.ensures.decoded [] c.begin.ensures.silent (c.add.ensures.alone (ap (λ (b : Built). b.body) c.begin.ensures.empty)))) c.write_to.ensures.means
+
+pub returns-clause-built : goal.returns-clause-built
+returns-clause-built c =
+    filled_built c.in-Some-transport.source _ (c.in-Some.message ∷ []) c.in-Some.target _ _ c.fill.new.core c.add.new.self c.fill.new.builder c.write_to.new.out.items (filled c) (next c) (at c)
+    c.write_to.ensures.octets
+
+pub returns-clause-saved : goal.returns-clause-saved
+returns-clause-saved c = λ same.
+    c.fill.ensures.saved same
+    ∙ removed_snapshot c.send_message.new.core c.remove_first_item.new.core c.args.core.now c.remove_first_item.ensures
+        (c.send_message.ensures.saved (c.fill.ensures.marked same) ∙ c.skip_silent.ensures.saved.same)
+
+pub returns-in_default-clause-saved : goal.returns-in_default-clause-saved
+returns-in_default-clause-saved c = λ same. c.skip_silent.ensures.saved.same
+
+pub returns-in_default-transport-clause-saved : goal.returns-in_default-transport-clause-saved
+returns-in_default-transport-clause-saved c = λ same. c.skip_silent.ensures.saved.same
 
 pub returns-in_default-clause-none : goal.returns-in_default-clause-none
 returns-in_default-clause-none c = λ transports. (

@@ -2,14 +2,15 @@ use Rattle.babel_state.specs.Seen.{seen, announcing_also}
 use Rattle.babel_state.specs.SeenLaws.{MovesAlone}
 use Rattle.babel_state.specs.CurrentSelections.{KeepsCurrent}
 use Rattle.babel_speaker.proofs.CallLaws.{through_ok, false_if_ok}
+use Rattle.babel_speaker.proofs.Counting.{state_of}
 use Rattle.babel_speaker.proofs.speaker.Speaker.announce.Goals as goal
 
 pub returns-clause-moves : goal.returns-clause-moves
 returns-clause-moves c =
-    through_ok (λ o t. MovesAlone 0 (announcing_also c.args.prefix (seen o)) o t) c.announce.result c.args.self.now c.self.inside.core c.announce.new.self _ c.self.view_is c.announce.ensures.ok
-    (λ ok. c.calls_move.ensures.announce c.args.prefix c.self.inside.core (false_if_ok c.announce.result _ c.announce.ensures.full ok) c.self.invariant)
+    through_ok (λ o t. MovesAlone 0 (announcing_also c.args.prefix (seen o)) o t) c.announce.result c.args.self.now.state c.self.inside.core.state c.announce.new.self.state _ (state_of _ _ c.self.view_is) c.announce.ensures.ok
+    (λ ok. c.calls_move.ensures.announce c.args.prefix c.self.inside.core.state (false_if_ok c.announce.result _ c.announce.ensures.full ok) c.self.invariant)
 
 pub returns-clause-current : goal.returns-clause-current
 returns-clause-current c =
-    through_ok KeepsCurrent c.announce.result c.args.self.now c.self.inside.core c.announce.new.self _ c.self.view_is c.announce.ensures.ok
-    (λ ok. c.selections_stay_current.ensures.announce c.args.prefix c.self.inside.core c.self.invariant.tables.routes.entries_in_order)
+    through_ok KeepsCurrent c.announce.result c.args.self.now.state c.self.inside.core.state c.announce.new.self.state _ (state_of _ _ c.self.view_is) c.announce.ensures.ok
+    (λ ok. c.selections_stay_current.ensures.announce c.args.prefix c.self.inside.core.state c.self.invariant.tables.routes.entries_in_order)
