@@ -6,12 +6,12 @@ use crate::help;
 use crate::noting::NotingWriter;
 use crate::opening::{open_config_and_snapshot, restore_arg};
 use crate::speaking::{run_speak, speak_command};
-use babel_check::try_check;
+use babel_commands::try_check;
 use babel_config::FileFault;
-use babel_faults::{Fault, report};
-use babel_hops::try_net;
-use babel_report::{NamedLog, try_explain, try_replay, try_replay_explained};
-use babel_show::{
+use babel_commands::{Fault, report_fault};
+use babel_commands::try_net;
+use babel_commands::{NamedLog, try_explain, try_replay, try_replay_explained};
+use babel_commands::{
     BadLines, Details, LineOptions, Status, show_lines, try_show, try_show_explained,
 };
 use babel_text::LineFault;
@@ -63,7 +63,7 @@ pub(crate) fn report_arguments<E: Write>(error: ArgumentsError, err: &mut E) -> 
             let _ = writeln!(err, "babel: the command line isn't UTF-8");
             Status::Usage
         }
-        ArgumentsError::Memory => babel_show::report(LineFault::Memory, err),
+        ArgumentsError::Memory => babel_commands::report(LineFault::Memory, err),
     }
 }
 
@@ -80,7 +80,7 @@ where
 {
     match try_run(rt, arguments, input, out, err) {
         Ok(status) => status,
-        Err(fault) => babel_show::report(fault, err),
+        Err(fault) => babel_commands::report(fault, err),
     }
 }
 
@@ -169,7 +169,7 @@ where
             status
         }
         Err(fault) => {
-            let status = report(fault, err);
+            let status = report_fault(fault, err);
             if details == Details::Shown {
                 let _ = match out.get_ref().failure() {
                     Some(failure) if is_of_writing(fault) => explain_output(failure, err),

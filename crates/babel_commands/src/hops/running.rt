@@ -1,11 +1,11 @@
 //! `babel net SCENARIO`.
 
-use crate::hops::Hops;
+use crate::hops::hops::Hops;
 use babel_config::{Scenario, read_file, read_scenario};
-use babel_faults::{Fault, end};
+use crate::faults::{Fault, end};
 use babel_net::{Event, StepFault};
 use babel_network::Network;
-use babel_show::Status;
+use crate::showing::Status;
 use babel_text::LineFault;
 use std::alloc::Global;
 use std::io::{Read, Write};

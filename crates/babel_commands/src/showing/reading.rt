@@ -1,6 +1,6 @@
 //! The lines of the input, and their fields.
 
-use crate::one::read_source;
+use crate::showing::one::read_source;
 use babel_text::{LineFault, MAX_LINE_LEN};
 use babel_value::Addr;
 use std::io::{BufRead, BufReader, Read, Write};

@@ -1,9 +1,9 @@
 //! `babel show --stdin`: what many datagrams mean, one a line.
 
-use crate::explaining::{Origin, explain_meaning};
-use crate::one::{read_source, write_meaning};
-use crate::reading::{flush_before_waiting, is_skipped, parse_line, read_line, skip_line};
-use crate::{Details, LineCode, READ_LEN, Status, refuse, report};
+use crate::showing::explaining::{Origin, explain_meaning};
+use crate::showing::one::{read_source, write_meaning};
+use crate::showing::reading::{flush_before_waiting, is_skipped, parse_line, read_line, skip_line};
+use crate::showing::{Details, LineCode, READ_LEN, Status, refuse, report};
 use babel_line_details::{LineDetail, LineProblem, SeenCodes, explain_shown_line};
 use babel_message::{Placed, Refusal};
 use babel_packet::decode;

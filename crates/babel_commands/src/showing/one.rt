@@ -1,7 +1,7 @@
 //! `babel show HEX`: what one datagram means.
 
-use crate::explaining::{Origin, explain_meaning};
-use crate::{Status, report};
+use crate::showing::explaining::{Origin, explain_meaning};
+use crate::showing::{Status, report};
 use babel_line_details::SeenCodes;
 use babel_message::{Placed, Refusal};
 use babel_packet::decode;

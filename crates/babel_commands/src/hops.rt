@@ -1,5 +1,4 @@
 //! The command `net`: the next hops of a network after each event of a scenario.
-#![tactic(auto)]
 
 mod hops;
 mod running;

@@ -1,6 +1,6 @@
 //! How a fault of a command is written.
 
-use crate::Status;
+use crate::showing::Status;
 use babel_text::LineFault;
 use std::fmt;
 use std::io::Write;

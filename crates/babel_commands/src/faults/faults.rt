@@ -3,7 +3,7 @@
 use babel_config::FileFault;
 use babel_net::{NetFault, StepFault};
 use babel_replay::ReplayFault;
-use babel_show::LineCode;
+use crate::showing::LineCode;
 use babel_snapshot_file::{RestoreCode, SnapshotFileFault};
 use babel_state::{ConfigFault, RestoreFault};
 use babel_text::LineFault;

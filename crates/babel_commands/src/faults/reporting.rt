@@ -1,7 +1,7 @@
 //! How a fault is written.
 
-use crate::Fault;
-use babel_show::{Status, refuse};
+use crate::faults::Fault;
+use crate::showing::{Status, refuse};
 use std::io::Write;
 
 /// Writes `babel: ` and the code of the fault. A refused event is a line of the output already.
