@@ -6,9 +6,10 @@ use Rattle.babel_state.specs.Restarts.{Snapshot, restored, restarted}
 use Rattle.babel_state.specs.State.{State}
 use Rattle.babel_snapshot.specs.Reading.{snapshot_in}
 use Rattle.babel_wire.specs.Calls.{Sending, Call}
+use Rattle.babel_wire.specs.Turns.{Turn}
 use Rattle.babel_durable.specs.Keeping.{DurableTurn, AreDurableTurns, calls_of}
 use Rattle.babel_durable.specs.Cuts.{File, IsCutOf, IsOnDisk, IsLastTried, on_disk, sent_in}
-use Rattle.babel_durable.specs.Lives.{IsCovered, Process, AreProcesses, AreReached, disk_after, sent_by}
+use Rattle.babel_durable.specs.Lives.{IsCovered, Process, AreProcesses, AreReached, disk_after, made_by, sent_by}
 
 -- Turns, and then more of them.
 abbrev pub DurableTurnsGoOn : Type 0
@@ -41,11 +42,11 @@ FilesAreLastTried = (files : List File) (calls : List Call) (file : File) → Co
 abbrev pub ProcessesAreCovered : Type 0
 ProcessesAreCovered =
     (config : Config) (processes : List Process) → AreProcesses config (None ∷ []) processes →
-    AreReached config (first_state config) (sent_by processes) (disk_after (None ∷ []) processes)
+    AreReached config (first_state config) (made_by processes) (sent_by processes) (disk_after (None ∷ []) processes)
 
 -- So it goes on from any files that are reached.
 abbrev pub ProcessesStayCovered : Type 0
 ProcessesStayCovered =
-    (config : Config) (first : State) (sent : List Sending) (files : List File) (processes : List Process) →
-    AreReached config first sent files → AreProcesses config files processes →
-    AreReached config first (sent ++ sent_by processes) (disk_after files processes)
+    (config : Config) (first : State) (made : List Turn) (sent : List Sending) (files : List File) (processes : List Process) →
+    AreReached config first made sent files → AreProcesses config files processes →
+    AreReached config first (made ++ made_by processes) (sent ++ sent_by processes) (disk_after files processes)
