@@ -2,7 +2,7 @@
 use Rattle.std.specs.Prelude.{◌≡◌, ◌⊎◌, ◌↔◌, List, [], ◌∷◌, ◌++◌, Contains, ℕ, Option, Some, None}
 use Rattle.babel_state.specs.declared.configs.Config.{Config}
 use Rattle.babel_state.specs.Calls.{first_state}
-use Rattle.babel_state.specs.Restarts.{Snapshot, restored, restarted}
+use Rattle.babel_state.specs.Restarts.{Snapshot, snapshot_of, restored, restarted}
 use Rattle.babel_state.specs.State.{State}
 use Rattle.babel_snapshot.specs.Reading.{snapshot_in}
 use Rattle.babel_wire.specs.Calls.{Sending, Call}
@@ -32,6 +32,11 @@ abbrev pub CrashesAreRestarts : Type 0
 CrashesAreRestarts =
     (now : ℕ) (config : Config) (old : State) (turns : List DurableTurn) (cut : List Call) (octets : List ℕ) (covered : IsCovered old turns cut octets) →
     restored now config (snapshot_in octets) ≡ restarted now config covered.state
+
+-- What is restored of a snapshot has this snapshot, if its router-id is the configured one. So after a restart the file is that of the speaker again.
+abbrev pub RestoredHaveTheSnapshot : Type 0
+RestoredHaveTheSnapshot =
+    (now : ℕ) (config : Config) (snapshot : Snapshot) → snapshot.router ≡ config.router_id → snapshot_of (restored now config snapshot) ≡ snapshot
 
 -- What may be on disk is what the last keep that succeeded was given, or what was tried later. If none succeeded, it may be what was there before.
 abbrev pub FilesAreLastTried : Type 0
