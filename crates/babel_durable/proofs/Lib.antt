@@ -3,3 +3,4 @@ pub mod Turns
 pub mod Files
 pub mod Covering
 pub mod Processes
+pub mod Restored

@@ -2,3 +2,4 @@ pub mod Keeping
 pub mod Cuts
 pub mod Lives
 pub mod DurableLaws
+pub mod ExampleCuts

@@ -2,4 +2,5 @@
 //! process is killed: definitions, and laws over them. No code drives a speaker so yet.
 #![tactic(auto)]
 
+pub mod examples;
 pub mod laws;
