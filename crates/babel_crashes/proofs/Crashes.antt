@@ -14,13 +14,13 @@ use Rattle.babel_durable.specs.Keeping.{AreOctetsOf, turns_of}
 use Rattle.babel_durable.specs.Cuts.{File, sent_in}
 use Rattle.babel_durable.specs.Lives.{IsCovered, Step, Drive, Leads, taken, turns_in}
 use Rattle.babel_durable.specs.DurableLaws.{WhatIsKeptCoversWhatWasSent}
-use Rattle.babel_net.specs.declared.events.Event.{Event}
-use Rattle.babel_net.specs.declared.events.Event.TheVariants as events
-use Rattle.babel_net.specs.NetworkLaws.{SoundHasNoLoop, SoundHasNoLoopWithOneOrigin}
-use Rattle.babel_network.specs.Invariants.{IsNetwork}
-use Rattle.babel_network.specs.Laws.{EventsKeepNetworks}
-use Rattle.babel_network.specs.Networks.{NetworkState, with_speaker_state, world_of}
-use Rattle.babel_network.specs.Promises.{MakeAll, last_network}
+use Rattle.babel_machine.specs.declared.events.Event.{Event}
+use Rattle.babel_machine.specs.declared.events.Event.TheVariants as events
+use Rattle.babel_machine.specs.NetworkLaws.{SoundHasNoLoop, SoundHasNoLoopWithOneOrigin}
+use Rattle.babel_net.specs.Invariants.{IsNetwork}
+use Rattle.babel_net.specs.Laws.{EventsKeepNetworks}
+use Rattle.babel_net.specs.Networks.{NetworkState, with_speaker_state, world_of}
+use Rattle.babel_net.specs.Promises.{MakeAll, last_network}
 use Rattle.babel_crashes.specs.NodeSteps.{AreFrom, IsAt, AreEvents, IsRestart}
 use Rattle.babel_crashes.specs.CrashLaws.{TurnsAreEvents, CrashesAreRestartEvents, LivesAreRestartEvents}
 use Rattle.babel_crashes.proofs.Events.{restart_made, restart_accepted, at_restarted}

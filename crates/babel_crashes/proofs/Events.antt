@@ -22,12 +22,12 @@ use Rattle.babel_state.specs.Ticks.{ticked}
 use Rattle.babel_speaker.specs.Sending.{fits_by, MeansFrom}
 use Rattle.babel_wire.specs.Calls.{Sending}
 use Rattle.babel_wire.specs.Turns.{draft_at, IsDraftSent}
-use Rattle.babel_net.specs.declared.events.Event.{Event}
-use Rattle.babel_net.specs.declared.events.Event.TheVariants as events
-use Rattle.babel_network.specs.EventRefusals.{node_of, event_fault, fault_at, step_fault}
-use Rattle.babel_network.specs.Networks.{NetworkState, SentOctets, with_speaker_state, with_octets}
-use Rattle.babel_network.specs.Promises.{MakeAll, last_network, RanBy}
-use Rattle.babel_network.specs.Steps.{Makes, IsSent, Received, next_of}
+use Rattle.babel_machine.specs.declared.events.Event.{Event}
+use Rattle.babel_machine.specs.declared.events.Event.TheVariants as events
+use Rattle.babel_net.specs.EventRefusals.{node_of, event_fault, fault_at, step_fault}
+use Rattle.babel_net.specs.Networks.{NetworkState, SentOctets, with_speaker_state, with_octets}
+use Rattle.babel_net.specs.Promises.{MakeAll, last_network, RanBy}
+use Rattle.babel_net.specs.Steps.{Makes, IsSent, Received, next_of}
 use Rattle.babel_crashes.specs.NodeSteps.{IsAt, IsRecorded, LeadsTo}
 use Rattle.babel_crashes.proofs.Transports.{SameTransports, kept_transports, places_keep, restored_transports}
 

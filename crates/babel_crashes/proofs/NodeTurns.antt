@@ -11,7 +11,7 @@ use Rattle.babel_state.specs.Ticks.{ticked}
 use Rattle.babel_wire.specs.Calls.{Receipt, Nothing, Failed, Datagram, Sending}
 use Rattle.babel_wire.specs.Turns.{Turn, IsTurn, Receives, draft_at, AreSent, Ends, SendsPending}
 use Rattle.babel_durable.specs.Lives.{Drive, Restart, taken, turns_in}
-use Rattle.babel_network.specs.Networks.{NetworkState, SentOctets, with_speaker_state}
+use Rattle.babel_net.specs.Networks.{NetworkState, SentOctets, with_speaker_state}
 use Rattle.babel_crashes.specs.NodeSteps.{IsFrom, AreFrom, IsAt, IsRecorded, LeadsTo, AreEvents}
 use Rattle.babel_crashes.specs.CrashLaws.{TurnsAreEvents}
 use Rattle.babel_crashes.proofs.Events.{Settings, leads_on, leads_nowhere, tick_leads, restart_leads, Emitted, emit_leads, silent_leads, deliver_leads}

@@ -9,8 +9,8 @@ use Rattle.babel_wire.specs.Turns.{Turn}
 use Rattle.babel_durable.specs.Keeping.{DurableTurn, AreDurableTurns, calls_of, turns_of}
 use Rattle.babel_durable.specs.Cuts.{File, IsCutOf, IsOnDisk, on_disk, sent_in}
 use Rattle.babel_durable.specs.Lives.{Step, Leads, IsReached, turns_in}
-use Rattle.babel_network.specs.Invariants.{IsNetwork}
-use Rattle.babel_network.specs.Networks.{NetworkState}
+use Rattle.babel_net.specs.Invariants.{IsNetwork}
+use Rattle.babel_net.specs.Networks.{NetworkState}
 use Rattle.babel_crashes.specs.NodeSteps.{IsAt, AreFrom, AreEvents, IsRestart}
 
 -- Turns and restarts of a speaker at a node are events of the network: each datagram that it takes is sent, and each that came is delivered. What

@@ -7,13 +7,13 @@ use Rattle.babel_state.specs.State.{State}
 use Rattle.babel_wire.specs.Calls.{Receipt, Nothing, Failed, Datagram, Sending}
 use Rattle.babel_wire.specs.Turns.{Turn}
 use Rattle.babel_durable.specs.Lives.{Step, taken}
-use Rattle.babel_net.specs.declared.events.Event.{Event}
-use Rattle.babel_net.specs.declared.events.Event.TheVariants as events
-use Rattle.babel_network.specs.EventRefusals.{step_fault}
-use Rattle.babel_network.specs.Invariants.{IsNetwork}
-use Rattle.babel_network.specs.Networks.{NetworkState, SentOctets}
-use Rattle.babel_network.specs.Promises.{RanBy, HasNoLoop, HasNoLoopWithOneOrigin}
-use Rattle.babel_network.specs.Steps.{Makes}
+use Rattle.babel_machine.specs.declared.events.Event.{Event}
+use Rattle.babel_machine.specs.declared.events.Event.TheVariants as events
+use Rattle.babel_net.specs.EventRefusals.{step_fault}
+use Rattle.babel_net.specs.Invariants.{IsNetwork}
+use Rattle.babel_net.specs.Networks.{NetworkState, SentOctets}
+use Rattle.babel_net.specs.Promises.{RanBy, HasNoLoop, HasNoLoopWithOneOrigin}
+use Rattle.babel_net.specs.Steps.{Makes}
 
 -- What came over the wire is a datagram that a node of the network sent, with its source address.
 abbrev pub IsFrom : List SentOctets → Receipt → Type 0

@@ -4,8 +4,8 @@
 ghost use Rattle.babel_crashes.specs.CrashLaws.{TurnsAreEvents, CrashesAreRestartEvents, LivesAreRestartEvents};
 
 use babel_durable::laws::what_is_kept_covers_what_was_sent;
-use babel_net::laws::sound_networks_have_no_loop;
-use babel_network::laws::networks_go_on;
+use babel_machine::laws::sound_networks_have_no_loop;
+use babel_net::laws::networks_go_on;
 use babel_state::laws::settings_stay;
 
 /// The turns and restarts of a speaker at a node of a network are events of the network.

@@ -1,7 +1,7 @@
 //! Why a command refuses.
 
 use babel_config::FileFault;
-use babel_net::{NetFault, StepFault};
+use babel_machine::{NetFault, StepFault};
 use babel_replay::ReplayFault;
 use crate::showing::LineCode;
 use babel_snapshot_file::{RestoreCode, SnapshotFileFault};

@@ -1,8 +1,8 @@
 //! The next hops that were printed last.
 
 use babel_choice::Selection;
-use babel_net::Event;
-use babel_network::Network;
+use babel_machine::Event;
+use babel_net::Network;
 use babel_state::Config;
 use babel_text::LineFault;
 use babel_value::{Peer, Prefix, RouterId};

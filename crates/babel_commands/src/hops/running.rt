@@ -3,8 +3,8 @@
 use crate::hops::hops::Hops;
 use babel_config::{Scenario, read_file, read_scenario};
 use crate::faults::{Fault, end};
-use babel_net::{Event, StepFault};
-use babel_network::Network;
+use babel_machine::{Event, StepFault};
+use babel_net::Network;
 use crate::showing::Status;
 use babel_text::LineFault;
 use std::alloc::Global;
