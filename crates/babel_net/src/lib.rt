@@ -10,5 +10,6 @@ mod nodes;
 mod owners;
 mod sent;
 
-pub use babel_machine::{Event, NetFault, StepFault};
+pub use babel_machine::machine::Machine;
+pub use babel_machine::{Event, MachineFault, NetFault, StepFault};
 pub use network::Network;
