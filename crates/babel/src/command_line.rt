@@ -5,6 +5,7 @@ use crate::details::{details_of, explain_absence, explain_fault, explain_output,
 use crate::help;
 use crate::noting::NotingWriter;
 use crate::opening::{open_config_and_snapshot, restore_arg};
+use crate::routing::{run_command as router_command, run_router};
 use crate::speaking::{run_speak, speak_command};
 use babel_commands::try_check;
 use babel_config::FileFault;
@@ -21,6 +22,7 @@ use std::alloc::{AllocError, Global};
 use std::fs::{self, Files};
 use std::io::{BufWriter, IsTerminal, Read, Write};
 use std::net::Net;
+use std::os::fd::AsRawFd;
 use std::rt::Env;
 use std::time::Clock;
 use std::{env, io};
@@ -68,7 +70,7 @@ pub(crate) fn report_arguments<E: Write>(error: ArgumentsError, err: &mut E) -> 
 }
 
 /// Runs the command that the arguments name.
-pub(crate) fn run<F, R: Read + Drop, W: Write + Drop, E: Write + IsTerminal>(
+pub(crate) fn run<F, R: Read + AsRawFd + Drop, W: Write + Drop, E: Write + IsTerminal>(
     rt: &F,
     arguments: &[String],
     input: R,
@@ -84,7 +86,7 @@ where
     }
 }
 
-fn try_run<F, R: Read + Drop, W: Write + Drop, E: Write + IsTerminal>(
+fn try_run<F, R: Read + AsRawFd + Drop, W: Write + Drop, E: Write + IsTerminal>(
     rt: &F,
     arguments: &[String],
     input: R,
@@ -101,7 +103,7 @@ where
     run_command(rt, arguments, input, &mut out, err)
 }
 
-fn run_command<'a, F, R: Read + Drop, W: Write + Drop, E: Write + IsTerminal>(
+fn run_command<'a, F, R: Read + AsRawFd + Drop, W: Write + Drop, E: Write + IsTerminal>(
     rt: &F,
     arguments: &'a [String],
     input: R,
@@ -137,7 +139,7 @@ fn write_usage<W: Write, E: Write>(
 }
 
 /// Runs the command, and writes its fault. If people read it, a sentence follows.
-fn dispatch<F, R: Read + Drop, W: Write + Drop, E: Write + IsTerminal>(
+fn dispatch<F, R: Read + AsRawFd + Drop, W: Write + Drop, E: Write + IsTerminal>(
     rt: &F,
     matches: &ArgMatches<'_>,
     input: R,
@@ -152,6 +154,10 @@ where
     };
     if command == "show" && arguments.get_flag("stdin") {
         return show_input(rt.alloc(), arguments, input, out, err);
+    }
+    if command == "run" {
+        let mut input = input;
+        return run_router(rt, arguments, &mut input, out, err);
     }
     let details = details_of(arguments, err);
     // If writing the sentence fails, the status still reports the fault.
@@ -332,7 +338,8 @@ fn command<'a>(alloc: Global) -> Result<Command<'a>, AllocError> {
         .subcommand(replay_command(alloc)?)?
         .subcommand(explain_command(alloc)?)?
         .subcommand(net_command(alloc)?)?
-        .subcommand(speak_command(alloc)?)
+        .subcommand(speak_command(alloc)?)?
+        .subcommand(router_command(alloc)?)
 }
 
 fn source_arg<'a>(alloc: Global) -> Arg<'a> {
