@@ -24,6 +24,9 @@ const MAX_TAKEN: u32 = 64;
 /// How many events are looked at in one wait: two for each interface, and the input.
 const MAX_EVENTS: usize = 32;
 
+/// How long a turn waits for a datagram at most.
+const MAX_WAIT: Duration = Duration::from_secs(1);
+
 /// The token of the standard input. Those of sockets are twice their device's number, and one more.
 const INPUT: usize = usize::MAX;
 
@@ -214,9 +217,15 @@ impl<R: Clock, I: Read + AsRawFd> LinkWire<'_, R, I> {
         self.has_ended
     }
 
-    /// From now on, a turn waits for a datagram as long as this.
-    pub(crate) fn set_wait(&mut self, wait: Duration) {
-        self.wait = wait;
+    /// The next turn waits for a datagram until this moment, and a second at most.
+    pub(crate) fn wait_until(&mut self, moment: u64) {
+        let due = Duration::from_millis(moment.saturating_mul(10));
+        let passed = match self.start.elapsed(self.clock) {
+            Ok(passed) => passed,
+            // A clock that fails must not make the speaker late.
+            Err(_) => due,
+        };
+        self.wait = due.saturating_sub(passed).min(MAX_WAIT);
     }
 
     /// Takes a datagram that waits at a socket.

@@ -25,9 +25,6 @@ const MAX_TENTATIVE: u32 = 50;
 /// How many calls of the wire may fail: far more than in any run.
 const MAX_FAULTS: u64 = 1 << 62;
 
-/// How long a turn waits for a datagram, in milliseconds.
-const WAIT: u64 = 10;
-
 /// Whether something is printed.
 #[derive(Clone, Copy, Debug, PartialEq, Eq)]
 pub enum Printed {
@@ -154,7 +151,7 @@ fn take_turn<R: Net + Clock, I: Read + AsRawFd>(
     if wire.faults >= MAX_FAULTS {
         return;
     }
-    wire.set_wait(Duration::from_millis(WAIT));
+    wire.wait_until(speaker.next_due());
     let turn = drive(speaker, wire, buf, 1);
     counts.turns = counts.turns.saturating_add(1);
     let report = &mut counts.report;
