@@ -1,5 +1,4 @@
 mod SeenWorlds
-mod KeptSelectedRoutes
 mod FewPrefixes
 mod HappeningEvents
 mod KeptNetworks

@@ -8,7 +8,7 @@ use Rattle.babel_state.specs.NextDatagram.{Draft}
 use Rattle.babel_state.specs.Seen.{seen}
 use Rattle.babel_state.specs.SeenLaws.{DatagramsSend}
 use Rattle.babel_state.specs.State.{State}
-use Rattle.babel_speaker.specs.Sending.{fits_by, MeansFrom}
+use Rattle.babel_speaker.specs.Sending.{fits_by, IsBuiltFrom, MeansFrom}
 use Rattle.babel_net.specs.Networks.{SentOctets}
 use Rattle.babel_net.specs.Steps.{next_of, IsSentBy}
 
@@ -17,7 +17,7 @@ pub transport_kept : DatagramsSend → (now : ℕ) (s : State) (target : Target)
 unfolding seen
 transport_kept law now s target iface well goes = (law now (fits_by s) s target well goes).transports iface
 
-pub sent_by : (node : ℕ) (s : State) (draft : Draft) (target : Target) (source : Addr) (octets : List ℕ) (d : SentOctets) → transport_at target.iface s ≡ Some source → MeansFrom (transport_at target.iface s) octets draft.messages → d ≡ record { node = node; source = source; octets = octets } → IsSentBy node s draft target d
-sent_by node s draft target source octets d own means is =
+pub sent_by : (node : ℕ) (s : State) (draft : Draft) (target : Target) (source : Addr) (octets : List ℕ) (d : SentOctets) → transport_at target.iface s ≡ Some source → MeansFrom (transport_at target.iface s) octets draft.messages → IsBuiltFrom (transport_at target.iface s) octets draft.messages → d ≡ record { node = node; source = source; octets = octets } → IsSentBy node s draft target d
+sent_by node s draft target source octets d own means built is =
     subst (IsSentBy node s draft target) (sym is)
-    (record { sender = refl; is_own = own; means = subst (λ o. MeansFrom o octets draft.messages) own means })
+    (record { sender = refl; is_own = own; means = subst (λ o. MeansFrom o octets draft.messages) own means; built = subst (λ o. IsBuiltFrom o octets draft.messages) own built })

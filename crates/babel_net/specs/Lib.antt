@@ -1,6 +1,5 @@
 pub mod Networks
 pub mod Steps
-pub mod KeptRoutes
 pub mod EventRefusals
 pub mod Invariants
 pub mod Promises

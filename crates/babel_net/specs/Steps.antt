@@ -14,7 +14,7 @@ use Rattle.babel_state.specs.Restarts.{restarted}
 use Rattle.babel_state.specs.SeqnoRequests.{raised}
 use Rattle.babel_state.specs.State.{State}
 use Rattle.babel_state.specs.Ticks.{ticked}
-use Rattle.babel_speaker.specs.Sending.{fits_by}
+use Rattle.babel_speaker.specs.Sending.{fits_by, IsBuiltFrom}
 use Rattle.babel_machine.specs.declared.events.Event.{Event}
 use Rattle.babel_machine.specs.declared.events.Event.TheVariants as events
 use Rattle.babel_net.specs.Networks.{NetworkState, SentOctets, with_speaker_state, with_octets}
@@ -42,11 +42,13 @@ pub record MakesCall (node : ℕ) (event : Event) (old new : NetworkState) : Typ
 abbrev pub next_of : ℕ → State → Draft
 next_of now speaker = next_datagram now (fits_by speaker) speaker
 
--- The octets mean the messages of the draft to a receiver that gets them from the own address of the target's interface.
+-- The octets mean the messages of the draft to a receiver that gets them from the own address of the target's interface. They are
+-- those that the builder makes of the messages, and no others.
 pub record IsSentBy (node : ℕ) (speaker : State) (draft : Draft) (target : Target) (d : SentOctets) : Type 0 where
   pub sender : d.node ≡ node
   pub is_own : transport_at target.iface speaker ≡ Some d.source
   pub means : Means d.octets d.source draft.messages
+  pub built : IsBuiltFrom (Some d.source) d.octets draft.messages
 
 -- What is sent, if the draft has a target.
 abbrev pub IsSent : ℕ → State → Draft → Option Target → Option SentOctets → Type 0

@@ -1,11 +1,10 @@
 //! The calls of one speaker of a network.
 
-ghost use Rattle.std.specs.Prelude.{◌≡◌, None, true, false, option_map, if◌then◌else◌, IfOk, IfErr, OnOk, OnErr, IsFalse};
+ghost use Rattle.std.specs.Prelude.{◌≡◌, None, true, false, option_map, if◌then◌else◌, IfOk, IfErr, OnOk, OnErr};
 ghost use Rattle.babel_value.specs.Prefixes.{PrefixValue};
 ghost use Rattle.babel_state.specs.Addresses.{source_fault};
 ghost use Rattle.babel_state.specs.Calls.{is_prefix_too_many, set_cost_fault, cost_set, announced_also, withdrawn};
 ghost use Rattle.babel_state.specs.Configs.{config_fault};
-ghost use Rattle.babel_state.specs.KeptRoutes.{KeepsRoutes};
 ghost use Rattle.babel_state.specs.Restarts.{restarted};
 ghost use Rattle.babel_state.specs.State.{announces};
 ghost use Rattle.babel_state.specs.Invariants.{IsWellFormed};
@@ -14,10 +13,10 @@ ghost use Rattle.babel_net.specs.EventRefusals.{node_of, call_fault, cost_fault,
 ghost use Rattle.babel_net.specs.Invariants.{IsReadable};
 ghost use Rattle.babel_net.specs.Steps.{step_of, next_of, IsSent, Received};
 
+use crate::node_speakers::NodeSpeaker;
 use crate::sent::Sent;
 use arrayvec::ArrayVec;
 use babel_machine::{Event, StepFault};
-use babel_speaker::Speaker;
 use babel_state::laws::{datagrams_send, items_mean_messages};
 use babel_state::{Config, ConfigFault, RecvFault, RestoreFault, SetCostFault};
 use babel_tlv::DATAGRAM_LEN;
@@ -25,7 +24,7 @@ use babel_value::{Addr, Prefix};
 use std::alloc::Global;
 
 /// The node that an event is of.
-pub(crate) fn node_of(event: &Event) -> usize
+pub fn node_of(event: &Event) -> usize
     ensures { result ≡ node_of event.now }
 {
     match *event {
@@ -40,43 +39,30 @@ pub(crate) fn node_of(event: &Event) -> usize
     }
 }
 
-/// Makes the event's step of its node's speaker, if it is a call that takes no memory. If `changed` is `false` then, the
-/// selected routes are reported as before. Of the calls only a tick can leave it `false`.
+/// Makes the event's step of its node's speaker, if it is a call that takes no memory.
 pub(crate) fn call(
-    speaker: &mut Speaker,
+    speaker: &mut NodeSpeaker,
     config: &Config,
     event: &Event,
-    changed: &mut bool,
 ) -> Result<(), StepFault>
     requires { (prefix : PrefixValue) → has_prefix prefix config.now.prefixes.items ≡ true → is_prefix_too_many prefix speaker.old ≡ false }
     ensures ok { OnOk result (speaker.new ≡ step_of event.now speaker.old) }
     ensures accepted { OnOk result (call_fault config.now speaker.old event.now ≡ None) }
     ensures refused { IfErr result (λ fault. call_fault config.now speaker.old event.now ≡ Some fault) }
     ensures err { OnErr result (speaker.new ≡ speaker.old) }
-    ensures kept { IsFalse changed.new → KeepsRoutes speaker.old speaker.new }
 {
     match *event {
         Event::Tick { now, .. } => {
-            speaker.tick_tracked(now, changed);
+            speaker.tick(now);
             Ok(())
         }
-        Event::SetCost { iface, cost, .. } => {
-            *changed = true;
-            set_cost(speaker, iface, cost)
-        }
+        Event::SetCost { iface, cost, .. } => set_cost(speaker, iface, cost),
         Event::Raise { .. } => {
-            *changed = true;
             speaker.raise();
             Ok(())
         }
-        Event::Announce { prefix, .. } => {
-            *changed = true;
-            announce(speaker, config, prefix)
-        }
-        Event::Withdraw { prefix, .. } => {
-            *changed = true;
-            withdraw(speaker, config, prefix)
-        }
+        Event::Announce { prefix, .. } => announce(speaker, config, prefix),
+        Event::Withdraw { prefix, .. } => withdraw(speaker, config, prefix),
         Event::Emit { .. } => Ok(()),
         Event::Deliver { .. } => Ok(()),
         Event::Restart { .. } => Ok(()),
@@ -84,7 +70,7 @@ pub(crate) fn call(
 }
 
 /// Sets the nominal cost of an interface.
-fn set_cost(speaker: &mut Speaker, iface: u8, cost: u16) -> Result<(), StepFault>
+fn set_cost(speaker: &mut NodeSpeaker, iface: u8, cost: u16) -> Result<(), StepFault>
     ensures ok { OnOk result (speaker.new ≡ cost_set iface cost speaker.old) }
     ensures accepted { OnOk result (set_cost_fault iface cost speaker.old ≡ None) }
     ensures refused { IfErr result (λ fault. option_map cost_fault (set_cost_fault iface cost speaker.old) ≡ Some fault) }
@@ -108,7 +94,7 @@ fn lists(config: &Config, prefix: &Prefix) -> bool
 }
 
 /// Announces a prefix of the configuration.
-fn announce(speaker: &mut Speaker, config: &Config, prefix: Prefix) -> Result<(), StepFault>
+fn announce(speaker: &mut NodeSpeaker, config: &Config, prefix: Prefix) -> Result<(), StepFault>
     requires { has_prefix prefix config.now.prefixes.items ≡ true → is_prefix_too_many prefix speaker.old ≡ false }
     ensures ok { OnOk result (speaker.new ≡ announced_also prefix speaker.old) }
     ensures accepted { OnOk result (has_prefix prefix config.now.prefixes.items ≡ true) }
@@ -125,7 +111,7 @@ fn announce(speaker: &mut Speaker, config: &Config, prefix: Prefix) -> Result<()
 }
 
 /// Announces a prefix of the configuration no longer.
-fn withdraw(speaker: &mut Speaker, config: &Config, prefix: Prefix) -> Result<(), StepFault>
+fn withdraw(speaker: &mut NodeSpeaker, config: &Config, prefix: Prefix) -> Result<(), StepFault>
     ensures ok { OnOk result (speaker.new ≡ withdrawn prefix speaker.old) }
     ensures accepted { OnOk result ((has_prefix prefix config.now.prefixes.items ≡ true) × (announces prefix speaker.old ≡ true)) }
     ensures refused { IfErr result (λ fault. (if has_prefix prefix config.now.prefixes.items then (if announces prefix speaker.old then None else Some StepFault.NotAnnounced) else Some StepFault.NotListed) ≡ Some fault) }
@@ -143,14 +129,13 @@ fn withdraw(speaker: &mut Speaker, config: &Config, prefix: Prefix) -> Result<()
 /// The source address of the next datagram of a node's speaker, if there is one. Its octets are written to
 /// `octets`, in place of what was there.
 pub(crate) fn send(
-    speaker: &mut Speaker,
+    speaker: &mut NodeSpeaker,
     node: usize,
     now: u64,
     octets: &mut ArrayVec<u8, DATAGRAM_LEN>,
 ) -> Option<Addr>
     requires { IsWellFormed speaker.old }
     ensures state { speaker.new ≡ (next_of now speaker.old).state }
-    ensures kept { KeepsRoutes speaker.old speaker.new }
     ensures sent { IsSent node speaker.old (next_of now speaker.old) (next_of now speaker.old).target (option_map (λ source. record { node = node; source = source; octets = octets.new.items }) result) }
 {
     datagrams_send();
@@ -163,23 +148,21 @@ pub(crate) fn send(
 }
 
 /// The speaker receives a recorded datagram over an interface. From an address that the interface takes no
-/// datagrams from, nothing is received. If `changed` is `false` then, the selected routes are reported as before.
+/// datagrams from, nothing is received.
 #[tactic(auto, unfolding(babel_state::specs::Addresses::source_fault))]
 pub(crate) fn receive(
-    speaker: &mut Speaker,
+    speaker: &mut NodeSpeaker,
     sent: &Sent<'_>,
     iface: u8,
     now: u64,
-    changed: &mut bool,
 ) -> Result<(), StepFault>
     requires { IsReadable sent.now }
     ensures ok { OnOk result (Received now iface sent.now (source_fault iface sent.now.source speaker.old) speaker.old speaker.new) }
     ensures accepted { OnOk result (interface_fault iface speaker.old ≡ None) }
     ensures refused { IfErr result (IsFaultOrMemory (interface_fault iface speaker.old)) }
     ensures err { OnErr result (speaker.new ≡ speaker.old) }
-    ensures kept { IsFalse changed.new → KeepsRoutes speaker.old speaker.new }
 {
-    match speaker.receive_tracked(now, iface, sent.source(), sent.octets(), changed) {
+    match speaker.receive(now, iface, sent.source(), sent.octets()) {
         Ok(_) => Ok(()),
         Err(RecvFault::NoInterface) => Err(StepFault::NoInterface),
         Err(RecvFault::ForeignSource) => Ok(()),
@@ -191,10 +174,10 @@ pub(crate) fn receive(
 /// The speaker after a restart: it is saved, and restored with its configuration.
 pub(crate) fn restart(
     alloc: Global,
-    speaker: &Speaker,
+    speaker: &NodeSpeaker,
     config: &Config,
     now: u64,
-) -> Result<Speaker, StepFault>
+) -> Result<NodeSpeaker, StepFault>
     requires router { speaker.now.router ≡ config.now.router_id }
     requires valid { config_fault config.now ≡ None }
     ensures ok { IfOk result (λ new. new ≡ restarted now config.now speaker.now) }
@@ -203,7 +186,7 @@ pub(crate) fn restart(
     let Ok(octets) = speaker.save() else {
         return Err(StepFault::Memory);
     };
-    match Speaker::restore_from(alloc, config, now, &octets) {
+    match NodeSpeaker::restore_from(alloc, config, now, &octets) {
         Ok(speaker) => Ok(speaker),
         Err(RestoreFault::Config(ConfigFault::Memory)) => Err(StepFault::Memory),
         Err(_) => unreachable!(),

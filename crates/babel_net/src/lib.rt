@@ -6,10 +6,12 @@ mod acceptance;
 mod calls;
 pub mod laws;
 mod network;
+mod node_speakers;
 mod nodes;
 mod owners;
 mod sent;
 
 pub use babel_machine::machine::Machine;
 pub use babel_machine::{Event, MachineFault, NetFault, StepFault};
+pub use calls::node_of;
 pub use network::Network;

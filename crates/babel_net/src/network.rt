@@ -3,7 +3,7 @@
 //! An event costs what its speaker's call costs. The owner of an address is looked up in an ordered map,
 //! which `Network::new` makes.
 
-ghost use Rattle.std.specs.Prelude.{◌≡◌, ◌↔◌, None, length, slice_get, option_map, IfOk, IfErr, IfSome, IsOk, IsNone, OnOk, OnErr, IsFalse};
+ghost use Rattle.std.specs.Prelude.{◌≡◌, ◌↔◌, None, length, slice_get, is_some, option_map, IfOk, IfErr, IfSome, IsOk, IsNone, OnOk, OnErr};
 ghost use Rattle.std.specs.BTreeMap.{get};
 ghost use Rattle.std.specs.Option.{option_and_then};
 ghost use Rattle.babel_value.specs.Orders.{addr_cmp};
@@ -50,7 +50,6 @@ impl Model for Network {
 impl Network {
     ghost use Rattle.babel_net.specs.EventRefusals.{step_fault, IsStepFault};
     ghost use Rattle.babel_net.specs.Invariants.{IsNetwork};
-    ghost use Rattle.babel_net.specs.KeptRoutes.{KeepsSelectedRoutes};
     ghost use Rattle.babel_net.specs.Making.{IsMakingFault};
     ghost use Rattle.babel_net.specs.Networks.{world_of};
     ghost use Rattle.babel_net.specs.Promises.{first_network, HasNoLoop, HasNoLoopWithOneOrigin, Runs, IsNextHop, Ran, StopsAt};
@@ -107,31 +106,10 @@ impl Network {
         ensures no_loop { HasNoLoop self.new }
         ensures one_origin { HasNoLoopWithOneOrigin self.new }
     {
-        let mut changed = false;
-        self.step_tracked(event, &mut changed)
-    }
-
-    /// The same. If `changed` is `false` then, the selected routes are reported as before: [`Network::next_hop`] and
-    /// [`Network::router`] return of each node and prefix what they returned.
-    ///
-    /// # Errors
-    ///
-    /// Those of [`Network::step`].
-    pub fn step_tracked(&mut self, event: &Event, changed: &mut bool) -> Result<(), StepFault>
-        ensures event { OnOk result (Makes event.now self.old self.new) }
-        ensures accepted { OnOk result (step_fault event.now self.old ≡ None) }
-        ensures refused { IfErr result (IsStepFault (step_fault event.now self.old) event.now self.old) }
-        ensures err { OnErr result (self.new ≡ self.old) }
-        ensures invariant { IsNetwork self.new }
-        ensures run { OnOk result (Runs self.old self.new) }
-        ensures no_loop { HasNoLoop self.new }
-        ensures one_origin { HasNoLoopWithOneOrigin self.new }
-        ensures kept { IsFalse changed.new → KeepsSelectedRoutes self.old self.new }
-    {
         networks_go_on();
         events_are_machine_runs();
         sound_networks_have_no_loop();
-        self.nodes.step(event, changed)
+        self.nodes.step(event)
     }
 
     /// Makes the steps of some events, up to the first that is refused.
@@ -198,6 +176,15 @@ impl Network {
         ensures { result ≡ option_map (λ (s : State). s.raises) (slice_get self.now.speakers node) }
     {
         self.nodes.raises(node)
+    }
+
+    /// A count of the node's speaker, which grows whenever a selected route of the node may be reported otherwise, as
+    /// [`Speaker::routes_version`](babel_speaker::Speaker::routes_version). A restart makes the speaker and its count again.
+    /// `None` if there is no such node.
+    pub fn routes_version(&self, node: usize) -> Option<u64>
+        ensures { is_some result ≡ is_some (slice_get self.now.speakers node) }
+    {
+        self.nodes.routes_version(node)
     }
 
     /// The node, the source address and the octets of the datagram of this number, counted from 0. `None` if

@@ -1,6 +1,6 @@
 //! The nodes of a network: their speakers, and the datagrams that they sent.
 
-ghost use Rattle.std.specs.Prelude.{◌≡◌, ◌<◌, ◌≤◌, All, None, length, slice_get, map, option_map, vec_len, vec_capacity, IfOk, IfErr, IfSome, IsNone, OnOk, OnErr, IsFalse};
+ghost use Rattle.std.specs.Prelude.{◌≡◌, ◌<◌, ◌≤◌, All, None, length, slice_get, map, is_some, option_map, vec_len, vec_capacity, IfOk, IfErr, IfSome, IsNone, OnOk, OnErr};
 ghost use Rattle.std.specs.Option.{option_and_then};
 ghost use Rattle.babel_value.specs.Seqnos.{seqno_modulus};
 ghost use Rattle.babel_state.specs.declared.configs.Config.{Config};
@@ -9,16 +9,15 @@ ghost use Rattle.babel_state.specs.Calls.{first_state, selected_route};
 ghost use Rattle.babel_machine.specs.Acceptance.{first_bad_from};
 ghost use Rattle.babel_net.specs.EventRefusals.{deliver_fault, step_fault, IsFaultOrMemory, IsStepFault};
 ghost use Rattle.babel_net.specs.Invariants.{IsNetwork};
-ghost use Rattle.babel_net.specs.KeptRoutes.{KeepsSelectedRoutes};
 ghost use Rattle.babel_net.specs.Making.{IsOutOfMemory};
 ghost use Rattle.babel_net.specs.Promises.{first_network};
 ghost use Rattle.babel_net.specs.Steps.{Makes, MakesEmit, MakesDeliver, MakesRestart};
 
 use crate::calls::{call, node_of, receive, restart};
+use crate::node_speakers::NodeSpeaker;
 use crate::sent::Record;
 use babel_choice::Selection;
 use babel_machine::{Event, NetFault, StepFault};
-use babel_speaker::Speaker;
 use babel_state::{Config, Selected};
 use babel_value::{Addr, Memory, Prefix};
 use std::alloc::Global;
@@ -29,7 +28,7 @@ use std::marker::Model;
 pub struct Nodes {
     alloc: Global,
     configs: Vec<Config>,
-    speakers: Vec<Speaker>,
+    speakers: Vec<NodeSpeaker>,
     sent: Record,
 }
 
@@ -68,16 +67,14 @@ impl Nodes {
         }
     }
 
-    /// Makes the event's step, or refuses it and changes nothing. If `changed` is `false` then, the selected routes are
-    /// reported as before. Only a tick, and a datagram that is sent or received, can leave it `false`.
+    /// Makes the event's step, or refuses it and changes nothing.
     #[tactic(auto, unfolding(crate::specs::EventRefusals::step_fault))]
-    pub fn step(&mut self, event: &Event, changed: &mut bool) -> Result<(), StepFault>
+    pub fn step(&mut self, event: &Event) -> Result<(), StepFault>
         requires { IsNetwork self.old }
         ensures ok { OnOk result (Makes event.now self.old self.new) }
         ensures accepted { OnOk result (step_fault event.now self.old ≡ None) }
         ensures refused { IfErr result (IsStepFault (step_fault event.now self.old) event.now self.old) }
         ensures err { OnErr result (self.new ≡ self.old) }
-        ensures kept { IsFalse changed.new → KeepsSelectedRoutes self.old self.new }
     {
         let node = node_of(event);
         if node >= self.speakers.len() {
@@ -90,17 +87,9 @@ impl Nodes {
                 iface,
                 now,
                 ..
-            } => self.deliver(datagram, node, iface, now, changed),
-            Event::Restart { now, .. } => {
-                *changed = true;
-                self.restart(node, now)
-            }
-            _ => call(
-                &mut self.speakers[node],
-                &self.configs[node],
-                event,
-                changed,
-            ),
+            } => self.deliver(datagram, node, iface, now),
+            Event::Restart { now, .. } => self.restart(node, now),
+            _ => call(&mut self.speakers[node], &self.configs[node], event),
         }
     }
 
@@ -111,7 +100,6 @@ impl Nodes {
         ensures ok { OnOk result (MakesEmit node now self.old self.new) }
         ensures refused { IfErr result (λ fault. fault ≡ StepFault.Memory) }
         ensures err { OnErr result (self.new ≡ self.old) }
-        ensures kept { KeepsSelectedRoutes self.old self.new }
     {
         match self.sent.record_next(&mut self.speakers[node], node, now) {
             Ok(()) => Ok(()),
@@ -119,14 +107,13 @@ impl Nodes {
         }
     }
 
-    /// The node receives the recorded datagram. If `changed` is `false` then, the selected routes are reported as before.
+    /// The node receives the recorded datagram.
     fn deliver(
         &mut self,
         number: usize,
         node: usize,
         iface: u8,
         now: u64,
-        changed: &mut bool,
     ) -> Result<(), StepFault>
         requires inside { node < length self.old.speakers }
         requires sound { IsNetwork self.old }
@@ -134,12 +121,11 @@ impl Nodes {
         ensures accepted { OnOk result ((speaker : State) → slice_get self.old.speakers node ≡ Some speaker → deliver_fault number iface speaker self.old ≡ None) }
         ensures refused { IfErr result (λ fault. (speaker : State) → slice_get self.old.speakers node ≡ Some speaker → IsFaultOrMemory (deliver_fault number iface speaker self.old) fault) }
         ensures err { OnErr result (self.new ≡ self.old) }
-        ensures kept { IsFalse changed.new → KeepsSelectedRoutes self.old self.new }
     {
         let Some(sent) = self.sent.get(number) else {
             return Err(StepFault::NoDatagram);
         };
-        receive(&mut self.speakers[node], &sent, iface, now, changed)
+        receive(&mut self.speakers[node], &sent, iface, now)
     }
 
     /// The node's speaker is saved, and restored with its configuration.
@@ -192,6 +178,16 @@ impl Nodes {
         }
     }
 
+    /// How often the node's selected routes may have changed; `None` if there is no such node.
+    pub fn routes_version(&self, node: usize) -> Option<u64>
+        ensures { is_some result ≡ is_some (slice_get self.now.speakers node) }
+    {
+        match self.speakers.get(node) {
+            Some(speaker) => Some(speaker.routes_version()),
+            None => None,
+        }
+    }
+
     /// The sent datagram of the number, if there is one: its node, its source address and its octets.
     pub fn sent(&self, number: usize) -> Option<(usize, Addr, &[u8])>
         ensures none { IsNone result → slice_get self.now.sent number ≡ None }
@@ -205,7 +201,7 @@ impl Nodes {
 }
 
 /// A speaker for each of the configurations.
-fn speakers_of(alloc: Global, configs: &[Config]) -> Result<Vec<Speaker>, NetFault>
+fn speakers_of(alloc: Global, configs: &[Config]) -> Result<Vec<NodeSpeaker>, NetFault>
     requires { first_bad_from 0 configs.now ≡ None }
     ensures ok { IfOk result (λ speakers. speakers.items ≡ map first_state configs.now) }
     ensures words { OnOk result (All (λ (c : Config). c.seqno < seqno_modulus) configs.now) }
@@ -219,7 +215,7 @@ fn speakers_of(alloc: Global, configs: &[Config]) -> Result<Vec<Speaker>, NetFau
     while node < configs.len() {
         let seqno = configs[node].seqno;
         seqno_fits(seqno);
-        match Speaker::from_config(alloc, &configs[node]) {
+        match NodeSpeaker::from_config(alloc, &configs[node]) {
             Ok(speaker) => speakers.push_reserved(speaker),
             Err(fault) => return Err(NetFault::BadConfig { node, fault }),
         }

@@ -2,14 +2,13 @@
 
 ghost use Rattle.std.specs.Prelude.{◌≡◌, ◌<◌, ◌≤◌, ◌+◌, ◌++◌, [], ◌∷◌, slice_get, length, vec_len, vec_capacity, OnOk, OnErr, IfErr};
 ghost use Rattle.babel_state.specs.Invariants.{IsWellFormed};
-ghost use Rattle.babel_state.specs.KeptRoutes.{KeepsRoutes};
 ghost use Rattle.babel_net.specs.Recording.{IsWithin, IsRecorded, datagram_in};
 ghost use Rattle.babel_net.specs.Steps.{next_of};
 
 use crate::calls::send;
+use crate::node_speakers::NodeSpeaker;
 use arrayvec::ArrayVec;
 use babel_machine::StepFault;
-use babel_speaker::Speaker;
 use babel_tlv::DATAGRAM_LEN;
 use babel_value::Addr;
 use std::alloc::{AllocError, Global};
@@ -121,13 +120,12 @@ impl Record {
     /// Records the next datagram of the node's speaker, if there is one.
     pub fn record_next(
         &mut self,
-        speaker: &mut Speaker,
+        speaker: &mut NodeSpeaker,
         node: usize,
         now: u64,
     ) -> Result<(), StepFault>
         requires { IsWellFormed speaker.old }
         ensures state { OnOk result (speaker.new ≡ (next_of now speaker.old).state) }
-        ensures kept { KeepsRoutes speaker.old speaker.new }
         ensures sent { OnOk result (IsRecorded node now speaker.old self.old self.new) }
         ensures refused { IfErr result (λ fault. fault ≡ StepFault.Memory) }
         ensures err { OnErr result ((self.new ≡ self.old) × (speaker.new ≡ speaker.old)) }

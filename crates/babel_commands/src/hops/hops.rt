@@ -2,7 +2,7 @@
 
 use babel_choice::Selection;
 use babel_machine::Event;
-use babel_net::Network;
+use babel_net::{Network, node_of};
 use babel_state::Config;
 use babel_text::LineFault;
 use babel_value::{Peer, Prefix, RouterId};
@@ -210,18 +210,4 @@ fn write_hop<W: Write>(
         None => writeln!(out, "{number} hop {node} {prefix} -> none"),
     };
     written.map_err(LineFault::of_writing)
-}
-
-/// The node that an event is of. An event of a node changes the selected routes of no other.
-fn node_of(event: &Event) -> usize {
-    match event {
-        Event::Tick { node, .. }
-        | Event::Emit { node, .. }
-        | Event::Deliver { node, .. }
-        | Event::SetCost { node, .. }
-        | Event::Raise { node }
-        | Event::Announce { node, .. }
-        | Event::Withdraw { node, .. }
-        | Event::Restart { node, .. } => *node,
-    }
 }

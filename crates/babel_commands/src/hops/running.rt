@@ -4,7 +4,7 @@ use crate::hops::hops::Hops;
 use babel_config::{Scenario, read_file, read_scenario};
 use crate::faults::{Fault, end};
 use babel_machine::{Event, StepFault};
-use babel_net::Network;
+use babel_net::{Network, node_of};
 use crate::showing::Status;
 use babel_text::LineFault;
 use std::alloc::Global;
@@ -71,15 +71,15 @@ fn write_events<W: Write>(
 ) -> Result<Outcome, LineFault> {
     let mut datagrams = 0;
     for (number, event) in events.iter().enumerate() {
-        let mut changed = false;
-        if let Err(fault) = network.step_tracked(event, &mut changed) {
+        let version = network.routes_version(node_of(event));
+        if let Err(fault) = network.step(event) {
             write_refused(number, fault, out)?;
             return Ok(Outcome::Refused(number, fault));
         }
         if network.sent(datagrams).is_some() {
             datagrams = datagrams.saturating_add(1);
         }
-        if changed {
+        if may_differ(event, version, network) {
             hops.write_changes(number, event, network, out)?;
         }
     }
@@ -87,6 +87,16 @@ fn write_events<W: Write>(
         LineFault::of_writing,
     )?;
     Ok(Outcome::AllRun)
+}
+
+/// Whether the selected routes of the event's node may be others than when its count of their changes was this. A restart
+/// makes the count again, and at its greatest value it can't grow.
+fn may_differ(event: &Event, version: Option<u64>, network: &Network) -> bool {
+    if let Event::Restart { .. } = event {
+        return true;
+    }
+    let now = network.routes_version(node_of(event));
+    now != version || now == Some(u64::MAX)
 }
 
 fn write_refused<W: Write>(number: usize, fault: StepFault, out: &mut W) -> Result<(), LineFault> {

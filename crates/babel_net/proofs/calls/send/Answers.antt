@@ -28,4 +28,4 @@ returns-clause-sent c =
     let means = c.in_ok-target.ensures.octets in
     let d : SentOctets = record { node = c.args.node; source = c.in-Some.source; octets = c.next_datagram.new.out.items } in
     subst (λ t. IsSent c.args.node s (next_of c.args.now s) t (Some d)) (sym goes)
-    (sent_by c.args.node s (next_of c.args.now s) target c.in-Some.source c.next_datagram.new.out.items d own means refl)
+    (sent_by c.args.node s (next_of c.args.now s) target c.in-Some.source c.next_datagram.new.out.items d own means c.in_ok-target.ensures.built refl)

@@ -4,7 +4,6 @@ use Rattle.babel_net.specs.Networks.{NetworkState, with_speaker_state}
 use Rattle.babel_net.specs.EventRefusals.{node_of, deliver_fault, IsFaultOrMemory}
 use Rattle.babel_net.proofs.HappeningEvents.{room_to_announce}
 use Rattle.babel_net.proofs.CallFaults.{speaker_read, config_read, is_call, IsCalled, called_ok, called_accepted, called_refused, called_same, emit_accepted, restart_accepted, deliver_refused_at}
-use Rattle.babel_net.proofs.KeptSelectedRoutes.{speaker_keeps}
 use Rattle.babel_net.proofs.nodes.Nodes.step.Goals as goal
 
 pub call-requires : goal.call-requires
@@ -66,5 +65,4 @@ returns-in_default c =
       accepted = called_accepted c.call.result event n s config at c.call.ensures.accepted;
       refused = called_refused c.call.result event n s config at c.call.ensures.refused;
       err = called_same c.call.result event n after s t config at next c.call.ensures.err;
-      kept = λ off. speaker_keeps n after (node_of event) s t at.speaker (ap (λ (m : NetworkState). m.speakers) next) (c.call.ensures.kept off);
     }

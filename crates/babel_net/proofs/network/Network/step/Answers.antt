@@ -1,6 +1,6 @@
 use Rattle.babel_net.specs.Networks.{world_of}
 use Rattle.babel_net.proofs.Chains.{after_step}
-use Rattle.babel_net.proofs.network.Network.step_tracked.Goals as goal
+use Rattle.babel_net.proofs.network.Network.step.Goals as goal
 
 pub returns-clause-one_origin : goal.returns-clause-one_origin
 returns-clause-one_origin c =
