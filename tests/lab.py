@@ -17,7 +17,7 @@ TICK = os.sysconf("SC_CLK_TCK")
 _libc = ctypes.CDLL(None, use_errno=True)
 
 # One route of one daemon, in the form that all of them share.  neighbour is None for what the router announces itself; router_id is 16 hex
-# digits.  A value that a daemon does not tell is None (babeld's socket: no seqno; BIRD: no refmetric, router-id of the selected route only).
+# digits.  A value that a daemon does not report is None (babeld's socket: no seqno; BIRD: no refmetric, router-id of the selected route only).
 Route = collections.namedtuple("Route", "prefix neighbour iface router_id seqno metric refmetric installed feasible")
 
 
@@ -259,7 +259,7 @@ class Lab:
 
     def start_custom(self, n, argv, routes=None, kind="custom"):
         """The hook for OUR speaker: starts argv in the namespace of n, its output in <root>/d<n>.out.  `routes()` answers a list of Route for
-        routes(n) and wait_converged (without it n counts as converged).  about(n) tells its interfaces, addresses and neighbours."""
+        routes(n) and wait_converged (without it n counts as converged).  about(n) has its interfaces, addresses and neighbours."""
         self.kind[n] = kind
         self.custom[n] = routes
         return self.spawn(n, f"d{n}", argv)
@@ -274,7 +274,7 @@ class Lab:
         return out
 
     # ---- what the daemons say ---------------------------------------------------------------------------------------------------------
-    def babeld_says(self, n, *requests, timeout=3):
+    def babeld_replies(self, n, *requests, timeout=3):
         """babeld's local socket: the reply to each request, such as `dump`."""
         s = socket.socket(socket.AF_UNIX)
         s.settimeout(timeout)
@@ -319,7 +319,7 @@ class Lab:
         """Route table of the daemon of n as a list of Route; seqnos=True asks babeld a second time, by SIGUSR1, for them."""
         k = self.kind[n]
         if k == "babeld":
-            r = parse_babeld(self.babeld_says(n, "dump"))
+            r = parse_babeld(self.babeld_replies(n, "dump"))
             if seqnos:
                 t = parse_dump(self.babeld_tables(n))
                 seq = {(x.prefix, x.neighbour, x.iface): x.seqno for x in t}
@@ -335,7 +335,7 @@ class Lab:
         """Addresses of the neighbours that the daemon of n lists, with its line about each."""
         k = self.kind[n]
         if k == "babeld":
-            return {m[1]: m[0] for m in re.finditer(r"add neighbour \S+ address (\S+).*", self.babeld_says(n, "dump"))}
+            return {m[1]: m[0] for m in re.finditer(r"add neighbour \S+ address (\S+).*", self.babeld_replies(n, "dump"))}
         if k == "bird":
             return {m[1]: m[0] for m in re.finditer(r"(?m)^(fe80\S+) .*$", self.birdc(n, "show babel neighbors"))}
         if k == "frr":

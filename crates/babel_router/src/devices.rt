@@ -1,4 +1,4 @@
-//! What the system tells of a device: its number, its link-local address, and whether anyone on this machine
+//! What the system reports of a device: its number, its link-local address, and whether anyone on this machine
 //! has joined the group of Babel routers on it.
 
 use crate::DeviceFault;

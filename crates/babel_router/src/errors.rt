@@ -31,7 +31,7 @@ pub enum RunFault {
     /// W2 to W5: the device of this number in the command line can't be used.
     #[error("device {0} {1}")]
     Device(usize, DeviceFault),
-    /// W6: what the system tells of devices can't be read.
+    /// W6: what the system reports of devices can't be read.
     #[error("/proc/net/if_inet6 or /proc/net/igmp6 can't be read")]
     System,
     /// L7 and L8: writing failed, or an allocation failed.

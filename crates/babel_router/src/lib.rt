@@ -1,6 +1,6 @@
 //! A router on real links (RFC 8966, section 4): the command `run`.
 //!
-//! `devices` is what the system tells of a device, `settings` the configuration that the speaker gets of
+//! `devices` is what the system reports of a device, `settings` the configuration that the speaker gets of
 //! them, `links` the wire over their sockets, `printing` what is printed, and `running` the command.
 #![tactic(auto)]
 
