@@ -87,17 +87,17 @@ fn explain<E: Write>(
     match refused {
         Refused::Argument(BadArgument::Prefix(text)) => writeln!(
             err,
-            "--announce {}: is not a prefix, as 10.0.0.0/8 or 2001:db8::/32",
+            "--announce {} is not a prefix, as 10.0.0.0/8 or 2001:db8::/32",
             Excerpt(text)
         ),
         Refused::Argument(BadArgument::RouterId(text)) => writeln!(
             err,
-            "--router-id {}: is not 16 hexadecimal digits",
+            "--router-id {} is not 16 hexadecimal digits",
             Excerpt(text)
         ),
         Refused::Argument(BadArgument::Address(text)) => writeln!(
             err,
-            "--ipv4 {}: is not a device with its address, as eth0=192.168.0.1/24",
+            "--ipv4 {} is not a device with its address, as eth0=192.168.0.1/24",
             Excerpt(text)
         ),
         Refused::Run(RunFault::Device(number, fault)) => {
