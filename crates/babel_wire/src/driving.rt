@@ -1,6 +1,7 @@
 //! A speaker over a wire, turn after turn.
 
 ghost use Rattle.std.specs.Prelude.{◌≡◌, ◌+◌, ◌*◌, ◌≤◌, ◌<◌, ◌^◌};
+ghost use Rattle.babel_speaker.specs.Versions.{CountsChanges};
 ghost use Rattle.babel_wire.specs.Calls.{receipt_of, Datagram, IsWithin};
 ghost use Rattle.babel_wire.specs.Turns.{max_sends, Receives, IsRun, IsOneTurn, IsReceived, IsSent};
 
@@ -68,15 +69,20 @@ fn run_turn<W: Wire>(
     }
 }
 
-/// Passes to the speaker what came.
-fn receive(
+/// Passes to the speaker what [`Wire::recv`] returned, with the buffer that it wrote to, and counts it. [`drive`]
+/// does so in each turn; this is for callers that send in another way.
+pub fn receive(
     speaker: &mut Speaker,
     now: u64,
     came: Result<Option<Arrival>, WireFault>,
     buf: &[u8],
 ) -> Report
     requires { IsWithin came buf.now }
-    ensures { IsReceived now (receipt_of came buf.now) speaker.old.state speaker.new.state result }
+    ensures received { IsReceived now (receipt_of came buf.now) speaker.old.state speaker.new.state result }
+    ensures counted { CountsChanges speaker.old speaker.new }
+    ensures received_at_most { result.received ≤ 1 }
+    ensures refused_at_most { result.refused ≤ 1 }
+    ensures faults_at_most { result.faults ≤ 1 }
 {
     match came {
         Err(WireFault) => Report {
@@ -98,7 +104,8 @@ fn receive(
 
 /// Passes a datagram to the speaker, and returns whether it was refused.
 fn receive_datagram(speaker: &mut Speaker, now: u64, iface: u8, source: Addr, octets: &[u8]) -> bool
-    ensures { Receives now (Datagram iface source octets.now) result speaker.old.state speaker.new.state }
+    ensures received { Receives now (Datagram iface source octets.now) result speaker.old.state speaker.new.state }
+    ensures counted { CountsChanges speaker.old speaker.new }
 {
     speaker.receive(now, iface, source, octets).is_err()
 }

@@ -7,7 +7,7 @@ mod errors;
 mod report;
 mod wire;
 
-pub use driving::drive;
+pub use driving::{drive, receive};
 pub use errors::WireFault;
 pub use report::Report;
 pub use wire::{Arrival, Wire};
