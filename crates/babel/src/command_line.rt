@@ -5,13 +5,14 @@ use crate::details::{details_of, explain_absence, explain_fault, explain_output,
 use crate::help;
 use crate::noting::NotingWriter;
 use crate::opening::{open_config_and_snapshot, restore_arg};
+use crate::routing::{run_command as router_command, run_router};
 use crate::speaking::{run_speak, speak_command};
-use babel_check::try_check;
+use babel_commands::try_check;
 use babel_config::FileFault;
-use babel_faults::{Fault, report};
-use babel_hops::try_net;
-use babel_report::{NamedLog, try_explain, try_replay, try_replay_explained};
-use babel_show::{
+use babel_commands::{Fault, report_fault};
+use babel_commands::try_net;
+use babel_commands::{NamedLog, try_explain, try_replay, try_replay_explained};
+use babel_commands::{
     BadLines, Details, LineOptions, Status, show_lines, try_show, try_show_explained,
 };
 use babel_text::LineFault;
@@ -21,6 +22,7 @@ use std::alloc::{AllocError, Global};
 use std::fs::{self, Files};
 use std::io::{BufWriter, IsTerminal, Read, Write};
 use std::net::Net;
+use std::os::fd::AsRawFd;
 use std::rt::Env;
 use std::time::Clock;
 use std::{env, io};
@@ -63,12 +65,12 @@ pub(crate) fn report_arguments<E: Write>(error: ArgumentsError, err: &mut E) -> 
             let _ = writeln!(err, "babel: the command line isn't UTF-8");
             Status::Usage
         }
-        ArgumentsError::Memory => babel_show::report(LineFault::Memory, err),
+        ArgumentsError::Memory => babel_commands::report(LineFault::Memory, err),
     }
 }
 
 /// Runs the command that the arguments name.
-pub(crate) fn run<F, R: Read + Drop, W: Write + Drop, E: Write + IsTerminal>(
+pub(crate) fn run<F, R: Read + AsRawFd + Drop, W: Write + Drop, E: Write + IsTerminal>(
     rt: &F,
     arguments: &[String],
     input: R,
@@ -80,11 +82,11 @@ where
 {
     match try_run(rt, arguments, input, out, err) {
         Ok(status) => status,
-        Err(fault) => babel_show::report(fault, err),
+        Err(fault) => babel_commands::report(fault, err),
     }
 }
 
-fn try_run<F, R: Read + Drop, W: Write + Drop, E: Write + IsTerminal>(
+fn try_run<F, R: Read + AsRawFd + Drop, W: Write + Drop, E: Write + IsTerminal>(
     rt: &F,
     arguments: &[String],
     input: R,
@@ -101,7 +103,7 @@ where
     run_command(rt, arguments, input, &mut out, err)
 }
 
-fn run_command<'a, F, R: Read + Drop, W: Write + Drop, E: Write + IsTerminal>(
+fn run_command<'a, F, R: Read + AsRawFd + Drop, W: Write + Drop, E: Write + IsTerminal>(
     rt: &F,
     arguments: &'a [String],
     input: R,
@@ -137,7 +139,7 @@ fn write_usage<W: Write, E: Write>(
 }
 
 /// Runs the command, and writes its fault. If people read it, a sentence follows.
-fn dispatch<F, R: Read + Drop, W: Write + Drop, E: Write + IsTerminal>(
+fn dispatch<F, R: Read + AsRawFd + Drop, W: Write + Drop, E: Write + IsTerminal>(
     rt: &F,
     matches: &ArgMatches<'_>,
     input: R,
@@ -152,6 +154,10 @@ where
     };
     if command == "show" && arguments.get_flag("stdin") {
         return show_input(rt.alloc(), arguments, input, out, err);
+    }
+    if command == "run" {
+        let mut input = input;
+        return run_router(rt, arguments, &mut input, out, err);
     }
     let details = details_of(arguments, err);
     // If writing the sentence fails, the status still reports the fault.
@@ -169,7 +175,7 @@ where
             status
         }
         Err(fault) => {
-            let status = report(fault, err);
+            let status = report_fault(fault, err);
             if details == Details::Shown {
                 let _ = match out.get_ref().failure() {
                     Some(failure) if is_of_writing(fault) => explain_output(failure, err),
@@ -322,7 +328,7 @@ fn run_net<F: AllocGlobal + Files, W: Write>(
 /// The commands and their arguments.
 fn command<'a>(alloc: Global) -> Result<Command<'a>, AllocError> {
     Command::new(alloc, "babel")
-        .version("0.1.0")
+        .version("0.2.0")
         .about("Shows what Babel (RFC 8966) datagrams mean, and what a speaker makes of them")
         .after_help(help::PROGRAM)
         .subcommand_required(true)
@@ -332,7 +338,8 @@ fn command<'a>(alloc: Global) -> Result<Command<'a>, AllocError> {
         .subcommand(replay_command(alloc)?)?
         .subcommand(explain_command(alloc)?)?
         .subcommand(net_command(alloc)?)?
-        .subcommand(speak_command(alloc)?)
+        .subcommand(speak_command(alloc)?)?
+        .subcommand(router_command(alloc)?)
 }
 
 fn source_arg<'a>(alloc: Global) -> Arg<'a> {

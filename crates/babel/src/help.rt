@@ -391,3 +391,47 @@ Codes of a file: F1 to F5 as in babel check --help, and
 
 Codes of writing:
   L7  writing failed                L8  out of memory";
+
+/// After the help of `run`.
+pub(crate) const RUN: &str =
+    "A speaker has two UDP sockets for each device, one for the device's link-local
+IPv6 address and one for the group ff02::1:6. Start it by ./babel run, which
+joins the group on each device, finds their IPv4 addresses, and ends the speaker
+in order at SIGTERM, SIGINT and SIGHUP. The speaker ends when its standard input
+does.
+
+It announces the prefixes of --announce, and passes on what its neighbours
+announce. It keeps no state over a restart yet, so no promise is made about a
+restart. It gives the kernel no routes by itself: --ip prints them for ip.
+
+With --routes, each change of a selected route is a line
+  <time> select <prefix> via <device> <address> metric <n> router <id> seqno <n>
+  <time> select <prefix> none
+where <time> is in centiseconds since the start. At the end there is a line
+`table`, in place of <time> and `select`, for each prefix to which the speaker
+has a route.
+
+With --ip, each change is a line for ip -force -batch -, at first and at the end
+`route flush proto babel`. Routes have the kernel's metric 1024. The lines of
+--routes and the counts are on standard error then.
+
+At the end it prints, on one line
+  turns <n> received <n> sent <n> refused <n> faults <n>
+
+Examples:
+  ./babel run eth0 wlan0 --announce 10.1.0.0/16 --routes
+  ./babel run eth0 --ip | sudo ip -force -batch -
+
+Exit status:
+  0  stopped in order
+  1  refused: the code is on standard error
+  2  the command line is not one of the commands
+
+Codes, in the order of test: F3 for an argument that can't be read, then
+  W6  the system's lists of devices can't be read
+  W3  a device without a link-local IPv6 address
+  W4  a link-local address that is still tentative after five seconds
+  W5  a device on which nobody joined the group ff02::1:6
+  C1 to C7  as in babel check --help
+  W2  a socket can't be made
+  L7  writing failed                L8  out of memory";

@@ -11,6 +11,7 @@ mod files;
 mod help;
 mod noting;
 mod opening;
+mod routing;
 mod speaking;
 
 use command_line::{read_arguments, report_arguments, run};

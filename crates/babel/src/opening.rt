@@ -2,7 +2,7 @@
 
 use crate::arguments::option;
 use babel_config::FileFault;
-use babel_faults::Fault;
+use babel_commands::Fault;
 use babel_snapshot_file::SnapshotFileFault;
 use clap::{Arg, ArgMatches};
 use std::alloc::Global;

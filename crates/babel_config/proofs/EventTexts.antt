@@ -3,8 +3,8 @@ use Rattle.std.proofs.Common.{◌≡◌, ℕ, List, false, codes, refl, sym, ◌
 use Rattle.std.proofs.lemmas.Bool.{both_ways}
 use Rattle.std.proofs.lemmas.Slice.Eq.{bytes_eq-Decides}
 use Rattle.std.specs.Str.{bytes_eq}
-use Rattle.babel_net.specs.declared.events.Event.{Event}
-use Rattle.babel_net.specs.declared.events.Event.TheVariants as events
+use Rattle.babel_machine.specs.declared.events.Event.{Event}
+use Rattle.babel_machine.specs.declared.events.Event.TheVariants as events
 use Rattle.babel_value.specs.Prefixes.{PrefixValue}
 use Rattle.babel_text.specs.Numbers.{IsNumberText}
 use Rattle.babel_text.specs.Prefixes.{IsPrefixText}

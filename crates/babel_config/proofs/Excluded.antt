@@ -15,7 +15,7 @@ use Rattle.babel_config.specs.Values.{IsText, IsRequired, IsOptional, IsGivenOr,
 use Rattle.babel_config.specs.Faults.{HasFormFault, HasTextFault, HasListFault, HasRequiredFault, HasGivenFault}
 use Rattle.babel_config.specs.Scalars.{IsNumber, IsFlag, IsTransport, IsIpv4NetworkText, IsIpv6AddrText}
 use Rattle.babel_config.specs.Configs.{IsInterface, IsConfig, HasInterfaceFault, HasConfigFault}
-use Rattle.babel_net.specs.declared.events.Event.{Event}
+use Rattle.babel_machine.specs.declared.events.Event.{Event}
 use Rattle.babel_config.specs.Events.{IsEventText}
 use Rattle.babel_config.specs.Scenarios.{IsScenario, HasEventFault, HasScenarioFault}
 use Rattle.babel_config.proofs.Faults.{items_read}

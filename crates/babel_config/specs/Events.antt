@@ -4,8 +4,8 @@ use Rattle.std.specs.Prelude.{◌≡◌, ◌<◌, ◌==◌, ℕ, List, length, c
 use Rattle.std.specs.List.{position_or_len, before_first, after_first}
 use Rattle.babel_text.specs.Numbers.{IsNumberText}
 use Rattle.babel_text.specs.Prefixes.{IsPrefixText}
-use Rattle.babel_net.specs.declared.events.Event.{Event}
-use Rattle.babel_net.specs.declared.events.Event.TheVariants as events
+use Rattle.babel_machine.specs.declared.events.Event.{Event}
+use Rattle.babel_machine.specs.declared.events.Event.TheVariants as events
 
 -- The text has a blank; what is before the first one; and what is after it.
 abbrev pub HasBlank : List ℕ → Type 0

@@ -1,7 +1,7 @@
 -- The scenario that a table of a file is, and why a table is none (profile).
 use Rattle.std.specs.Prelude.{◌≡◌, ◌⊎◌, ℕ, true, [], List, codes, Some, None}
 use Rattle.toml.specs.Data.{Data, get, as_str}
-use Rattle.babel_net.specs.declared.events.Event.{Event}
+use Rattle.babel_machine.specs.declared.events.Event.{Event}
 use Rattle.babel_config.specs.declared.errors.FileFault.{FileFault}
 use Rattle.babel_config.specs.declared.errors.FileFault.TheVariants as faults
 use Rattle.babel_config.specs.declared.keys.TableKind.TheVariants as kinds

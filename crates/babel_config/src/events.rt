@@ -12,7 +12,7 @@ ghost use Rattle.babel_config.specs.Scenarios.{HasEventFault};
 
 use crate::FileFault;
 use crate::values::FromToml;
-use babel_net::Event;
+use babel_machine::Event;
 use babel_text::{parse_prefix, parse_u8, parse_u16, parse_u64};
 use babel_value::Prefix;
 use std::alloc::Global;

@@ -9,7 +9,7 @@ use crate::FileFault;
 use crate::events::Events;
 use crate::keys::{TableKind, is_table_of};
 use crate::values::optional;
-use babel_net::Event;
+use babel_machine::Event;
 use babel_state::Config;
 use std::alloc::Global;
 use toml::Value;

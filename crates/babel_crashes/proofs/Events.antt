@@ -1,11 +1,10 @@
 -- Single events at a node, and lists of them.
-use Rattle.std.proofs.Common.{◌≡◌, ◌<◌, ◌≤◌, ℕ, Bool, true, false, List, [], ◌∷◌, ◌++◌, Contains, length, set, slice_get, nat_lt, is_some, Option, Some, None, Ok, refl, sym, ap, ◌∙◌, subst, arith}
+use Rattle.std.proofs.Common.{◌≡◌, ◌<◌, ℕ, Bool, true, false, List, [], ◌∷◌, ◌++◌, length, set, slice_get, nat_lt, is_some, Option, Some, None, Ok, refl, sym, ap, ◌∙◌, subst, arith}
 use Rattle.std.proofs.lemmas.Bool.{ltb-false}
-use Rattle.std.proofs.lemmas.List.{append-nil, set-set, set-get_or, get_or-set_same, length-set}
+use Rattle.std.proofs.lemmas.List.{set-set, set-get_or, get_or-set_same, length-set}
 use Rattle.std.proofs.lemmas.List.Elements.{Contains-append_left, Contains-push}
-use Rattle.std.proofs.lemmas.Option.{none-some, slice_get-get_or, slice_get_within, slice_get_read, get_or_from_slice_get}
+use Rattle.std.proofs.lemmas.Option.{none-some, slice_get-get_or, slice_get_within, get_or_from_slice_get}
 use Rattle.babel_value.specs.declared.addresses.Addr.{Addr}
-use Rattle.babel_message.specs.declared.messages.Message.{Message}
 use Rattle.babel_message.specs.declared.placements.Placed.{Placed}
 use Rattle.babel_packet.specs.BodyMeanings.{Means}
 use Rattle.babel_packet.specs.Meaning.{meaning}
@@ -15,7 +14,6 @@ use Rattle.babel_state.specs.declared.errors.RecvFault.TheVariants as faults
 use Rattle.babel_state.specs.declared.interfaces.InterfaceEntry.{InterfaceEntry}
 use Rattle.babel_state.specs.declared.items.Target.{Target}
 use Rattle.babel_state.specs.Addresses.{source_fault, source_fault_on, transport_at}
-use Rattle.babel_state.specs.Calls.{first_state}
 use Rattle.babel_state.specs.Messages.{after_places}
 use Rattle.babel_state.specs.Restarts.{restarted, snapshot_of}
 use Rattle.babel_state.specs.State.{State, interface_at}
@@ -24,12 +22,12 @@ use Rattle.babel_state.specs.Ticks.{ticked}
 use Rattle.babel_speaker.specs.Sending.{fits_by, MeansFrom}
 use Rattle.babel_wire.specs.Calls.{Sending}
 use Rattle.babel_wire.specs.Turns.{draft_at, IsDraftSent}
-use Rattle.babel_net.specs.declared.events.Event.{Event}
-use Rattle.babel_net.specs.declared.events.Event.TheVariants as events
-use Rattle.babel_network.specs.EventRefusals.{node_of, deliver_fault, interface_fault, event_fault, fault_at, step_fault}
-use Rattle.babel_network.specs.Networks.{NetworkState, SentOctets, with_speaker_state, with_octets}
-use Rattle.babel_network.specs.Promises.{MakeAll, last_network, RanBy}
-use Rattle.babel_network.specs.Steps.{Makes, MakesEmit, MakesDeliver, IsSent, IsSentBy, Received, next_of}
+use Rattle.babel_machine.specs.declared.events.Event.{Event}
+use Rattle.babel_machine.specs.declared.events.Event.TheVariants as events
+use Rattle.babel_net.specs.EventRefusals.{node_of, event_fault, fault_at, step_fault}
+use Rattle.babel_net.specs.Networks.{NetworkState, SentOctets, with_speaker_state, with_octets}
+use Rattle.babel_net.specs.Promises.{MakeAll, last_network, RanBy}
+use Rattle.babel_net.specs.Steps.{Makes, IsSent, Received, next_of}
 use Rattle.babel_crashes.specs.NodeSteps.{IsAt, IsRecorded, LeadsTo}
 use Rattle.babel_crashes.proofs.Transports.{SameTransports, kept_transports, places_keep, restored_transports}
 
@@ -241,4 +239,4 @@ deliver_leads laws n node now iface number config s d placed is sent none read =
       next = refl;
     })
     (no_fault (events.Deliver number node iface now) n s config is.speaker is.configured
-      (rw (less number (length n.sent) (slice_get_within n.sent number d sent), has_interface iface d.source s none) refl))
+    (rw (less number (length n.sent) (slice_get_within n.sent number d sent), has_interface iface d.source s none) refl))

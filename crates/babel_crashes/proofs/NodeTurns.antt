@@ -1,19 +1,17 @@
 -- Turns and restarts at a node, as events.
-use Rattle.std.proofs.Common.{◌≡◌, ◌⊎◌, ◌<◌, ℕ, Bool, true, false, List, [], ◌∷◌, ◌++◌, Contains, length, slice_get, Option, Some, None, Ok, refl, sym, ap, ◌∙◌, subst, inl, inr}
+use Rattle.std.proofs.Common.{◌≡◌, ◌⊎◌, ℕ, Bool, true, false, List, [], ◌∷◌, Contains, length, refl, sym, subst, inl, inr}
 use Rattle.std.proofs.lemmas.List.Elements.{Contains-append_cases}
 use Rattle.std.proofs.lemmas.Option.{slice_get_read}
-use Rattle.babel_durable.proofs.Members.{not_in_none, in_more}
+use Rattle.babel_durable.proofs.Members.{not_in_none, in_more, first_in, later_in}
 use Rattle.babel_value.specs.declared.addresses.Addr.{Addr}
-use Rattle.babel_packet.specs.Meaning.{meaning}
 use Rattle.babel_state.specs.declared.configs.Config.{Config}
-use Rattle.babel_state.specs.Addresses.{source_fault}
 use Rattle.babel_state.specs.Restarts.{restarted}
 use Rattle.babel_state.specs.State.{State}
 use Rattle.babel_state.specs.Ticks.{ticked}
 use Rattle.babel_wire.specs.Calls.{Receipt, Nothing, Failed, Datagram, Sending}
 use Rattle.babel_wire.specs.Turns.{Turn, IsTurn, Receives, draft_at, AreSent, Ends, SendsPending}
-use Rattle.babel_durable.specs.Lives.{Step, Drive, Restart, Leads, taken}
-use Rattle.babel_network.specs.Networks.{NetworkState, SentOctets, with_speaker_state}
+use Rattle.babel_durable.specs.Lives.{Drive, Restart, taken, turns_in}
+use Rattle.babel_net.specs.Networks.{NetworkState, SentOctets, with_speaker_state}
 use Rattle.babel_crashes.specs.NodeSteps.{IsFrom, AreFrom, IsAt, IsRecorded, LeadsTo, AreEvents}
 use Rattle.babel_crashes.specs.CrashLaws.{TurnsAreEvents}
 use Rattle.babel_crashes.proofs.Events.{Settings, leads_on, leads_nowhere, tick_leads, restart_leads, Emitted, emit_leads, silent_leads, deliver_leads}
@@ -118,10 +116,8 @@ still_from old new (Datagram iface source octets) keeps (d, there, same_source, 
 still_from old new Nothing keeps from = tt
 still_from old new Failed keeps from = tt
 
-all_still_from : (old new : List SentOctets) (steps : List Step) → ((d : SentOctets) → Contains old d → Contains new d) → AreFrom old steps → AreFrom new steps
-all_still_from old new [] keeps from = tt
-all_still_from old new (Drive t ∷ steps) keeps (first, rest) = (still_from old new t.receipt keeps first, all_still_from old new steps keeps rest)
-all_still_from old new (Restart now ∷ steps) keeps from = all_still_from old new steps keeps from
+all_still_from : (old new : List SentOctets) (ts : List Turn) → ((d : SentOctets) → Contains old d → Contains new d) → AreFrom old ts → AreFrom new ts
+all_still_from old new ts keeps from t h = still_from old new t.receipt keeps (from t h)
 
 pub steps_made : Settings → TurnsAreEvents
 steps_made laws n node config old new [] is same from =
@@ -136,10 +132,10 @@ steps_made laws n node config old new (Restart now ∷ steps) is leads from =
       leads = leads_on node config (restarted now config old) new n mid later.new restarts later.leads;
       records = later.records;
     }
-steps_made laws n node config old new (Drive t ∷ steps) is (mid, turn, rest) (first_from, rest_from) =
-    let first : AllSent node config t.sendings mid n = turn_made laws n node config t old mid is first_from turn in
+steps_made laws n node config old new (Drive t ∷ steps) is (mid, turn, rest) from =
+    let first : AllSent node config t.sendings mid n = turn_made laws n node config t old mid is (from t (first_in t (turns_in steps))) turn in
     let later : AreEvents node config steps new first.new =
-        steps_made laws first.new node config mid new steps first.leads.is_at rest (all_still_from n.sent first.new.sent steps first.leads.keeps rest_from) in
+    steps_made laws first.new node config mid new steps first.leads.is_at rest (all_still_from n.sent first.new.sent (turns_in steps) first.leads.keeps (λ u h. from u (later_in t (turns_in steps) u h))) in
     record {
       new = later.new;
       leads = leads_on node config mid new n first.new later.new first.leads later.leads;

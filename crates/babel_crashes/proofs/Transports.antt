@@ -1,8 +1,7 @@
 -- The own addresses of a speaker stay as configured.
-use Rattle.std.proofs.Common.{◌≡◌, ℕ, List, [], ◌∷◌, map, slice_get, Option, Some, None, option_map, refl, sym, ap, ◌∙◌}
+use Rattle.std.proofs.Common.{◌≡◌, ℕ, List, [], ◌∷◌, slice_get, Option, Some, None, option_map, refl, sym, ap, ◌∙◌}
 use Rattle.std.specs.Option.{option_and_then}
 use Rattle.std.proofs.lemmas.Option.{slice_get-map}
-use Rattle.babel_value.specs.declared.addresses.Addr.{Addr}
 use Rattle.babel_value.specs.declared.addresses.Family.{Family}
 use Rattle.babel_value.specs.declared.addresses.Family.TheVariants.{Ipv4, Ipv6}
 use Rattle.babel_value.specs.declared.keys.Peer.{Peer}

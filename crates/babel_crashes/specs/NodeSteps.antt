@@ -1,20 +1,19 @@
 -- The turns and restarts of a speaker at a node of a network (profile).
-use Rattle.std.specs.Prelude.{◌≡◌, List, [], ◌∷◌, ◌++◌, Contains, ℕ, Option, Some, None, slice_get, slice_set}
+use Rattle.std.specs.Prelude.{◌≡◌, List, Contains, ℕ, Some, None, slice_get, slice_set}
 use Rattle.babel_state.specs.declared.configs.Config.{Config}
 use Rattle.babel_state.specs.Addresses.{transport_at}
 use Rattle.babel_state.specs.Calls.{first_state}
 use Rattle.babel_state.specs.State.{State}
-use Rattle.babel_wire.specs.Calls.{Receipt, Nothing, Failed, Datagram, Sending, Call}
+use Rattle.babel_wire.specs.Calls.{Receipt, Nothing, Failed, Datagram, Sending}
 use Rattle.babel_wire.specs.Turns.{Turn}
-use Rattle.babel_durable.specs.Cuts.{sent_in}
-use Rattle.babel_durable.specs.Lives.{Step, Drive, Restart, taken}
-use Rattle.babel_net.specs.declared.events.Event.{Event}
-use Rattle.babel_net.specs.declared.events.Event.TheVariants as events
-use Rattle.babel_network.specs.EventRefusals.{step_fault}
-use Rattle.babel_network.specs.Invariants.{IsNetwork}
-use Rattle.babel_network.specs.Networks.{NetworkState, SentOctets}
-use Rattle.babel_network.specs.Promises.{RanBy, HasNoLoop, HasNoLoopWithOneOrigin}
-use Rattle.babel_network.specs.Steps.{Makes}
+use Rattle.babel_durable.specs.Lives.{Step, taken}
+use Rattle.babel_machine.specs.declared.events.Event.{Event}
+use Rattle.babel_machine.specs.declared.events.Event.TheVariants as events
+use Rattle.babel_net.specs.EventRefusals.{step_fault}
+use Rattle.babel_net.specs.Invariants.{IsNetwork}
+use Rattle.babel_net.specs.Networks.{NetworkState, SentOctets}
+use Rattle.babel_net.specs.Promises.{RanBy, HasNoLoop, HasNoLoopWithOneOrigin}
+use Rattle.babel_net.specs.Steps.{Makes}
 
 -- What came over the wire is a datagram that a node of the network sent, with its source address.
 abbrev pub IsFrom : List SentOctets → Receipt → Type 0
@@ -22,14 +21,9 @@ IsFrom sent (Datagram iface source octets) = (d : SentOctets) × Contains sent d
 IsFrom sent Nothing = Unit {0}
 IsFrom sent Failed = Unit {0}
 
-abbrev pub AreFrom : List SentOctets → List Step → Type 0
-AreFrom sent [] = Unit {0}
-AreFrom sent (Drive t ∷ steps) = IsFrom sent t.receipt × AreFrom sent steps
-AreFrom sent (Restart now ∷ steps) = AreFrom sent steps
-
-abbrev pub CameFrom : List SentOctets → List Turn → Type 0
-CameFrom sent [] = Unit {0}
-CameFrom sent (t ∷ ts) = IsFrom sent t.receipt × CameFrom sent ts
+-- So it was in each of the turns.
+abbrev pub AreFrom : List SentOctets → List Turn → Type 0
+AreFrom sent turns = (t : Turn) → Contains turns t → IsFrom sent t.receipt
 
 -- The speaker is at the node, which has this configuration. It sends from the addresses that are configured.
 pub record IsAt (n : NetworkState) (node : ℕ) (config : Config) (s : State) : Type 0 where
@@ -60,13 +54,13 @@ pub record AreEvents (node : ℕ) (config : Config) (steps : List Step) (s : Sta
   pub leads : LeadsTo node config s old new
   pub records : (x : Sending) → Contains (taken steps) x → IsRecorded node config new.sent x
 
--- The node is killed and started again. The network comes to `before` by events that record every datagram that was sent, and then the node restarts.
--- No loop is in it then.
-pub record IsRestart (node : ℕ) (config : Config) (now : ℕ) (cut : List Call) (s : State) (old : NetworkState) : Type 0 where
+-- The node is killed and started again as this speaker. The network comes to `before` by events that record every datagram that was sent, and then the
+-- node restarts. No loop is in it then.
+pub record IsRestart (node : ℕ) (config : Config) (now : ℕ) (sent : List Sending) (s : State) (old : NetworkState) : Type 0 where
   pub state : State
   pub before : NetworkState
   pub leads : LeadsTo node config state old before
-  pub records : (x : Sending) → Contains (sent_in cut) x → IsRecorded node config before.sent x
+  pub records : (x : Sending) → Contains sent x → IsRecorded node config before.sent x
   pub after : NetworkState
   pub restart : Makes (events.Restart node now) before after
   pub accepted : step_fault (events.Restart node now) before ≡ None

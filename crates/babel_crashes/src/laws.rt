@@ -1,11 +1,11 @@
 //! Why crashes make no loop, as laws over networks. Each law is the contract of a function that does
 //! nothing.
 
-ghost use Rattle.babel_crashes.specs.CrashLaws.{TurnsAreEvents, CrashesAreRestartEvents};
+ghost use Rattle.babel_crashes.specs.CrashLaws.{TurnsAreEvents, CrashesAreRestartEvents, LivesAreRestartEvents};
 
-use babel_durable::laws::{crashes_are_restarts, what_is_kept_covers_what_was_sent};
-use babel_net::laws::sound_networks_have_no_loop;
-use babel_network::laws::networks_go_on;
+use babel_durable::laws::what_is_kept_covers_what_was_sent;
+use babel_machine::laws::sound_networks_have_no_loop;
+use babel_net::laws::networks_go_on;
 use babel_state::laws::settings_stay;
 
 /// The turns and restarts of a speaker at a node of a network are events of the network.
@@ -19,11 +19,11 @@ pub fn turns_are_events()
 /// after some whole turns. Every datagram that was sent is recorded by then; the others are lost. So the
 /// network has no loop.
 pub fn crashes_are_restart_events()
-    ensures { CrashesAreRestartEvents }
+    ensures once { CrashesAreRestartEvents }
+    ensures again { LivesAreRestartEvents }
 {
     turns_are_events();
     what_is_kept_covers_what_was_sent();
-    crashes_are_restarts();
     networks_go_on();
     sound_networks_have_no_loop();
 }

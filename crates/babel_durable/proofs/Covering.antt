@@ -1,16 +1,16 @@
 -- What is kept covers what was sent.
-use Rattle.std.proofs.Common.{◌≡◌, ◌⊎◌, ℕ, suc, Bool, true, false, cond, List, [], ◌∷◌, ◌++◌, map, take, All, Contains, Option, Some, None, refl, sym, ap, ◌∙◌, subst, inl, inr}
+use Rattle.std.proofs.Common.{◌≡◌, ◌⊎◌, ℕ, suc, true, false, cond, List, [], ◌∷◌, ◌++◌, map, take, Contains, Option, Some, refl, sym, ap, ◌∙◌, subst, inl, inr}
 use Rattle.std.proofs.lemmas.List.{append-nil}
 use Rattle.std.proofs.lemmas.List.Elements.{All-cons, All-nil, All-contains, Contains-append_left}
 use Rattle.babel_state.specs.Restarts.{Snapshot, snapshot_of, restored}
 use Rattle.babel_state.specs.State.{State}
 use Rattle.babel_wire.specs.Calls.{Call, Recv, Now, Send, Keep, Receipt, Sending}
-use Rattle.babel_durable.specs.Keeping.{Keeping, Unchanged, NotMade, Tried, DurableTurn, AreDurableTurns, AreOctetsOf, IsDurableTurn, Keeps, last_kept, is_kept, given_in, calls_of_keeping, calls_of, calls_of_turn, turns_of, taken_in}
-use Rattle.babel_durable.specs.Cuts.{File, IsCutOf, IsOnDisk, after_call, begun, on_disk, sent_in}
+use Rattle.babel_durable.specs.Keeping.{Keeping, Unchanged, NotMade, Tried, DurableTurn, AreOctetsOf, IsDurableTurn, Keeps, last_kept, is_kept, given_in, calls_of_keeping, calls_of, calls_of_turn, turns_of, taken_in}
+use Rattle.babel_durable.specs.Cuts.{File, IsCutOf, IsOnDisk, on_disk, sent_in}
 use Rattle.babel_durable.specs.DurableLaws.{WhatIsKeptCoversWhatWasSent, CrashesAreRestarts}
 use Rattle.babel_durable.specs.Lives.{IsCovered}
 use Rattle.babel_durable.proofs.Files.{disk_joined}
-use Rattle.babel_durable.proofs.Members.{AreIn, none_in, joined_in, in_one, in_more, first_in}
+use Rattle.babel_durable.proofs.Members.{AreIn, none_in, joined_in, in_one, in_more}
 
 -- ---- cuts
 

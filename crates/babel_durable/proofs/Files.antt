@@ -1,7 +1,7 @@
 -- What may be on disk is what was kept last, or tried since.
-use Rattle.std.proofs.Common.{◌≡◌, ◌⊎◌, ◌↔◌, ℕ, Bool, true, false, true≢false, List, [], ◌∷◌, ◌++◌, Contains, Some, refl, sym, ap, ◌∙◌, subst, inl, inr}
+use Rattle.std.proofs.Common.{◌≡◌, ◌⊎◌, ℕ, Bool, true, false, true≢false, List, [], ◌∷◌, ◌++◌, Contains, Some, refl, sym, ap, ◌∙◌, subst, inl, inr}
 use Rattle.babel_wire.specs.Calls.{Call, Recv, Now, Send, Keep}
-use Rattle.babel_durable.specs.Cuts.{File, after_call, on_disk, NoneKept, IsTried, IsLastTried}
+use Rattle.babel_durable.specs.Cuts.{File, after_call, on_disk, NoneKept, IsLastTried}
 use Rattle.babel_durable.specs.DurableLaws.{FilesAreLastTried}
 use Rattle.babel_durable.proofs.Members.{not_in_none, in_one, first_in, later_in, in_more}
 

@@ -3,6 +3,7 @@ pub mod Turns
 pub mod Files
 pub mod Covering
 pub mod Processes
+pub mod Restored
 pub mod Takings
 pub mod Keepings
 pub mod DurableTurning

@@ -2,7 +2,7 @@
 use Rattle.std.proofs.Common.{◌≡◌, List, [], ◌∷◌, ◌++◌, Option, refl, sym, ap, ◌∙◌, subst, append_assoc}
 use Rattle.babel_state.specs.Restarts.{Snapshot, snapshot_of}
 use Rattle.babel_state.specs.State.{State}
-use Rattle.babel_durable.specs.Keeping.{DurableTurn, AreDurableTurns, IsDurableTurn, last_kept, calls_of, calls_of_turn}
+use Rattle.babel_durable.specs.Keeping.{DurableTurn, AreDurableTurns, last_kept, calls_of, calls_of_turn}
 use Rattle.babel_durable.specs.DurableLaws.{DurableTurnsGoOn}
 
 joined : (last mid later : Option Snapshot) (old state new : State) (first rest : List DurableTurn) →

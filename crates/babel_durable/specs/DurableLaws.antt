@@ -2,13 +2,14 @@
 use Rattle.std.specs.Prelude.{◌≡◌, ◌⊎◌, ◌↔◌, List, [], ◌∷◌, ◌++◌, Contains, ℕ, Option, Some, None}
 use Rattle.babel_state.specs.declared.configs.Config.{Config}
 use Rattle.babel_state.specs.Calls.{first_state}
-use Rattle.babel_state.specs.Restarts.{Snapshot, restored, restarted}
+use Rattle.babel_state.specs.Restarts.{Snapshot, snapshot_of, restored, restarted}
 use Rattle.babel_state.specs.State.{State}
 use Rattle.babel_snapshot.specs.Reading.{snapshot_in}
 use Rattle.babel_wire.specs.Calls.{Sending, Call}
+use Rattle.babel_wire.specs.Turns.{Turn}
 use Rattle.babel_durable.specs.Keeping.{DurableTurn, AreDurableTurns, calls_of}
 use Rattle.babel_durable.specs.Cuts.{File, IsCutOf, IsOnDisk, IsLastTried, on_disk, sent_in}
-use Rattle.babel_durable.specs.Lives.{IsCovered, Process, AreProcesses, AreReached, disk_after, sent_by}
+use Rattle.babel_durable.specs.Lives.{IsCovered, Process, AreProcesses, AreReached, disk_after, made_by, sent_by}
 
 -- Turns, and then more of them.
 abbrev pub DurableTurnsGoOn : Type 0
@@ -32,6 +33,11 @@ CrashesAreRestarts =
     (now : ℕ) (config : Config) (old : State) (turns : List DurableTurn) (cut : List Call) (octets : List ℕ) (covered : IsCovered old turns cut octets) →
     restored now config (snapshot_in octets) ≡ restarted now config covered.state
 
+-- What is restored of a snapshot has this snapshot, if its router-id is the configured one. So after a restart the file is that of the speaker again.
+abbrev pub RestoredHaveTheSnapshot : Type 0
+RestoredHaveTheSnapshot =
+    (now : ℕ) (config : Config) (snapshot : Snapshot) → snapshot.router ≡ config.router_id → snapshot_of (restored now config snapshot) ≡ snapshot
+
 -- What may be on disk is what the last keep that succeeded was given, or what was tried later. If none succeeded, it may be what was there before.
 abbrev pub FilesAreLastTried : Type 0
 FilesAreLastTried = (files : List File) (calls : List Call) (file : File) → Contains (on_disk files calls) file ↔ IsLastTried files calls file
@@ -41,11 +47,11 @@ FilesAreLastTried = (files : List File) (calls : List Call) (file : File) → Co
 abbrev pub ProcessesAreCovered : Type 0
 ProcessesAreCovered =
     (config : Config) (processes : List Process) → AreProcesses config (None ∷ []) processes →
-    AreReached config (first_state config) (sent_by processes) (disk_after (None ∷ []) processes)
+    AreReached config (first_state config) (made_by processes) (sent_by processes) (disk_after (None ∷ []) processes)
 
 -- So it goes on from any files that are reached.
 abbrev pub ProcessesStayCovered : Type 0
 ProcessesStayCovered =
-    (config : Config) (first : State) (sent : List Sending) (files : List File) (processes : List Process) →
-    AreReached config first sent files → AreProcesses config files processes →
-    AreReached config first (sent ++ sent_by processes) (disk_after files processes)
+    (config : Config) (first : State) (made : List Turn) (sent : List Sending) (files : List File) (processes : List Process) →
+    AreReached config first made sent files → AreProcesses config files processes →
+    AreReached config first (made ++ made_by processes) (sent ++ sent_by processes) (disk_after files processes)

@@ -39,6 +39,12 @@ taken [] = []
 taken (Drive t ∷ steps) = t.sendings ++ taken steps
 taken (Restart now ∷ steps) = taken steps
 
+-- The turns among them.
+abbrev pub turns_in : List Step → List Turn
+turns_in [] = []
+turns_in (Drive t ∷ steps) = t ∷ turns_in steps
+turns_in (Restart now ∷ steps) = turns_in steps
+
 -- ---- several processes
 
 -- The speaker with which a process starts: restored from the file, or new if there is none.
@@ -70,6 +76,11 @@ abbrev pub sent_by : List Process → List Sending
 sent_by [] = []
 sent_by (p ∷ ps) = sent_in p.cut ++ sent_by ps
 
+-- The turns that they made or began.
+abbrev pub made_by : List Process → List Turn
+made_by [] = []
+made_by (p ∷ ps) = turns_of p.turns ++ made_by ps
+
 -- What may be on disk after the last of them.
 abbrev pub disk_after : List File → List Process → List File
 disk_after files [] = files
@@ -80,14 +91,16 @@ abbrev pub IsFileOf : Config → State → File → Type 0
 IsFileOf config s None = s ≡ first_state config
 IsFileOf config s (Some octets) = AreOctetsOf (snapshot_of s) octets
 
--- Steps lead from the first state to the one that is in the file, and every datagram that was sent was taken in them.
-pub record IsReached (config : Config) (first : State) (sent : List Sending) (file : File) : Type 0 where
+-- Steps lead from the first state to the one that is in the file. Their turns are some of those that were made, and every datagram that was sent was
+-- taken in them.
+pub record IsReached (config : Config) (first : State) (made : List Turn) (sent : List Sending) (file : File) : Type 0 where
   pub steps : List Step
   pub state : State
   pub leads : Leads config first steps state
   pub file_of : IsFileOf config state file
+  pub were_made : (t : Turn) → Contains (turns_in steps) t → Contains made t
   pub covers : (x : Sending) → Contains sent x → Contains (taken steps) x
 
 -- So it is for each file that may be on disk.
-abbrev pub AreReached : Config → State → List Sending → List File → Type 0
-AreReached config first sent files = (file : File) → Contains files file → IsReached config first sent file
+abbrev pub AreReached : Config → State → List Turn → List Sending → List File → Type 0
+AreReached config first made sent files = (file : File) → Contains files file → IsReached config first made sent file

@@ -1,7 +1,7 @@
 //! Laws of durable turns, each the contract of a function that does nothing.
 
 ghost use Rattle.babel_durable.specs.DurableRuns.{KeepersFitOn};
-ghost use Rattle.babel_durable.specs.DurableLaws.{DurableTurnsGoOn, WhatIsKeptCoversWhatWasSent, CrashesAreRestarts, FilesAreLastTried, ProcessesAreCovered, ProcessesStayCovered};
+ghost use Rattle.babel_durable.specs.DurableLaws.{DurableTurnsGoOn, WhatIsKeptCoversWhatWasSent, CrashesAreRestarts, RestoredHaveTheSnapshot, FilesAreLastTried, ProcessesAreCovered, ProcessesStayCovered};
 
 /// Lists of durable turns may be joined.
 pub fn durable_turns_go_on()
@@ -16,9 +16,11 @@ pub fn what_is_kept_covers_what_was_sent()
 {}
 
 /// A speaker that is restored from such a file is the speaker after those turns, saved and restored at
-/// once. The datagrams that were taken in them and not sent are lost.
+/// once. The datagrams that were taken in them and not sent are lost. The file is then that of the restored
+/// speaker.
 pub fn crashes_are_restarts()
-    ensures { CrashesAreRestarts }
+    ensures restored { CrashesAreRestarts }
+    ensures same { RestoredHaveTheSnapshot }
 {}
 
 /// What may be on disk is what the last keep that succeeded was given, or what was tried since.

@@ -4,6 +4,7 @@
 #![tactic(auto)]
 
 mod driving;
+pub mod examples;
 mod keeper;
 pub mod laws;
 mod outbox;

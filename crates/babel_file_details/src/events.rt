@@ -8,7 +8,7 @@ use crate::nearest::Nearest;
 use crate::problems::Problem;
 use crate::ranges::AddrRange;
 use babel_config::Scenario;
-use babel_net::{Event, StepFault};
+use babel_machine::{Event, StepFault};
 use std::alloc::Global;
 
 /// Why the text is no event.

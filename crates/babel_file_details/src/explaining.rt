@@ -11,7 +11,7 @@ use crate::problems::Problem;
 use crate::schema::Schema;
 use crate::warnings::warnings_of;
 use babel_config::{FileFault, read_config, read_scenario};
-use babel_net::{NetFault, StepFault};
+use babel_machine::{NetFault, StepFault};
 use babel_state::ConfigFault;
 use std::alloc::Global;
 use std::io::{self, Write};

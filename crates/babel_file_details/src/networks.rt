@@ -5,7 +5,7 @@ use crate::findings::Finding;
 use crate::keys::Key;
 use crate::locations::Owner;
 use crate::problems::Problem;
-use babel_net::NetFault;
+use babel_machine::NetFault;
 use babel_state::{Config, Interface};
 use babel_value::Addr;
 

@@ -1,7 +1,7 @@
 //! Allocations of the machine that fail.
 
 use crate::machines::one_source;
-use babel_net::MachineFault::{MayNotPick, Memory};
+use babel_machine::MachineFault::{MayNotPick, Memory};
 use std::test::Fail;
 
 /// No memory has room for this many nodes.

@@ -1,7 +1,7 @@
 //! A machine that is made in one call.
 
-use babel_net::MachineFault;
-use babel_net::machine::Machine;
+use babel_machine::MachineFault;
+use babel_machine::machine::Machine;
 use std::alloc::Global;
 
 /// `nodes` nodes, and one source that node 0 owns.

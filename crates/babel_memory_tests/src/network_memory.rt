@@ -1,6 +1,6 @@
 //! A call that is out of memory returns that and changes nothing, and succeeds when it is made again.
 
-use babel_network::{Event, NetFault, Network, StepFault};
+use babel_net::{Event, NetFault, Network, StepFault};
 use babel_state::{Config, ConfigFault, Interface};
 use babel_value::{Addr, Family, Prefix};
 use std::alloc::{AllocError, Global};

@@ -1,12 +1,17 @@
-//! Networks of Babel speakers (RFC 8966), and why their routes never form a loop.
-//!
-//! `machine` is the message machine, from whose steps alone loop freedom follows.
+//! Networks of Babel speakers (RFC 8966), from octets to octets: after any events, the selected routes of
+//! their nodes form no loop.
 #![tactic(auto)]
 
-mod errors;
-mod events;
+mod acceptance;
+mod calls;
 pub mod laws;
-pub mod machine;
+mod network;
+mod node_speakers;
+mod nodes;
+mod owners;
+mod sent;
 
-pub use errors::{MachineFault, NetFault, StepFault};
-pub use events::Event;
+pub use babel_machine::machine::Machine;
+pub use babel_machine::{Event, MachineFault, NetFault, StepFault};
+pub use calls::node_of;
+pub use network::Network;

@@ -11,3 +11,4 @@ pub mod Seeing
 pub mod Sending
 pub mod Writing
 pub mod Zips
+pub mod Counted

@@ -4,6 +4,7 @@ use Rattle.std.specs.Io.KnownBytes.{Appends}
 use Rattle.babel_message.specs.declared.errors.Refusal.{Refusal}
 use Rattle.babel_message.specs.declared.placements.Placed.{Placed}
 use Rattle.babel_packet.specs.Meaning.{meaning}
+use Rattle.babel_speaker.specs.Decodings.{DecodedValue}
 use Rattle.babel_state.specs.declared.items.Target.{Target}
 use Rattle.babel_state.specs.declared.notes.Note.{Note}
 use Rattle.babel_state.specs.NextDatagram.{Draft, next_datagram}
@@ -28,10 +29,10 @@ abbrev pub places_in : Action → List Placed
 places_in (actions.Receive iface source octets) = places_or_none (meaning octets.now source)
 places_in action = []
 
--- The datagram can be read, and these are its places.
-abbrev pub IsDecoded : Action → List Placed → Type 0
-IsDecoded (actions.Receive iface source octets) placed = meaning octets.now source ≡ Ok placed
-IsDecoded action placed = ⊥
+-- The datagram can be read: it came from this address, and these are its places.
+abbrev pub IsDecodedAs : Action → DecodedValue → Type 0
+IsDecodedAs (actions.Receive iface source octets) decoded = (decoded.source ≡ source) × (meaning octets.now source ≡ Ok decoded.placed)
+IsDecodedAs action decoded = ⊥
 
 abbrev pub note_line : ℕ → Placed × Note → List ℕ
 note_line time (placed, note) = moment_text time ++ tlv_line placed note.verdict

@@ -16,7 +16,7 @@ ghost use Rattle.babel_replay.specs.Taking.{LeadsByEvent, LeadsByLine, LeadsTo, 
 use crate::log_lines::is_skipped;
 use crate::reading::read_line;
 use crate::replaying::{Buffers, write_line};
-use crate::stepping::step;
+use crate::stepping::make_step;
 use crate::{Event, LineFault, ReplayFault, parse_line};
 use arrayvec::ArrayVec;
 use babel_choice::Entry;
@@ -57,8 +57,8 @@ fn explain_log<R: BufRead, W: Write>(
     prefix: &Prefix,
     out: &mut W,
 ) -> Result<(), ReplayFault>
-    ensures routes { OnOk result (OfAllLines (R.remaining log.old) (Writes (routes_after prefix.now) speaker.old (W.contents out.old) (W.contents out.new))) }
-    ensures fault { IfErr result (IsStopped (routes_after prefix.now) speaker.old (R.remaining log.old) (W.contents out.old) (W.contents out.new)) }
+    ensures routes { OnOk result (OfAllLines (R.remaining log.old) (Writes (routes_after prefix.now) speaker.old.state (W.contents out.old) (W.contents out.new))) }
+    ensures fault { IfErr result (IsStopped (routes_after prefix.now) speaker.old.state (R.remaining log.old) (W.contents out.old) (W.contents out.new)) }
 {
     let mut number = 1;
     let taken = take_log(alloc, speaker, log, &mut number);
@@ -77,8 +77,8 @@ fn take_log<R: BufRead>(
     number: &mut u64,
 ) -> Result<(), LineFault>
     requires { number.old ≡ 1 }
-    ensures taken { OnOk result (OfAllLines (R.remaining log.old) (LeadsTo number.new speaker.old speaker.new)) }
-    ensures fault { IfErr result (λ fault. OfLinesBefore (R.remaining log.old) number.new fault (LeadsTo number.new speaker.old speaker.new)) }
+    ensures taken { OnOk result (OfAllLines (R.remaining log.old) (LeadsTo number.new speaker.old.state speaker.new.state)) }
+    ensures fault { IfErr result (λ fault. OfLinesBefore (R.remaining log.old) number.new fault (LeadsTo number.new speaker.old.state speaker.new.state)) }
     ensures not_written { IfErr result (λ fault. fault ≢ LineFault.Write) }
 {
     match Buffers::new(alloc) {
@@ -96,8 +96,8 @@ fn take_lines<R: BufRead>(
     number: &mut u64,
 ) -> Result<(), LineFault>
     requires { length octets.old ≡ room }
-    ensures taken { OnOk result (OfAllLines (R.remaining log.old) (LeadsTo number.new speaker.old speaker.new)) }
-    ensures fault { IfErr result (λ fault. OfLinesBefore (R.remaining log.old) number.new fault (LeadsTo number.new speaker.old speaker.new)) }
+    ensures taken { OnOk result (OfAllLines (R.remaining log.old) (LeadsTo number.new speaker.old.state speaker.new.state)) }
+    ensures fault { IfErr result (λ fault. OfLinesBefore (R.remaining log.old) number.new fault (LeadsTo number.new speaker.old.state speaker.new.state)) }
     ensures not_written { IfErr result (λ fault. fault ≢ LineFault.Write) }
 {
     for turn in 1..u64::MAX {
@@ -123,10 +123,10 @@ fn take_line<R: BufRead>(
     log: &mut R,
 ) -> Result<bool, LineFault>
     requires { length octets.old ≡ room }
-    ensures taken { IfOk result (λ more. TakesLine (R.remaining log.old) (R.remaining log.new) more (LeadsByLine speaker.old speaker.new) (speaker.new ≡ speaker.old)) }
+    ensures taken { IfOk result (λ more. TakesLine (R.remaining log.old) (R.remaining log.new) more (LeadsByLine speaker.old.state speaker.new.state) (speaker.new.state ≡ speaker.old.state)) }
     ensures cause { IfErr result (IsCause (R.remaining log.old) []) }
     ensures not_written { IfErr result (λ fault. fault ≢ LineFault.Write) }
-    ensures unchanged { OnErr result (speaker.new ≡ speaker.old) }
+    ensures unchanged { OnErr result (speaker.new.state ≡ speaker.old.state) }
 {
     let more = read_line(log, line)?;
     if !more {
@@ -147,12 +147,11 @@ fn take_line<R: BufRead>(
 
 /// Makes the step of a line, and takes the datagrams that the speaker then sends.
 fn take_event(speaker: &mut Speaker, event: &Event<'_>) -> Result<(), LineFault>
-    ensures ok { OnOk result (LeadsByEvent event.now.time event.now.action speaker.old speaker.new) }
+    ensures ok { OnOk result (LeadsByEvent event.now.time event.now.action speaker.old.state speaker.new.state) }
     ensures memory { IfErr result (λ fault. fault ≡ LineFault.Memory) }
-    ensures unchanged { OnErr result (speaker.new ≡ speaker.old) }
+    ensures unchanged { OnErr result (speaker.new.state ≡ speaker.old.state) }
 {
-    let mut changed = false;
-    match step(speaker, event, &[], false, &mut changed) {
+    match make_step(speaker, event, None) {
         Ok(_) => {
             send_datagrams(speaker, event.time);
             Ok(())
@@ -163,7 +162,7 @@ fn take_event(speaker: &mut Speaker, event: &Event<'_>) -> Result<(), LineFault>
 
 /// Takes datagrams from the speaker until there is none.
 fn send_datagrams(speaker: &mut Speaker, time: u64)
-    ensures { SendsAll time speaker.old speaker.new }
+    ensures { SendsAll time speaker.old.state speaker.new.state }
 {
     datagrams_take_items();
     let mut datagram = ArrayVec::new();
@@ -181,8 +180,8 @@ fn end_explanation<W: Write>(
     prefix: &Prefix,
     out: &mut W,
 ) -> Result<(), LineFault>
-    ensures ok { OnOk result (IsOk taken × Appends (W.contents out.old) (W.contents out.new) (route_lines prefix.now speaker.now)) }
-    ensures fault { IfErr result (λ fault. (fault ≡ LineFault.Write) ⊎ ((taken ≡ Err fault) × Appends (W.contents out.old) (W.contents out.new) (route_lines prefix.now speaker.now))) }
+    ensures ok { OnOk result (IsOk taken × Appends (W.contents out.old) (W.contents out.new) (route_lines prefix.now speaker.now.state)) }
+    ensures fault { IfErr result (λ fault. (fault ≡ LineFault.Write) ⊎ ((taken ≡ Err fault) × Appends (W.contents out.old) (W.contents out.new) (route_lines prefix.now speaker.now.state))) }
 {
     write_routes(speaker, prefix, out)?;
     taken
@@ -190,7 +189,7 @@ fn end_explanation<W: Write>(
 
 /// Writes a line for each route of the prefix, and flushes.
 fn write_routes<W: Write>(speaker: &Speaker, prefix: &Prefix, out: &mut W) -> Result<(), LineFault>
-    ensures written { OnOk result (Appends (W.contents out.old) (W.contents out.new) (route_lines prefix.now speaker.now)) }
+    ensures written { OnOk result (Appends (W.contents out.old) (W.contents out.new) (route_lines prefix.now speaker.now.state)) }
     ensures failed { IfErr result (λ fault. fault ≡ LineFault.Write) }
 {
     for index in 0..speaker.route_count() {
@@ -209,7 +208,7 @@ fn write_route<W: Write>(
     index: usize,
     out: &mut W,
 ) -> Result<(), LineFault>
-    ensures written { OnOk result (Appends (W.contents out.old) (W.contents out.new) (option_map_or (route_line prefix.now speaker.now) (slice_get (reported_entries prefix.now speaker.now) index) [])) }
+    ensures written { OnOk result (Appends (W.contents out.old) (W.contents out.new) (option_map_or (route_line prefix.now speaker.now.state) (slice_get (reported_entries prefix.now speaker.now.state) index) [])) }
     ensures failed { IfErr result (λ fault. fault ≡ LineFault.Write) }
 {
     let Some((peer, entry, cost)) = speaker.entry(prefix, index) else {
@@ -229,7 +228,7 @@ fn route_fields(
     entry: Entry,
     cost: Metric,
 ) -> RouteLine
-    ensures { result ≡ route_fields prefix.now speaker.now peer entry cost }
+    ensures { result ≡ route_fields prefix.now speaker.now.state peer entry cost }
 {
     let key = Source {
         prefix: *prefix,
@@ -259,7 +258,7 @@ fn route_status(
     source: &Option<Distance>,
     metric: Metric,
 ) -> RouteStatus
-    ensures { result ≡ status_by (announces prefix.now speaker.now) advertised.now source.now metric (is_selected_over prefix.now peer.now speaker.now) }
+    ensures { result ≡ status_by (announces prefix.now speaker.now.state) advertised.now source.now metric (is_selected_over prefix.now peer.now speaker.now.state) }
 {
     if speaker.announced(prefix) {
         return RouteStatus::Local;
@@ -306,7 +305,7 @@ fn is_feasible(advertised: &Distance, source: &Option<Distance>) -> bool
 
 /// Whether the prefix's selected route leads over the neighbour.
 fn is_selected(speaker: &Speaker, prefix: &Prefix, peer: &Peer) -> bool
-    ensures { result ≡ is_selected_over prefix.now peer.now speaker.now }
+    ensures { result ≡ is_selected_over prefix.now peer.now speaker.now.state }
 {
     match speaker.selected(prefix) {
         Some(route) => route.peer == *peer,

@@ -1,6 +1,6 @@
 //! A log replayed: what the speaker makes of each line.
 
-ghost use Rattle.std.specs.Prelude.{◌≡◌, ◌≢◌, ◌≤◌, ◌⊎◌, [], length, slice_get, Err, IsOk, IsNone, OnOk, IfOk, IfErr, IsTrue, IsFalse, MatchOption};
+ghost use Rattle.std.specs.Prelude.{◌≡◌, ◌≢◌, ◌≤◌, ◌⊎◌, [], length, slice_get, Err, IsOk, IsNone, OnOk, IfOk, IfErr, IfSome, IsFalse, MatchOption};
 ghost use Rattle.std.specs.Io.KnownBytes.{Appends};
 ghost use Rattle.std.specs.Option.{option_map_or};
 ghost use Rattle.indexmap.specs.IndexMap.{set_value_at};
@@ -10,7 +10,7 @@ ghost use Rattle.babel_state.specs.KeptRoutes.{KeepsRoutes};
 ghost use Rattle.babel_speaker.specs.Making.{IsMakingFault};
 ghost use Rattle.babel_text.specs.declared.errors.LineFault.TheVariants.{Memory, Write};
 ghost use Rattle.babel_replay.specs.LogReports.{room, whole_report, IsCause, IsReplayFault, IsStopped, OfAllLines, OfLinesBefore, Writes};
-ghost use Rattle.babel_replay.specs.Report.{places_in, IsDecoded, note_lines, outcome_lines, seen_by, select_line, select_lines, Reports, ReportsStep, Sends, table_line, table_lines};
+ghost use Rattle.babel_replay.specs.Report.{places_in, IsDecodedAs, note_lines, outcome_lines, seen_by, select_line, select_lines, Reports, ReportsStep, Sends, table_line, table_lines};
 ghost use Rattle.babel_replay.specs.Seen.{updates_in, choice_at, choice_printed, printed_all, ArePrinted};
 ghost use Rattle.babel_replay.specs.Taking.{IsReported, IsReportedLine, TakesLine};
 
@@ -25,9 +25,8 @@ use babel_lines::{
     Choice, push_tlv, set_cost_refused, set_moment, set_out, set_refused, set_select, table_line,
 };
 use babel_message::{Placed, Refusal};
-use babel_packet::decode;
-use babel_speaker::Speaker;
 use babel_speaker::laws::datagrams_take_items;
+use babel_speaker::{Decoded, Speaker};
 use babel_state::{Config, ConfigFault, Note};
 use babel_tlv::DATAGRAM_LEN;
 use babel_value::{Line, Prefix};
@@ -109,7 +108,7 @@ struct Replayer {
 impl Replayer {
     /// A speaker of the configuration, of which nothing was seen yet.
     fn new(alloc: Global, config: Config) -> Result<Replayer, ConfigFault>
-        ensures speaker { IfOk result (λ replayer. replayer.speaker ≡ first_state config) }
+        ensures speaker { IfOk result (λ replayer. replayer.speaker.state ≡ first_state config) }
         ensures seen { IfOk result (λ replayer. replayer.seen.entries ≡ []) }
         ensures valid { IsOk result → IsNone (config_fault config) }
         ensures refused { IfErr result (IsMakingFault (config_fault config)) }
@@ -135,8 +134,8 @@ impl Replayer {
         out: &mut W,
     ) -> Result<(), ReplayFault>
         requires { self.old.seen.entries ≡ [] }
-        ensures report { OnOk result (OfAllLines (R.remaining log.old) (Writes whole_report self.old.speaker (W.contents out.old) (W.contents out.new))) }
-        ensures fault { IfErr result (IsStopped whole_report self.old.speaker (R.remaining log.old) (W.contents out.old) (W.contents out.new)) }
+        ensures report { OnOk result (OfAllLines (R.remaining log.old) (Writes whole_report self.old.speaker.state (W.contents out.old) (W.contents out.new))) }
+        ensures fault { IfErr result (IsStopped whole_report self.old.speaker.state (R.remaining log.old) (W.contents out.old) (W.contents out.new)) }
     {
         let mut number = 1;
         let taken = self.take_log(log, out, &mut number);
@@ -155,9 +154,9 @@ impl Replayer {
         number: &mut u64,
     ) -> Result<(), LineFault>
         requires number { number.old ≡ 1 }
-        requires printed { ArePrinted self.old.speaker self.old.seen.entries }
-        ensures taken { OnOk result (OfAllLines (R.remaining log.old) (IsReported number.new self.old.speaker self.old.seen.entries self.new.speaker self.new.seen.entries (W.contents out.old) (W.contents out.new))) }
-        ensures fault { IfErr result (λ fault. OfLinesBefore (R.remaining log.old) number.new fault (IsReported number.new self.old.speaker self.old.seen.entries self.new.speaker self.new.seen.entries (W.contents out.old) (W.contents out.new))) }
+        requires printed { ArePrinted self.old.speaker.state self.old.seen.entries }
+        ensures taken { OnOk result (OfAllLines (R.remaining log.old) (IsReported number.new self.old.speaker.state self.old.seen.entries self.new.speaker.state self.new.seen.entries (W.contents out.old) (W.contents out.new))) }
+        ensures fault { IfErr result (λ fault. OfLinesBefore (R.remaining log.old) number.new fault (IsReported number.new self.old.speaker.state self.old.seen.entries self.new.speaker.state self.new.seen.entries (W.contents out.old) (W.contents out.new))) }
     {
         match Buffers::new(self.alloc) {
             Ok(mut buffers) => {
@@ -177,9 +176,9 @@ impl Replayer {
         number: &mut u64,
     ) -> Result<(), LineFault>
         requires room { length octets.old ≡ room }
-        requires printed { ArePrinted self.old.speaker self.old.seen.entries }
-        ensures taken { OnOk result (OfAllLines (R.remaining log.old) (IsReported number.new self.old.speaker self.old.seen.entries self.new.speaker self.new.seen.entries (W.contents out.old) (W.contents out.new))) }
-        ensures fault { IfErr result (λ fault. OfLinesBefore (R.remaining log.old) number.new fault (IsReported number.new self.old.speaker self.old.seen.entries self.new.speaker self.new.seen.entries (W.contents out.old) (W.contents out.new))) }
+        requires printed { ArePrinted self.old.speaker.state self.old.seen.entries }
+        ensures taken { OnOk result (OfAllLines (R.remaining log.old) (IsReported number.new self.old.speaker.state self.old.seen.entries self.new.speaker.state self.new.seen.entries (W.contents out.old) (W.contents out.new))) }
+        ensures fault { IfErr result (λ fault. OfLinesBefore (R.remaining log.old) number.new fault (IsReported number.new self.old.speaker.state self.old.seen.entries self.new.speaker.state self.new.seen.entries (W.contents out.old) (W.contents out.new))) }
     {
         for turn in 1..u64::MAX {
             *number = turn;
@@ -205,11 +204,11 @@ impl Replayer {
         out: &mut W,
     ) -> Result<bool, LineFault>
         requires room { length octets.old ≡ room }
-        requires printed { ArePrinted self.old.speaker self.old.seen.entries }
-        ensures taken { IfOk result (λ more. TakesLine (R.remaining log.old) (R.remaining log.new) more (IsReportedLine self.old.speaker self.old.seen.entries self.new.speaker self.new.seen.entries (W.contents out.old) (W.contents out.new)) ((self.new.speaker ≡ self.old.speaker) × (self.new.seen.entries ≡ self.old.seen.entries) × (W.contents out.new ≡ W.contents out.old))) }
+        requires printed { ArePrinted self.old.speaker.state self.old.seen.entries }
+        ensures taken { IfOk result (λ more. TakesLine (R.remaining log.old) (R.remaining log.new) more (IsReportedLine self.old.speaker.state self.old.seen.entries self.new.speaker.state self.new.seen.entries (W.contents out.old) (W.contents out.new)) ((self.new.speaker.state ≡ self.old.speaker.state) × (self.new.seen.entries ≡ self.old.seen.entries) × (W.contents out.new ≡ W.contents out.old))) }
         ensures cause { IfErr result (IsCause (R.remaining log.old) []) }
-        ensures unchanged { IfErr result (λ fault. fault ≢ Write → (self.new.speaker ≡ self.old.speaker) × (self.new.seen.entries ≡ self.old.seen.entries) × (W.contents out.new ≡ W.contents out.old)) }
-        ensures printed { OnOk result (ArePrinted self.new.speaker self.new.seen.entries) }
+        ensures unchanged { IfErr result (λ fault. fault ≢ Write → (self.new.speaker.state ≡ self.old.speaker.state) × (self.new.seen.entries ≡ self.old.seen.entries) × (W.contents out.new ≡ W.contents out.old)) }
+        ensures printed { OnOk result (ArePrinted self.new.speaker.state self.new.seen.entries) }
     {
         let more = read_line(log, line)?;
         if !more {
@@ -229,39 +228,38 @@ impl Replayer {
     /// Makes the step of a line, and writes its report. All memory is allocated before anything is
     /// changed or written.
     fn take_event<W: Write>(&mut self, event: &Event<'_>, out: &mut W) -> Result<(), LineFault>
-        requires printed { ArePrinted self.old.speaker self.old.seen.entries }
-        ensures report { OnOk result (Reports event.now.time event.now.action self.old.speaker self.old.seen.entries self.new.speaker self.new.seen.entries (W.contents out.old) (W.contents out.new)) }
+        requires printed { ArePrinted self.old.speaker.state self.old.seen.entries }
+        ensures report { OnOk result (Reports event.now.time event.now.action self.old.speaker.state self.old.seen.entries self.new.speaker.state self.new.seen.entries (W.contents out.old) (W.contents out.new)) }
         ensures fault { IfErr result (λ fault. (fault ≡ Memory) ⊎ (fault ≡ Write)) }
-        ensures unchanged { IfErr result (λ fault. fault ≢ Write → (self.new.speaker ≡ self.old.speaker) × (self.new.seen.entries ≡ self.old.seen.entries) × (W.contents out.new ≡ W.contents out.old)) }
-        ensures printed { OnOk result (ArePrinted self.new.speaker self.new.seen.entries) }
+        ensures unchanged { IfErr result (λ fault. fault ≢ Write → (self.new.speaker.state ≡ self.old.speaker.state) × (self.new.seen.entries ≡ self.old.seen.entries) × (W.contents out.new ≡ W.contents out.old)) }
+        ensures printed { OnOk result (ArePrinted self.new.speaker.state self.new.seen.entries) }
     {
         match self.decode(event)? {
-            Some(placed) => self.take_placed(event, &placed, true, out),
-            None => self.take_placed(event, &[], false, out),
+            Some(decoded) => self.take_placed(event, decoded.placed(), Some(&decoded), out),
+            None => self.take_placed(event, &[], None, out),
         }
     }
 
-    /// The same with what the line's datagram means, and whether it has one that can be read.
+    /// The same with what the line's datagram means, and with the datagram itself if it has one that can be read.
     fn take_placed<W: Write>(
         &mut self,
         event: &Event<'_>,
         placed: &[Placed],
-        is_decoded: bool,
+        decoded: Option<&Decoded>,
         out: &mut W,
     ) -> Result<(), LineFault>
         requires places { placed.now ≡ places_in event.now.action }
-        requires decoded { IsTrue is_decoded → IsDecoded event.now.action placed.now }
-        requires printed { ArePrinted self.old.speaker self.old.seen.entries }
-        ensures report { OnOk result (Reports event.now.time event.now.action self.old.speaker self.old.seen.entries self.new.speaker self.new.seen.entries (W.contents out.old) (W.contents out.new)) }
+        requires decoded { IfSome decoded (λ d. IsDecodedAs event.now.action d.now) }
+        requires printed { ArePrinted self.old.speaker.state self.old.seen.entries }
+        ensures report { OnOk result (Reports event.now.time event.now.action self.old.speaker.state self.old.seen.entries self.new.speaker.state self.new.seen.entries (W.contents out.old) (W.contents out.new)) }
         ensures fault { IfErr result (λ fault. (fault ≡ Memory) ⊎ (fault ≡ Write)) }
-        ensures unchanged { IfErr result (λ fault. fault ≢ Write → (self.new.speaker ≡ self.old.speaker) × (self.new.seen.entries ≡ self.old.seen.entries) × (W.contents out.new ≡ W.contents out.old)) }
-        ensures printed { OnOk result (ArePrinted self.new.speaker self.new.seen.entries) }
+        ensures unchanged { IfErr result (λ fault. fault ≢ Write → (self.new.speaker.state ≡ self.old.speaker.state) × (self.new.seen.entries ≡ self.old.seen.entries) × (W.contents out.new ≡ W.contents out.old)) }
+        ensures printed { OnOk result (ArePrinted self.new.speaker.state self.new.seen.entries) }
     {
         if self.seen.reserve(placed).is_err() {
             return Err(LineFault::Memory);
         }
-        let mut changed = false;
-        let outcome = step(&mut self.speaker, event, placed, is_decoded, &mut changed)?;
+        let (outcome, changed) = step(&mut self.speaker, event, decoded)?;
         self.write_report(event.time, placed, &outcome, changed, out)
     }
 
@@ -276,9 +274,9 @@ impl Replayer {
         out: &mut W,
     ) -> Result<(), LineFault>
         requires room { updates_in placed.now ≤ self.old.seen.room }
-        requires printed { IsFalse changed → ArePrinted self.old.speaker self.old.seen.entries }
-        ensures printed { OnOk result (ArePrinted self.new.speaker self.new.seen.entries) }
-        ensures report { OnOk result (ReportsStep time placed.now outcome.now self.old.speaker self.old.seen.entries self.new.speaker self.new.seen.entries (W.contents out.old) (W.contents out.new)) }
+        requires printed { IsFalse changed → ArePrinted self.old.speaker.state self.old.seen.entries }
+        ensures printed { OnOk result (ArePrinted self.new.speaker.state self.new.seen.entries) }
+        ensures report { OnOk result (ReportsStep time placed.now outcome.now self.old.speaker.state self.old.seen.entries self.new.speaker.state self.new.seen.entries (W.contents out.old) (W.contents out.new)) }
         ensures failed { IfErr result (λ fault. fault ≡ LineFault.Write) }
     {
         let added = self.write_outcome(time, placed, outcome, out)?;
@@ -299,7 +297,7 @@ impl Replayer {
         ensures same { IfOk result (λ added. IsFalse added → self.new.seen.entries ≡ self.old.seen.entries) }
         ensures written { OnOk result (Appends (W.contents out.old) (W.contents out.new) (outcome_lines time placed.now outcome.now)) }
         ensures seen { OnOk result (self.new.seen.entries ≡ seen_by placed.now outcome.now self.old.seen.entries) }
-        ensures speaker { self.new.speaker ≡ self.old.speaker }
+        ensures speaker { self.new.speaker.state ≡ self.old.speaker.state }
         ensures failed { IfErr result (λ fault. fault ≡ LineFault.Write) }
     {
         match outcome {
@@ -328,8 +326,8 @@ impl Replayer {
         taken: Result<(), LineFault>,
         out: &mut W,
     ) -> Result<(), LineFault>
-        ensures ok { OnOk result (IsOk taken × Appends (W.contents out.old) (W.contents out.new) (table_lines self.now.speaker self.now.seen.entries)) }
-        ensures fault { IfErr result (λ fault. (fault ≡ LineFault.Write) ⊎ ((taken ≡ Err fault) × Appends (W.contents out.old) (W.contents out.new) (table_lines self.now.speaker self.now.seen.entries))) }
+        ensures ok { OnOk result (IsOk taken × Appends (W.contents out.old) (W.contents out.new) (table_lines self.now.speaker.state self.now.seen.entries)) }
+        ensures fault { IfErr result (λ fault. (fault ≡ LineFault.Write) ⊎ ((taken ≡ Err fault) × Appends (W.contents out.old) (W.contents out.new) (table_lines self.now.speaker.state self.now.seen.entries))) }
     {
         if let Err(LineFault::Write) = taken {
             return taken;
@@ -339,15 +337,15 @@ impl Replayer {
     }
 
     /// What the line's datagram means, if it has one that can be read.
-    fn decode(&self, event: &Event<'_>) -> Result<Option<Vec<Placed>>, LineFault>
-        ensures ok { IfOk result (λ found. MatchOption found (places_in event.now.action ≡ []) (λ placed. IsDecoded event.now.action placed.items)) }
+    fn decode(&self, event: &Event<'_>) -> Result<Option<Decoded>, LineFault>
+        ensures ok { IfOk result (λ found. MatchOption found (places_in event.now.action ≡ []) (λ decoded. IsDecodedAs event.now.action decoded)) }
         ensures memory { IfErr result (λ fault. fault ≡ LineFault.Memory) }
     {
         let Action::Receive { source, octets, .. } = event.action else {
             return Ok(None);
         };
-        match decode(self.alloc, octets, source) {
-            Ok(placed) => Ok(Some(placed)),
+        match Decoded::new(self.alloc, octets, source) {
+            Ok(decoded) => Ok(Some(decoded)),
             Err(Refusal::Memory) => Err(LineFault::Memory),
             Err(_) => Ok(None),
         }
@@ -361,10 +359,10 @@ impl Replayer {
         changed: bool,
         out: &mut W,
     ) -> Result<(), LineFault>
-        requires { IsFalse changed → ArePrinted self.old.speaker self.old.seen.entries }
-        ensures written { OnOk result (Appends (W.contents out.old) (W.contents out.new) (select_lines time self.old.speaker self.old.seen.entries)) }
-        ensures seen { OnOk result (self.new.seen.entries ≡ printed_all self.old.speaker self.old.seen.entries) }
-        ensures speaker { self.new.speaker ≡ self.old.speaker }
+        requires { IsFalse changed → ArePrinted self.old.speaker.state self.old.seen.entries }
+        ensures written { OnOk result (Appends (W.contents out.old) (W.contents out.new) (select_lines time self.old.speaker.state self.old.seen.entries)) }
+        ensures seen { OnOk result (self.new.seen.entries ≡ printed_all self.old.speaker.state self.old.seen.entries) }
+        ensures speaker { self.new.speaker.state ≡ self.old.speaker.state }
         ensures failed { IfErr result (λ fault. fault ≡ LineFault.Write) }
     {
         if !changed {
@@ -375,9 +373,9 @@ impl Replayer {
 
     /// The same, by a look at each seen prefix.
     fn write_changes<W: Write>(&mut self, time: u64, out: &mut W) -> Result<(), LineFault>
-        ensures written { OnOk result (Appends (W.contents out.old) (W.contents out.new) (select_lines time self.old.speaker self.old.seen.entries)) }
-        ensures seen { OnOk result (self.new.seen.entries ≡ printed_all self.old.speaker self.old.seen.entries) }
-        ensures speaker { self.new.speaker ≡ self.old.speaker }
+        ensures written { OnOk result (Appends (W.contents out.old) (W.contents out.new) (select_lines time self.old.speaker.state self.old.seen.entries)) }
+        ensures seen { OnOk result (self.new.seen.entries ≡ printed_all self.old.speaker.state self.old.seen.entries) }
+        ensures speaker { self.new.speaker.state ≡ self.old.speaker.state }
         ensures failed { IfErr result (λ fault. fault ≡ LineFault.Write) }
     {
         for index in 0..self.seen.len() {
@@ -393,9 +391,9 @@ impl Replayer {
         time: u64,
         out: &mut W,
     ) -> Result<(), LineFault>
-        ensures written { OnOk result (Appends (W.contents out.old) (W.contents out.new) (option_map_or (select_line time self.old.speaker) (slice_get self.old.seen.entries index) [])) }
-        ensures seen { OnOk result (self.new.seen.entries ≡ option_map_or (λ e. set_value_at self.old.seen.entries index (choice_printed self.old.speaker e)) (slice_get self.old.seen.entries index) self.old.seen.entries) }
-        ensures speaker { self.new.speaker ≡ self.old.speaker }
+        ensures written { OnOk result (Appends (W.contents out.old) (W.contents out.new) (option_map_or (select_line time self.old.speaker.state) (slice_get self.old.seen.entries index) [])) }
+        ensures seen { OnOk result (self.new.seen.entries ≡ option_map_or (λ e. set_value_at self.old.seen.entries index (choice_printed self.old.speaker.state e)) (slice_get self.old.seen.entries index) self.old.seen.entries) }
+        ensures speaker { self.new.speaker.state ≡ self.old.speaker.state }
         ensures failed { IfErr result (λ fault. fault ≡ LineFault.Write) }
     {
         let Some(seen) = self.seen.get(index) else {
@@ -413,14 +411,14 @@ impl Replayer {
 
     /// What is printed of the prefix's selected route.
     fn choice(&self, prefix: &Prefix) -> Option<Choice>
-        ensures { result ≡ choice_at self.now.speaker prefix.now }
+        ensures { result ≡ choice_at self.now.speaker.state prefix.now }
     {
         self.speaker.selected(prefix).map(choice_of)
     }
 
     /// Writes a `table` line for each seen prefix, and flushes.
     fn write_table<W: Write>(&self, out: &mut W) -> Result<(), LineFault>
-        ensures written { OnOk result (Appends (W.contents out.old) (W.contents out.new) (table_lines self.now.speaker self.now.seen.entries)) }
+        ensures written { OnOk result (Appends (W.contents out.old) (W.contents out.new) (table_lines self.now.speaker.state self.now.seen.entries)) }
         ensures failed { IfErr result (λ fault. fault ≡ LineFault.Write) }
     {
         for index in 0..self.seen.len() {
@@ -434,7 +432,7 @@ impl Replayer {
 
     /// The line of the seen prefix at the index.
     fn write_table_line<W: Write>(&self, index: usize, out: &mut W) -> Result<(), LineFault>
-        ensures written { OnOk result (Appends (W.contents out.old) (W.contents out.new) (option_map_or (table_line self.now.speaker) (slice_get self.now.seen.entries index) [])) }
+        ensures written { OnOk result (Appends (W.contents out.old) (W.contents out.new) (option_map_or (table_line self.now.speaker.state) (slice_get self.now.seen.entries index) [])) }
         ensures failed { IfErr result (λ fault. fault ≡ LineFault.Write) }
     {
         let Some((prefix, _)) = self.seen.get(index) else {
@@ -473,8 +471,8 @@ fn send_datagrams<W: Write>(
     time: u64,
     out: &mut W,
 ) -> Result<(), LineFault>
-    ensures kept { KeepsRoutes speaker.old speaker.new }
-    ensures sent { OnOk result (Sends time speaker.old speaker.new (W.contents out.old) (W.contents out.new)) }
+    ensures kept { KeepsRoutes speaker.old.state speaker.new.state }
+    ensures sent { OnOk result (Sends time speaker.old.state speaker.new.state (W.contents out.old) (W.contents out.new)) }
     ensures failed { IfErr result (λ fault. fault ≡ LineFault.Write) }
 {
     datagrams_take_items();

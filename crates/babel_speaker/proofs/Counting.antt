@@ -61,7 +61,7 @@ pub err_state : {T E : Type 0} (result : Result T E) (a b : SpeakerValue) → On
 err_state (Ok x) a b same = tt
 err_state (Err e) a b same = state_of a b same
 
--- What certainly changed may be said to have.
+-- What certainly changed isn't unchanged.
 pub never : {A : Type 0} → IsFalse true → A
 never is = absurd (true≢false is)
 

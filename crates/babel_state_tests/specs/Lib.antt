@@ -6,3 +6,4 @@ pub mod TickExamples
 pub mod FullTables
 pub mod CallExamples
 pub mod ThreeNodes
+pub mod ForeignNodes

@@ -4,6 +4,7 @@
 
 pub mod calls;
 pub mod datagrams;
+pub mod foreign;
 pub mod lost_routes;
 pub mod networks;
 pub mod pending;

@@ -13,4 +13,5 @@ mod sockets;
 mod speaking;
 
 pub use errors::{SpeakCode, SpeakFault};
-pub use speaking::{SpeakOptions, speak};
+pub use selections::{RouteLines, Selections};
+pub use speaking::{SpeakOptions, speak, write_report};

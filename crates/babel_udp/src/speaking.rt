@@ -4,7 +4,7 @@ ghost use Rattle.std.specs.Prelude.{◌≡◌};
 
 use crate::SpeakFault;
 use crate::links::Links;
-use crate::selections::Selections;
+use crate::selections::{RouteLines, Selections};
 use crate::snapshots::{make_speaker, save};
 use crate::sockets::UdpWire;
 use babel_speaker::Speaker;
@@ -94,7 +94,7 @@ fn speak_and_save<R: Net + Clock + Files, W: Write>(
     let saved = save(alloc, rt, speaker, options.save);
     // The counts are written also if the speaker can't be saved.
     let written = match report {
-        Ok(report) => write_report(options.turns, report, out),
+        Ok(report) => write_report(u64::from(options.turns), report, out),
         Err(fault) => Err(fault),
     };
     saved?;
@@ -131,7 +131,7 @@ fn speak_with_routes<R: Net + Clock, W: Write>(
 ) -> Result<Report, LineFault>
     requires { wire.old.faults ≡ 0 }
 {
-    let mut selections = Selections::new(alloc)?;
+    let mut selections = Selections::new(alloc, RouteLines::Numbers)?;
     let mut report = Report::default();
     for _ in 0..turns {
         let turn = drive(speaker, wire, buf, 1);
@@ -147,7 +147,12 @@ fn speak_with_routes<R: Net + Clock, W: Write>(
     Ok(report)
 }
 
-fn write_report<W: Write>(turns: u32, report: Report, out: &mut W) -> Result<(), LineFault> {
+/// Writes the counts of all turns.
+///
+/// # Errors
+///
+/// L7 if writing fails.
+pub fn write_report<W: Write>(turns: u64, report: Report, out: &mut W) -> Result<(), LineFault> {
     let Report {
         received,
         sent,

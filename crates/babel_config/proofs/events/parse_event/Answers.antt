@@ -1,5 +1,5 @@
 -- What a word's fields spell, and that other words' events are not spelled.
-use Rattle.babel_net.specs.declared.events.Event.TheVariants as events
+use Rattle.babel_machine.specs.declared.events.Event.TheVariants as events
 use Rattle.babel_config.proofs.EventTexts.{event_text, no_tick, no_emit, no_deliver, no_cost, no_announce, no_withdraw, no_restart}
 use Rattle.babel_config.proofs.events.parse_event.Goals as goal
 

@@ -4,5 +4,5 @@ use Rattle.babel_replay.proofs.explaining.send_datagrams.Given as goal
 
 abbrev pub invariant-loop : goal.invariant-loop
 invariant-loop l =
-    SentSoFar l.counter l.time l.initial.speaker l.speaker None None
-    × (l.counter + length l.speaker.pending.items ≤ length l.initial.speaker.pending.items)
+    SentSoFar l.counter l.time l.initial.speaker.state l.speaker.state None None
+    × (l.counter + length l.speaker.state.pending.items ≤ length l.initial.speaker.state.pending.items)

@@ -8,7 +8,7 @@ use Rattle.babel_replay.proofs.explaining.write_routes.Goals as goal
 
 pub loop-index-preserved : goal.loop-index-preserved
 loop-index-preserved g c =
-    line_goes (route_line c.args.prefix.now c.args.speaker.now) (reported_entries c.args.prefix.now c.args.speaker.now) c.loop-index.index
+    line_goes (route_line c.args.prefix.now c.args.speaker.now.state) (reported_entries c.args.prefix.now c.args.speaker.now.state) c.loop-index.index
     (g.W.Write.contents c.args.out.now) (g.W.Write.contents c.loop-index.out) (g.W.Write.contents c.write_route.new.out) _
     c.loop-index.invariant c.in_ok-write_route.ensures.written
 
@@ -16,5 +16,5 @@ pub returns-in-Ok-clause-written : goal.returns-in-Ok-clause-written
 returns-in-Ok-clause-written g c =
     appends_kept (g.W.Write.contents c.args.out.now) (g.W.Write.contents c.loop-index.out) (g.W.Write.contents c.flush.new.self) _
     (ended (g.W.Write.contents c.args.out.now) (g.W.Write.contents c.loop-index.out) _ _ c.loop-index.invariant
-    (no_route_after c.args.prefix.now c.args.speaker.now c.loop-index.index (omega (arith, c.loop-index-test.false, c.route_count-index-end.ensures))))
+    (no_route_after c.args.prefix.now c.args.speaker.now.state c.loop-index.index (omega (arith, c.loop-index-test.false, c.route_count-index-end.ensures))))
     c.in-Ok.ensures.bytes

@@ -7,4 +7,4 @@ use Rattle.babel_replay.proofs.explaining.write_routes.Given as goal
 abbrev pub invariant-loop-index : goal.invariant-loop-index
 invariant-loop-index g l =
     IsWritten (g.W.Write.contents l.initial.out) (g.W.Write.contents l.out)
-    (flat_map (route_line l.prefix l.speaker) (drop l.index (reported_entries l.prefix l.speaker))) (route_lines l.prefix l.speaker)
+    (flat_map (route_line l.prefix l.speaker.state) (drop l.index (reported_entries l.prefix l.speaker.state))) (route_lines l.prefix l.speaker.state)

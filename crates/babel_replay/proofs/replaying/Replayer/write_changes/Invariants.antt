@@ -6,9 +6,9 @@ use Rattle.babel_replay.proofs.replaying.Replayer.write_changes.Given as goal
 
 abbrev pub invariant-loop-index : goal.invariant-loop-index
 invariant-loop-index g l =
-    (l.self.speaker ≡ l.initial.self.speaker)
+    (l.self.speaker.state ≡ l.initial.self.speaker.state)
     × (l.self.seen.entries
-    ≡ map (printed l.initial.self.speaker) (take l.index l.initial.self.seen.entries) ++ drop l.index l.initial.self.seen.entries)
+    ≡ map (printed l.initial.self.speaker.state) (take l.index l.initial.self.seen.entries) ++ drop l.index l.initial.self.seen.entries)
     × IsWritten (g.W.Write.contents l.initial.out) (g.W.Write.contents l.out)
-    (select_lines l.time l.initial.self.speaker (drop l.index l.initial.self.seen.entries))
-    (select_lines l.time l.initial.self.speaker l.initial.self.seen.entries)
+    (select_lines l.time l.initial.self.speaker.state (drop l.index l.initial.self.seen.entries))
+    (select_lines l.time l.initial.self.speaker.state l.initial.self.seen.entries)

@@ -4,6 +4,6 @@ use Rattle.babel_replay.proofs.replaying.Replayer.write_selection.Goals as goal
 
 pub returns-then-is_same-clause-seen : goal.returns-then-is_same-clause-seen
 returns-then-is_same-clause-seen g c =
-    set_same c.args.self.now.speaker c.args.self.now.seen.entries _ c.args.index c.get.result
+    set_same c.args.self.now.speaker.state c.args.self.now.seen.entries _ c.args.index c.get.result
     c.in-Some.seen.0 c.in-Some.seen.1 c.choice-choice.result c.is_same.result
     refl c.get.ensures c.in-Some.is c.choice-choice.ensures c.is_same.ensures c.if-is_same.true

@@ -9,5 +9,5 @@ pub returns-then-not-changed-clause-written : goal.returns-then-not-changed-clau
 returns-then-not-changed-clause-written g c =
     let contents = g.W.Write.contents c.args.out.now in
     subst (Appends contents contents)
-    (sym (no_lines c.args.time c.args.self.now.speaker c.args.self.now.seen.entries (c.requires c.if-not-changed.true)))
+    (sym (no_lines c.args.time c.args.self.now.speaker.state c.args.self.now.seen.entries (c.requires c.if-not-changed.true)))
     (appends_none contents)

@@ -6,5 +6,5 @@ use Rattle.babel_replay.proofs.replaying.Replayer.write_table.Given as goal
 abbrev pub invariant-loop-index : goal.invariant-loop-index
 invariant-loop-index g l =
     IsWritten (g.W.Write.contents l.initial.out) (g.W.Write.contents l.out)
-    (table_lines l.self.speaker (drop l.index l.self.seen.entries))
-    (table_lines l.self.speaker l.self.seen.entries)
+    (table_lines l.self.speaker.state (drop l.index l.self.seen.entries))
+    (table_lines l.self.speaker.state l.self.seen.entries)

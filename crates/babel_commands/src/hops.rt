@@ -1,0 +1,6 @@
+//! The command `net`: the next hops of a network after each event of a scenario.
+
+mod hops;
+mod running;
+
+pub use running::{net, try_net};

@@ -1,0 +1,12 @@
+//! The commands `replay` and `explain`: what a speaker makes of a log, and why routes are used or not.
+
+mod absence;
+mod explaining;
+mod log_places;
+mod replaying;
+mod sentences;
+mod sightings;
+
+pub use absence::{Absence, absence_of};
+pub use explaining::{explain, try_explain};
+pub use replaying::{NamedLog, replay, try_replay, try_replay_explained};

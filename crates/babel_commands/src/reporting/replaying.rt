@@ -1,0 +1,71 @@
+//! `babel replay CONFIG LOG`.
+
+use crate::reporting::log_places::CountingLog;
+use crate::reporting::sentences::ExplainedReport;
+use babel_config::{FileFault, read_config, read_file};
+use crate::faults::{Fault, end};
+use crate::showing::{READ_LEN, Status};
+use babel_state::Config;
+use babel_text::LineFault;
+use std::alloc::Global;
+use std::cell::Cell;
+use std::io::{BufReader, Read, Write};
+
+/// Writes what a speaker of the configuration makes of the log, line by line. A fault of the
+/// configuration or of the log is written to `err`.
+pub fn replay<C: Read + Drop, L: Read + Drop, W: Write, E: Write>(
+    alloc: Global,
+    config: C,
+    log: L,
+    out: &mut W,
+    err: &mut E,
+) -> Status {
+    end(try_replay(alloc, config, log, out), err)
+}
+
+/// Reads a configuration.
+pub(crate) fn config_in<C: Read + Drop>(alloc: Global, config: C) -> Result<Config, FileFault> {
+    let octets = read_file(alloc, config)?;
+    read_config(alloc, octets.as_slice())
+}
+
+/// The same, and the fault is returned.
+pub fn try_replay<C: Read + Drop, L: Read + Drop, W: Write>(
+    alloc: Global,
+    config: C,
+    log: L,
+    out: &mut W,
+) -> Result<(), Fault> {
+    let config = config_in(alloc, config)?;
+    let mut log = BufReader::with_capacity(alloc, READ_LEN, log).map_err(LineFault::of_reading)?;
+    babel_replay::replay(alloc, config, &mut log, out)?;
+    Ok(())
+}
+
+/// A log with its name.
+#[derive(Drop)]
+pub struct NamedLog<'a, L: Drop> {
+    /// The name, with which a sentence on a line of the log begins.
+    pub name: &'a str,
+    /// The log.
+    pub log: L,
+}
+
+/// The same, and the sentence of each code of the report is written to `err`, once for each code, after
+/// the line that has it first. The memory doesn't grow with the log.
+pub fn try_replay_explained<C: Read + Drop, L: Read + Drop, W: Write, E: Write>(
+    alloc: Global,
+    config: C,
+    log: NamedLog<'_, L>,
+    out: &mut W,
+    err: &mut E,
+) -> Result<(), Fault> {
+    let config = config_in(alloc, config)?;
+    let NamedLog { name, log } = log;
+    let log = BufReader::with_capacity(alloc, READ_LEN, log).map_err(LineFault::of_reading)?;
+    let line = Cell::new(0);
+    let mut log = CountingLog::new(log, &line);
+    let mut out = ExplainedReport::new(out, err, name, &line);
+    babel_replay::replay(alloc, config, &mut log, &mut out)?;
+    Ok(())
+}

@@ -1,0 +1,112 @@
+//! `babel show HEX`: what one datagram means.
+
+use crate::showing::explaining::{Origin, explain_meaning};
+use crate::showing::{Status, report};
+use babel_line_details::SeenCodes;
+use babel_message::{Placed, Refusal};
+use babel_packet::decode;
+use babel_text::LineFault;
+use babel_value::Addr;
+use std::alloc::Global;
+use std::io::Write;
+
+/// The text of no octets: an empty text is bad hexadecimal.
+const NO_OCTETS: &str = "-";
+
+/// Writes what a datagram means: a line for each TLV, or `refused` and the code. `source` is the
+/// address that it came from, `hex` its octets in hexadecimal. A fault of the arguments is written
+/// to `err`.
+pub fn show<W: Write, E: Write>(
+    alloc: Global,
+    source: &str,
+    hex: &str,
+    out: &mut W,
+    err: &mut E,
+) -> Status {
+    match try_show(alloc, source, hex, out) {
+        Ok(status) => status,
+        Err(fault) => report(fault, err),
+    }
+}
+
+/// The same, and a fault of the arguments, of writing or of memory is returned.
+pub fn try_show<W: Write>(
+    alloc: Global,
+    source: &str,
+    hex: &str,
+    out: &mut W,
+) -> Result<Status, LineFault> {
+    let meaning = read_meaning(alloc, source, hex)?;
+    write_whole(&meaning, out)
+}
+
+/// The same, and the sentence of each code of the lines is written to `err`, once for each code.
+pub fn try_show_explained<W: Write, E: Write>(
+    alloc: Global,
+    source: &str,
+    hex: &str,
+    out: &mut W,
+    err: &mut E,
+) -> Result<Status, LineFault> {
+    let meaning = read_meaning(alloc, source, hex)?;
+    let status = write_whole(&meaning, out)?;
+    explain_meaning(&meaning, Origin::Argument, &mut SeenCodes::new(), out, err)?;
+    Ok(status)
+}
+
+/// What the datagram means.
+fn read_meaning(
+    alloc: Global,
+    source: &str,
+    hex: &str,
+) -> Result<Result<Vec<Placed>, Refusal>, LineFault> {
+    let source = read_source(source)?;
+    let octets = read_octets(alloc, hex)?;
+    Ok(decode(alloc, octets.as_slice(), source))
+}
+
+/// Writes the lines of a datagram, which is the only one.
+fn write_whole<W: Write>(
+    meaning: &Result<Vec<Placed>, Refusal>,
+    out: &mut W,
+) -> Result<Status, LineFault> {
+    write_meaning(meaning, out)?;
+    out.flush().map_err(LineFault::of_writing)?;
+    Ok(if meaning.is_ok() {
+        Status::Done
+    } else {
+        Status::Refused
+    })
+}
+
+pub(crate) fn read_source(text: &str) -> Result<Addr, LineFault> {
+    text.parse::<Addr>().map_err(|_| LineFault::Address)
+}
+
+fn read_octets(alloc: Global, text: &str) -> Result<Vec<u8>, LineFault> {
+    if text == NO_OCTETS {
+        return Ok(Vec::new(alloc));
+    }
+    if text.is_empty() {
+        return Err(LineFault::Hex);
+    }
+    Ok(hex::decode(alloc, text)?)
+}
+
+/// Writes the lines of a datagram.
+pub(crate) fn write_meaning<W: Write>(
+    meaning: &Result<Vec<Placed>, Refusal>,
+    out: &mut W,
+) -> Result<(), LineFault> {
+    match meaning {
+        Ok(placed) => {
+            for place in placed.as_slice() {
+                writeln!(out, "{place}").map_err(LineFault::of_writing)?;
+            }
+        }
+        Err(refusal) => {
+            writeln!(out, "refused {}", refusal.code()).map_err(LineFault::of_writing)?;
+        }
+    }
+    Ok(())
+}

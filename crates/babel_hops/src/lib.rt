@@ -1,7 +1,0 @@
-//! The command `net`: the next hops of a network after each event of a scenario.
-#![tactic(auto)]
-
-mod hops;
-mod running;
-
-pub use running::{net, try_net};

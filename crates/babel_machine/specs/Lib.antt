@@ -1,0 +1,15 @@
+pub mod Machine
+pub mod MachineRefusals
+pub mod Cycle
+pub mod Sound
+pub mod Owners
+pub mod Worlds
+pub mod Happenings
+pub mod Views
+pub mod Invariants
+pub mod NetworkLaws
+pub mod Codes
+pub mod Acceptance
+pub mod ForeignMachine
+pub mod ForeignWorlds
+pub mod ForeignLaws

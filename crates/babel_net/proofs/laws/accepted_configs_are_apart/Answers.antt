@@ -1,5 +1,0 @@
-use Rattle.babel_net.proofs.Accepting.{accepted_apart}
-use Rattle.babel_net.proofs.laws.accepted_configs_are_apart.Goals as goal
-
-pub returns : goal.returns
-returns c = accepted_apart

@@ -1,8 +1,0 @@
-use Rattle.babel_net.proofs.Beginning.{IsInvariant-first, view_first}
-use Rattle.babel_net.proofs.laws.networks_begin_sound.Goals as goal
-
-pub returns-clause-sound : goal.returns-clause-sound
-returns-clause-sound c = IsInvariant-first
-
-pub returns-clause-view : goal.returns-clause-view
-returns-clause-view c = view_first

@@ -1,5 +1,0 @@
-use Rattle.babel_net.proofs.MachineAmong.{no_cycle_among_any}
-use Rattle.babel_net.proofs.machine.laws.no_cycle_among_foreign_routers.Goals as goal
-
-pub returns : goal.returns
-returns c = no_cycle_among_any

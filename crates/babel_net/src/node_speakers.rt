@@ -1,0 +1,174 @@
+//! The speaker of a node, of which a network sees the state.
+
+ghost use Rattle.std.specs.Prelude.{◌≡◌, ◌↔◌, true, false, Some, slice_get, IsOk, IsErr, IsNone, IfOk, IfErr, IfSome, OnOk, OnErr};
+ghost use Rattle.babel_packet.specs.Meaning.{meaning};
+ghost use Rattle.babel_state.specs.Addresses.{source_fault, transport_at};
+ghost use Rattle.babel_state.specs.Calls.{set_cost_fault, cost_set, first_state, is_prefix_too_many, announced_also, withdrawn, selected_route};
+ghost use Rattle.babel_state.specs.Configs.{config_fault};
+ghost use Rattle.babel_state.specs.Messages.{Receives, IsRecvFault};
+ghost use Rattle.babel_state.specs.NextDatagram.{next_datagram};
+ghost use Rattle.babel_state.specs.Restarts.{snapshot_of, restored};
+ghost use Rattle.babel_state.specs.SeqnoRequests.{raised};
+ghost use Rattle.babel_state.specs.State.{announces};
+ghost use Rattle.babel_state.specs.Ticks.{ticked};
+ghost use Rattle.babel_snapshot.specs.Octets.{snapshot_octets};
+ghost use Rattle.babel_snapshot.specs.Reading.{restore_fault, snapshot_in};
+ghost use Rattle.babel_snapshot.specs.SnapshotLaws.{IsRead};
+ghost use Rattle.babel_speaker.specs.Making.{IsMakingFault, IsRestoreFault};
+ghost use Rattle.babel_speaker.specs.Sending.{fits_by, IsBuiltFrom, MeansFrom};
+
+use arrayvec::ArrayVec;
+use babel_choice::Selection;
+use babel_speaker::Speaker;
+use babel_state::{
+    Config, ConfigFault, NotAnnounced, Note, RecvFault, RestoreFault, Selected, SetCostFault,
+    Target, TooManyPrefixes,
+};
+use babel_tlv::DATAGRAM_LEN;
+use babel_value::{Addr, Memory, Prefix};
+use std::alloc::Global;
+use std::marker::Model;
+
+/// The speaker of a node. A clause sees its state, and not the counts of its changes.
+#[derive(Drop)]
+pub struct NodeSpeaker {
+    speaker: Speaker,
+}
+
+impl Model for NodeSpeaker {
+    ghost use Rattle.babel_state.specs.State.{State};
+
+    ghost Value = { State };
+
+    ghost view = { λ s. s.speaker.state };
+}
+
+/// Its calls are those of [`Speaker`].
+impl NodeSpeaker {
+    pub(crate) fn from_config(alloc: Global, config: &Config) -> Result<NodeSpeaker, ConfigFault>
+        ensures ok { IfOk result (λ speaker. speaker ≡ first_state config.now) }
+        ensures valid { IsOk result → IsNone (config_fault config.now) }
+        ensures refused { IfErr result (λ fault. IsMakingFault (config_fault config.now) fault) }
+    {
+        match Speaker::from_config(alloc, config) {
+            Ok(speaker) => Ok(NodeSpeaker { speaker }),
+            Err(fault) => Err(fault),
+        }
+    }
+
+    pub(crate) fn restore_from(
+        alloc: Global,
+        config: &Config,
+        now: u64,
+        octets: &[u8],
+    ) -> Result<NodeSpeaker, RestoreFault>
+        ensures ok { IfOk result (λ speaker. speaker ≡ restored now config.now (snapshot_in octets.now)) }
+        ensures valid { IsOk result → IsNone (config_fault config.now) }
+        ensures whole { IsOk result → IsNone (restore_fault config.now.router_id octets.now) }
+        ensures refused { IfErr result (λ fault. IsRestoreFault (config_fault config.now) (restore_fault config.now.router_id octets.now) fault) }
+    {
+        match Speaker::restore_from(alloc, config, now, octets) {
+            Ok(speaker) => Ok(NodeSpeaker { speaker }),
+            Err(fault) => Err(fault),
+        }
+    }
+
+    pub(crate) fn save(&self) -> Result<Vec<u8>, Memory>
+        ensures ok { IfOk result (λ octets. octets.items ≡ snapshot_octets (snapshot_of self.now)) }
+        ensures restorable { IfOk result (λ octets. IsRead self.now.router octets.items (snapshot_of self.now)) }
+    {
+        self.speaker.save()
+    }
+
+    pub(crate) fn receive(
+        &mut self,
+        now: u64,
+        iface: u8,
+        source: Addr,
+        octets: &[u8],
+    ) -> Result<Vec<Note>, RecvFault>
+        ensures ok { IfOk result (λ notes. Receives now (record { iface = iface; addr = source }) (source_fault iface source self.old) (meaning octets.now source) self.old self.new notes.items) }
+        ensures refused { IfErr result (λ fault. IsRecvFault (source_fault iface source self.old) (meaning octets.now source) fault) }
+        ensures unchanged { OnErr result (self.new ≡ self.old) }
+    {
+        self.speaker.receive(now, iface, source, octets)
+    }
+
+    pub(crate) fn tick(&mut self, now: u64)
+        ensures { self.new ≡ ticked now self.old }
+    {
+        self.speaker.tick(now);
+    }
+
+    pub(crate) fn raise(&mut self)
+        ensures { self.new ≡ raised self.old }
+    {
+        self.speaker.raise();
+    }
+
+    pub(crate) fn set_cost(&mut self, iface: u8, cost: u16) -> Result<(), SetCostFault>
+        ensures refused { IsOk result ↔ IsNone (set_cost_fault iface cost self.old) }
+        ensures cause { IfErr result (λ fault. set_cost_fault iface cost self.old ≡ Some fault) }
+        ensures ok { OnOk result (self.new ≡ cost_set iface cost self.old) }
+        ensures err { OnErr result (self.new ≡ self.old) }
+    {
+        self.speaker.set_cost(iface, cost)
+    }
+
+    pub(crate) fn announce(&mut self, prefix: Prefix) -> Result<(), TooManyPrefixes>
+        ensures full { IsErr result ↔ (is_prefix_too_many prefix self.old ≡ true) }
+        ensures ok { OnOk result (self.new ≡ announced_also prefix self.old) }
+        ensures err { OnErr result (self.new ≡ self.old) }
+    {
+        self.speaker.announce(prefix)
+    }
+
+    pub(crate) fn withdraw(&mut self, prefix: Prefix) -> Result<(), NotAnnounced>
+        ensures unknown { IsErr result ↔ (announces prefix self.old ≡ false) }
+        ensures ok { OnOk result (self.new ≡ withdrawn prefix self.old) }
+        ensures err { OnErr result (self.new ≡ self.old) }
+    {
+        self.speaker.withdraw(prefix)
+    }
+
+    pub(crate) fn next_datagram(
+        &mut self,
+        now: u64,
+        out: &mut ArrayVec<u8, DATAGRAM_LEN>,
+    ) -> Option<Target>
+        ensures state { self.new ≡ (next_datagram now (fits_by self.old) self.old).state }
+        ensures target { result ≡ (next_datagram now (fits_by self.old) self.old).target }
+        ensures octets { IfSome result (λ target. MeansFrom (transport_at target.iface self.old) out.new.items (next_datagram now (fits_by self.old) self.old).messages) }
+        ensures built { IfSome result (λ target. IsBuiltFrom (transport_at target.iface self.old) out.new.items (next_datagram now (fits_by self.old) self.old).messages) }
+    {
+        self.speaker.next_datagram(now, out)
+    }
+
+    pub(crate) fn transport(&self, iface: u8) -> Option<Addr>
+        ensures { result ≡ transport_at iface self.now }
+    {
+        self.speaker.transport(iface)
+    }
+
+    pub(crate) fn selected(&self, prefix: &Prefix) -> Option<Selected>
+        ensures { result ≡ selected_route prefix.now self.now }
+    {
+        self.speaker.selected(prefix)
+    }
+
+    pub(crate) fn selection_at(&self, place: usize) -> Option<(Prefix, Selection)>
+        ensures { result ≡ slice_get self.now.routes.selections place }
+    {
+        self.speaker.selection_at(place)
+    }
+
+    pub(crate) fn raises(&self) -> u64
+        ensures { result ≡ self.now.raises }
+    {
+        self.speaker.raises()
+    }
+
+    pub(crate) fn routes_version(&self) -> u64 {
+        self.speaker.routes_version()
+    }
+}

@@ -1,0 +1,111 @@
+//! What the system reports of a device: its number, its link-local address, and whether anyone on this machine
+//! has joined the group of Babel routers on it.
+
+use crate::DeviceFault;
+use std::alloc::Global;
+use std::fs::{self, Files};
+use std::io::{self, Read};
+
+/// Where the system lists the IPv6 addresses of all devices.
+const ADDRESSES: &str = "/proc/net/if_inet6";
+
+/// Where it lists the groups that anyone on this machine has joined.
+const GROUPS: &str = "/proc/net/igmp6";
+
+/// The group ff02::1:6 (RFC 8966, section 4), as that file writes it.
+const GROUP_TEXT: &str = "ff020000000000000000000000010006";
+
+/// The scope of link-local addresses, as the list of addresses writes it.
+const LINK_SCOPE: &str = "20";
+
+/// The flag of an address that may still turn out to be another machine's (RFC 4862, section 5.4).
+const TENTATIVE: u32 = 0x40;
+
+/// The most octets of such a list.
+const MAX_LIST_LEN: u64 = 1 << 20;
+
+/// A device as it is now.
+#[derive(Clone, Copy, Debug, PartialEq, Eq)]
+pub(crate) struct Device {
+    /// Its number, which is the scope of its link-local addresses.
+    pub(crate) scope: u32,
+    /// Its first link-local address.
+    pub(crate) address: [u8; 16],
+}
+
+/// The lists of addresses and groups, as they were read together.
+#[derive(Debug, Drop)]
+pub(crate) struct Lists {
+    addresses: String,
+    groups: String,
+}
+
+impl Lists {
+    /// Reads both lists.
+    pub(crate) fn read<F: Files>(alloc: Global, files: &F) -> io::Result<Lists> {
+        Ok(Lists {
+            addresses: read_list(alloc, files, ADDRESSES)?,
+            groups: read_list(alloc, files, GROUPS)?,
+        })
+    }
+
+    /// The device of this name, if a speaker can send and receive over it.
+    ///
+    /// # Errors
+    ///
+    /// The device has no link-local address, it isn't sure yet that the address is free, or nobody has joined the
+    /// group on it.
+    pub(crate) fn device(&self, name: &str) -> Result<Device, DeviceFault> {
+        let device = self.link_local(name)?;
+        if self.is_member(name) {
+            Ok(device)
+        } else {
+            Err(DeviceFault::NotMember)
+        }
+    }
+
+    fn link_local(&self, name: &str) -> Result<Device, DeviceFault> {
+        let mut fault = DeviceFault::NoAddress;
+        for line in self.addresses.lines() {
+            match address_in(line, name) {
+                Some((_, true)) => fault = DeviceFault::Tentative,
+                Some((device, false)) => return Ok(device),
+                None => {}
+            }
+        }
+        Err(fault)
+    }
+
+    fn is_member(&self, name: &str) -> bool {
+        self.groups.lines().any(|line| is_member_in(line, name))
+    }
+}
+
+fn read_list<F: Files>(alloc: Global, files: &F, path: &str) -> io::Result<String> {
+    let mut text = String::new(alloc);
+    fs::open(files, path)?
+        .take(MAX_LIST_LEN)
+        .read_to_string(&mut text)?;
+    Ok(text)
+}
+
+/// The device, and whether its address is tentative, if the line is of a link-local address of the device of this
+/// name.
+fn address_in(line: &str, name: &str) -> Option<(Device, bool)> {
+    let mut fields = line.split_ascii_whitespace();
+    let address = fields.next()?;
+    let scope = u32::from_str_radix(fields.next()?, 16).ok()?;
+    let reach = fields.nth(1)?;
+    let flags = u32::from_str_radix(fields.next()?, 16).ok()?;
+    if fields.next()? != name || reach != LINK_SCOPE || !address.starts_with("fe80") {
+        return None;
+    }
+    let address = u128::from_str_radix(address, 16).ok()?.to_be_bytes();
+    Some((Device { scope, address }, flags & TENTATIVE != 0))
+}
+
+/// Whether the line is of the group on the device of this name.
+fn is_member_in(line: &str, name: &str) -> bool {
+    let mut fields = line.split_ascii_whitespace();
+    fields.nth(1) == Some(name) && fields.next() == Some(GROUP_TEXT)
+}
