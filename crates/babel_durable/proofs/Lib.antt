@@ -4,3 +4,6 @@ pub mod Files
 pub mod Covering
 pub mod Processes
 pub mod Restored
+pub mod Takings
+pub mod Keepings
+pub mod DurableTurning

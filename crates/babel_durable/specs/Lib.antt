@@ -3,3 +3,5 @@ pub mod Cuts
 pub mod Lives
 pub mod DurableLaws
 pub mod ExampleCuts
+pub mod Taken
+pub mod DurableRuns

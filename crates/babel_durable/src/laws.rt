@@ -1,5 +1,6 @@
 //! Laws of durable turns, each the contract of a function that does nothing.
 
+ghost use Rattle.babel_durable.specs.DurableRuns.{KeepersFitOn};
 ghost use Rattle.babel_durable.specs.DurableLaws.{DurableTurnsGoOn, WhatIsKeptCoversWhatWasSent, CrashesAreRestarts, RestoredHaveTheSnapshot, FilesAreLastTried, ProcessesAreCovered, ProcessesStayCovered};
 
 /// Lists of durable turns may be joined.
@@ -32,4 +33,10 @@ pub fn files_are_last_tried()
 pub fn processes_are_covered()
     ensures from_new { ProcessesAreCovered }
     ensures go_on { ProcessesStayCovered }
+{}
+
+/// What a keeper knows of the snapshot that was kept last stays true, whichever calls of the speaker follow.
+#[tactic(auto, using(crate::proofs::Keepings::keepers_fit_on))]
+pub fn keepers_fit_on()
+    ensures { KeepersFitOn }
 {}

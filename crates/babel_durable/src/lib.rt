@@ -1,6 +1,17 @@
-//! Turns of a speaker in which its snapshot is kept before a datagram is sent, and what is on disk when the
-//! process is killed: definitions, and laws over them. No code drives a speaker so yet.
+//! A speaker of the Babel routing protocol (RFC 8966) that may be killed at any moment: [`drive_durable`] keeps
+//! its snapshot before the datagrams of a turn are sent. What is on disk when the process is killed is the
+//! subject of [`laws`].
 #![tactic(auto)]
 
+mod driving;
 pub mod examples;
+mod keeper;
 pub mod laws;
+mod outbox;
+mod report;
+mod store;
+
+pub use driving::{DurableDriver, Observer, drive_durable};
+pub use keeper::Keeper;
+pub use report::DurableReport;
+pub use store::{DurableWire, StoreFault};
