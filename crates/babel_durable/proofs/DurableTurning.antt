@@ -1,19 +1,18 @@
 -- Durable turns, one after another.
-use Rattle.std.proofs.Common.{◌≡◌, ◌+◌, ◌<◌, ◌≤◌, ℕ, Bool, true, false, cond, List, [], ◌∷◌, ◌++◌, map, length, All, Option, Some, None, add-zero, refl, sym, ap, ◌∙◌, subst, arith, append_assoc, true≢false, if◌then◌else◌}
+use Rattle.std.proofs.Common.{◌≡◌, ◌+◌, ◌≤◌, ℕ, Bool, true, false, List, [], ◌∷◌, ◌++◌, map, length, All, Option, Some, None, add-zero, refl, sym, ap, ◌∙◌, subst, arith, append_assoc, true≢false, if◌then◌else◌}
 use Rattle.std.proofs.lemmas.List.{length-append, length-map, append-nil}
 use Rattle.std.proofs.lemmas.List.Elements.{All-nil, All-push}
 use Rattle.std.proofs.lemmas.List.Sums.{sum_by_push}
 use Rattle.std.proofs.lemmas.Option.{none-some}
 use Rattle.babel_state.specs.Restarts.{Snapshot, snapshot_of}
-use Rattle.babel_state.specs.State.{State}
 use Rattle.babel_state.specs.Ticks.{ticked}
-use Rattle.babel_speaker.specs.Versions.{SpeakerValue, CountsChanges, greatest_version}
+use Rattle.babel_speaker.specs.Versions.{SpeakerValue, CountsChanges}
 use Rattle.babel_wire.specs.declared.report.Report.{Report}
 use Rattle.babel_wire.specs.Calls.{Call, Recv, Now, Send, Sending, Receipt, Grows}
-use Rattle.babel_wire.specs.Turns.{Turn, IsTurn, IsReceived, SendsPending, received_by, refused_by, failed_by, sent_by, lost_by}
+use Rattle.babel_wire.specs.Turns.{IsReceived, SendsPending, received_by, refused_by, failed_by, sent_by, lost_by}
 use Rattle.babel_wire.proofs.Sendings.{grows_not, grows_more}
 use Rattle.babel_durable.specs.declared.report.DurableReport.{DurableReport}
-use Rattle.babel_durable.specs.Keeping.{DurableTurn, Keeping, Unchanged, AreDurableTurns, IsDurableTurn, calls_of, calls_of_turn, calls_of_keeping, is_kept, last_kept}
+use Rattle.babel_durable.specs.Keeping.{DurableTurn, Keeping, Unchanged, IsDurableTurn, calls_of, calls_of_turn, calls_of_keeping, is_kept, last_kept}
 use Rattle.babel_durable.specs.DurableRuns.{Fits, IsKept, IsKeeping, IsDurableRun, IsOneDurableTurn, AreGiven, counts_of, counts_of_turn, failed_keep, unsent_by, kept_version, together}
 use Rattle.babel_durable.specs.Taken.{Taken, waiting}
 use Rattle.babel_durable.proofs.Keepings.{keepers_fit_on, fits_after, some_same}
@@ -116,7 +115,7 @@ kept_turn now receipt old received ready new known later h h1 h2 h3 h4 q r taken
       keeper = k.keeper;
       calls = subst (λ (b : Bool). Grows h (calls_if b receipt now k.keeping given.sendings) h4) (sym kept)
           (grows_more h (Recv receipt ∷ Now now ∷ calls_of_keeping k.keeping) h3 (map Send given.sendings) h4
-            (calls_until receipt now k.keeping h h1 h2 h3 asked moment k.calls) given.calls);
+          (calls_until receipt now k.keeping h h1 h2 h3 asked moment k.calls) given.calls);
       counts = kept_counted receipt took.is_refused (is_kept k.keeping) given.sendings q r took.counts given.counts kept;
       quiet = k.quiet;
     }
@@ -182,10 +181,11 @@ run_goes count last known old h held mid h1 r later new h2 q fits first second r
       counts = ap (λ r. together r q) run.counts ∙ ap (λ q. together (counts_of run.turns) q) one.counts ∙ report_more run.turns t;
       quiet = λ kept.
           let most : new.snapshot_version ≤ mid.snapshot_version =
-              known_at_most last known mid new.snapshot_version (keepers_fit_on last known old mid fits first) kept.0 in
+          known_at_most last known mid new.snapshot_version (keepers_fit_on last known old mid fits first) kept.0 in
           let same : new.snapshot_version ≡ mid.snapshot_version = omega (arith, most, second.snapshot_grows) in
           let before : All (λ (t : DurableTurn). t.keeping ≡ Unchanged) run.turns × (held ≡ known) = run.quiet (subst (IsKept known) same kept) in
-          let now : t.keeping ≡ Unchanged = one.quiet (before.1 ∙ kept.0, kept.1) in
-          (All-push (λ (t : DurableTurn). t.keeping ≡ Unchanged) run.turns t before.0 now,
-           one.keeper ∙ ap (kept_version held new.snapshot_version) now ∙ before.1);
+          let now : t.keeping ≡ Unchanged = one.quiet (before.1 ∙ kept.0, kept.1) in (
+            All-push (λ (t : DurableTurn). t.keeping ≡ Unchanged) run.turns t before.0 now,
+            one.keeper ∙ ap (kept_version held new.snapshot_version) now ∙ before.1,
+          );
     }

@@ -1,14 +1,13 @@
 -- What a keeper knows.
-use Rattle.std.proofs.Common.{◌≡◌, ◌+◌, ◌<◌, ◌≤◌, ℕ, Bool, true, false, List, [], ◌∷◌, ◌++◌, Option, Some, None, Result, Ok, Err, refl, sym, ap, ◌∙◌, subst, arith}
+use Rattle.std.proofs.Common.{◌≡◌, ◌<◌, ℕ, true, false, List, [], ◌∷◌, Option, Some, None, refl, sym, ap, ◌∙◌, subst, arith}
 use Rattle.std.proofs.lemmas.Option.{none-some}
 use Rattle.babel_state.specs.Restarts.{Snapshot, snapshot_of}
-use Rattle.babel_state.specs.State.{State}
 use Rattle.babel_snapshot.specs.Octets.{snapshot_octets}
 use Rattle.babel_snapshot.specs.SnapshotLaws.{IsRead}
-use Rattle.babel_speaker.specs.Versions.{SpeakerValue, CountsChanges, greatest_version}
+use Rattle.babel_speaker.specs.Versions.{SpeakerValue, greatest_version}
 use Rattle.babel_wire.specs.Calls.{Call, Keep, Grows}
 use Rattle.babel_wire.proofs.Sendings.{grows_not}
-use Rattle.babel_durable.specs.Keeping.{Keeping, Unchanged, NotMade, Tried, Keeps, last_kept, is_kept, calls_of_keeping}
+use Rattle.babel_durable.specs.Keeping.{Keeping, Unchanged, NotMade, Tried, last_kept}
 use Rattle.babel_durable.specs.DurableRuns.{Fits, KeepersFitOn, IsKept, IsKeeping, kept_version}
 
 pub some_same : {A : Type 0} (a b : A) → Some a ≡ Some b → a ≡ b

@@ -1,6 +1,6 @@
 -- Datagrams that are taken, and given to the wire later.
-use Rattle.std.proofs.Common.{◌≡◌, ◌+◌, ◌<◌, ◌≤◌, ℕ, Bool, true, false, not, cond, List, [], ◌∷◌, ◌++◌, map, length, take, All, Option, Some, None, Result, Ok, Err, add-zero, refl, sym, ap, ◌∙◌, subst, inl, inr, arith, append_assoc}
-use Rattle.std.proofs.lemmas.List.{map-append, length-append, length-map, append-nil}
+use Rattle.std.proofs.Common.{◌≡◌, ◌+◌, ◌<◌, ℕ, Bool, true, false, not, cond, List, [], ◌∷◌, ◌++◌, map, length, take, All, Option, Some, None, Result, add-zero, refl, sym, ap, ◌∙◌, subst, inl, inr}
+use Rattle.std.proofs.lemmas.List.{map-append, length-append, length-map}
 use Rattle.std.proofs.lemmas.List.Elements.{All-nil, All-cons}
 use Rattle.std.proofs.lemmas.List.Sums.{sum_by_push}
 use Rattle.babel_state.specs.declared.items.Target.{Target}
@@ -9,8 +9,8 @@ use Rattle.babel_state.specs.State.{State}
 use Rattle.babel_speaker.specs.Sending.{IsBuiltFrom, MeansFrom}
 use Rattle.babel_wire.specs.declared.errors.WireFault.{WireFault}
 use Rattle.babel_wire.specs.declared.report.Report.{Report}
-use Rattle.babel_wire.specs.Calls.{Call, Send, Sending, Grows, call_of_send, sending_of, failures}
-use Rattle.babel_wire.specs.Turns.{draft_at, IsDraftSent, AreSent, SendsPending, Ends, sent_by, lost_by}
+use Rattle.babel_wire.specs.Calls.{Call, Send, Sending, Grows, call_of_send, sending_of}
+use Rattle.babel_wire.specs.Turns.{draft_at, AreSent, SendsPending, Ends, sent_by, lost_by}
 use Rattle.babel_wire.proofs.Sendings.{sent_more, grows_not, grows_more, counted}
 use Rattle.babel_durable.specs.declared.outbox.Datagram.{Datagram}
 use Rattle.babel_durable.specs.Taken.{Taken, taken_of, waiting, datagram_of}
@@ -33,7 +33,7 @@ taking_goes count now old mid taken target octets new later so goes means built 
       so_many = length-append taken (one ∷ []) ∙ ap (λ n. n + 1) so.so_many;
       each = subst (λ xs. AreSent now old xs new) (sym (map-append waiting taken (one ∷ [])))
           (subst (λ s. AreSent now old (map waiting taken ++ waiting one ∷ []) s) (sym state)
-            (sent_more now old mid (map waiting taken) (waiting one) so.each (record { target = sym goes; octets = means; built = built })));
+          (sent_more now old mid (map waiting taken) (waiting one) so.each (record { target = sym goes; octets = means; built = built })));
     })
 
 -- No datagram is left.
@@ -96,7 +96,7 @@ pub given_next : (datagrams : List Datagram) (index : ℕ) (one : Datagram) (h h
     AreGiven (map taken_of (take (index + 1) datagrams)) h h2 q
 given_next datagrams index one h h1 r octets result h2 q so next same grows counts =
     subst (λ ts. AreGiven ts h h2 q) (sym (ap (map taken_of) next ∙ map-append taken_of (take index datagrams) (one ∷ [])))
-      (given_more (map taken_of (take index datagrams)) h h1 r (taken_of one) octets result h2 q so same grows counts)
+    (given_more (map taken_of (take index datagrams)) h h1 r (taken_of one) octets result h2 q so same grows counts)
 
 -- ---- what was taken is what was sent
 

@@ -7,7 +7,7 @@ use Rattle.babel_wire.specs.declared.report.Report.{Report}
 use Rattle.babel_wire.specs.Calls.{Sending, Call, Send, Grows}
 use Rattle.babel_wire.specs.Turns.{AreSent, received_by, failed_by, refused_by, sent_by, lost_by}
 use Rattle.babel_durable.specs.declared.report.DurableReport.{DurableReport}
-use Rattle.babel_durable.specs.Keeping.{DurableTurn, Keeping, Unchanged, NotMade, Tried, Keeps, is_kept, given_in, calls_of, calls_of_turn, calls_of_keeping, AreDurableTurns, IsDurableTurn, last_kept}
+use Rattle.babel_durable.specs.Keeping.{DurableTurn, Keeping, Unchanged, NotMade, Tried, Keeps, is_kept, given_in, calls_of, calls_of_turn, calls_of_keeping, AreDurableTurns, IsDurableTurn}
 use Rattle.babel_durable.specs.Taken.{Taken, waiting, datagram_of}
 
 -- ---- what a keeper knows

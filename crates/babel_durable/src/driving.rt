@@ -15,8 +15,8 @@ use babel_speaker::laws::counts_add_up;
 use babel_wire::{Report, Wire, WireFault, receive};
 use std::alloc::{AllocError, Global};
 
-/// Sees each turn of a driven speaker. It is given the speaker after the snapshot of the turn was kept, or
-/// wasn't, and before a datagram is sent. It can't change the speaker.
+/// Sees each turn of a driven speaker. It is given the speaker after the snapshot of the turn was
+/// kept, or wasn't, and before a datagram is sent. It can't change the speaker.
 pub trait Observer {
     /// A turn at the moment `now`, in centiseconds.
     fn turn(&mut self, now: u64, speaker: &Speaker);
@@ -34,7 +34,8 @@ pub struct DurableDriver {
 }
 
 impl DurableDriver {
-    /// A driver of a process that has kept nothing yet, with room for datagrams of at most this length.
+    /// A driver of a process that has kept nothing yet, with room for datagrams of at most this
+    /// length.
     pub fn new(alloc: Global, buf_len: usize) -> Result<DurableDriver, AllocError>
         ensures { IfOk result (λ driver. driver.keeper ≡ None) }
     {
@@ -46,12 +47,12 @@ impl DurableDriver {
     }
 }
 
-/// Drives a speaker for some turns, each as [`babel_wire::drive`] does, but before the datagrams of a turn are
-/// sent the snapshot is kept, if it isn't the one that was kept last. If it can't be kept, the datagrams are
-/// lost, and the next turn tries again.
+/// Drives a speaker for some turns, each as [`babel_wire::drive`] does, but before the datagrams of
+/// a turn are sent the snapshot is kept, if it isn't the one that was kept last. If it can't be
+/// kept, the datagrams are lost, and the next turn tries again.
 ///
-/// So wherever the process is killed, the speaker that is restored from what is on disk knows of all that was
-/// sent.
+/// So wherever the process is killed, the speaker that is restored from what is on disk knows of
+/// all that was sent.
 pub fn drive_durable<W: DurableWire, O: Observer>(
     speaker: &mut Speaker,
     driver: &mut DurableDriver,

@@ -9,8 +9,8 @@ use std::marker::Model;
 
 /// Which snapshot a process kept last, from one call of [`crate::drive_durable`] to the next.
 ///
-/// A new one knows of none, so that the first turn of a process keeps before it sends. A file that was read may
-/// be one whose folder wasn't synced.
+/// A new one knows of none, so that the first turn of a process keeps before it sends. A file that
+/// was read may be one whose folder wasn't synced.
 #[derive(Debug, Drop)]
 pub struct Keeper {
     /// The count of the snapshot that was kept last. `None`: none was, or the last keep failed.
@@ -33,15 +33,16 @@ impl Keeper {
         Keeper { version: None }
     }
 
-    /// Whether the snapshot with this count is known to be the one that was kept last. At its greatest value a
-    /// count stays the same whatever changes, so then nothing is known.
+    /// Whether the snapshot with this count is known to be the one that was kept last. At its
+    /// greatest value a count stays the same whatever changes, so then nothing is known.
     fn has_kept(&self, version: u64) -> bool
         ensures { IsTrue result ↔ IsKept self.now version }
     {
         self.version == Some(version) && version < u64::MAX
     }
 
-    /// Keeps the speaker's snapshot if it isn't the one that was kept last, and returns whether it is kept.
+    /// Keeps the speaker's snapshot if it isn't the one that was kept last, and returns whether it
+    /// is kept.
     pub(crate) fn keep<W: DurableWire>(&mut self, speaker: &Speaker, wire: &mut W) -> bool
         ensures kept { IsKeeping speaker.now self.old (W.Wire.history wire.old) self.new (W.Wire.history wire.new) result }
         ensures faults { W.Wire.fault_count wire.new ≡ W.Wire.fault_count wire.old }

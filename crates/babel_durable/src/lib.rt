@@ -1,6 +1,6 @@
-//! A speaker of the Babel routing protocol (RFC 8966) that may be killed at any moment: [`drive_durable`] keeps
-//! its snapshot before the datagrams of a turn are sent. What is on disk when the process is killed is the
-//! subject of [`laws`].
+//! A speaker of the Babel routing protocol (RFC 8966) that may be killed at any moment:
+//! [`drive_durable`] keeps its snapshot before the datagrams of a turn are sent. What is on disk
+//! when the process is killed is the subject of [`laws`].
 #![tactic(auto)]
 
 mod driving;

@@ -1,4 +1,4 @@
-use Rattle.std.proofs.Common.{◌≡◌, ◌+◌, sym, subst, ap, arith}
+use Rattle.std.proofs.Common.{◌+◌, sym, subst, ap, arith}
 use Rattle.babel_durable.specs.declared.report.DurableReport.{DurableReport}
 use Rattle.babel_durable.specs.DurableRuns.{IsDurableRun}
 use Rattle.babel_durable.proofs.DurableTurning.{run_goes}
@@ -15,7 +15,7 @@ loop-preserved g c =
     let counts = c.both-report.ensures in (
       λ last fits. subst (λ (r : DurableReport). IsDurableRun (c.loop.counter + 1) last known old h later new h2 r) (sym counts)
           (run_goes c.loop.counter last known old h c.loop.driver.keeper c.loop.speaker (g.W.Wire.history c.loop.wire) c.loop.report later new h2
-            c.run_turn-turn.result fits c.loop.invariant.1 c.run_turn-turn.ensures.counted (c.loop.invariant.0 last fits) c.run_turn-turn.ensures.turn),
+          c.run_turn-turn.result fits c.loop.invariant.1 c.run_turn-turn.ensures.counted (c.loop.invariant.0 last fits) c.run_turn-turn.ensures.turn),
       c.counts_add_up.ensures old c.loop.speaker new c.loop.invariant.1 c.run_turn-turn.ensures.counted,
       omega (arith, c.loop.invariant.2, c.run_turn-turn.ensures.faults, ap (λ r. r.report.faults) counts),
       omega (arith, c.loop.invariant.3, c.run_turn-turn.ensures.received_at_most, ap (λ r. r.report.received) counts),

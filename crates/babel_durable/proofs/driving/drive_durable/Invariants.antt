@@ -7,7 +7,7 @@ use Rattle.babel_durable.proofs.driving.drive_durable.Given as goal
 abbrev pub invariant-loop : goal.invariant-loop
 invariant-loop g l =
     ((last : Option Snapshot) → Fits last l.initial.driver.keeper l.initial.speaker →
-      IsDurableRun l.counter last l.initial.driver.keeper l.initial.speaker (g.W.Wire.history l.initial.wire) l.driver.keeper l.speaker (g.W.Wire.history l.wire) l.report)
+    IsDurableRun l.counter last l.initial.driver.keeper l.initial.speaker (g.W.Wire.history l.initial.wire) l.driver.keeper l.speaker (g.W.Wire.history l.wire) l.report)
     × CountsChanges l.initial.speaker l.speaker
     × (g.W.Wire.fault_count l.wire ≡ g.W.Wire.fault_count l.initial.wire + l.report.report.faults)
     × (l.report.report.received ≤ l.counter)

@@ -1,5 +1,4 @@
-use Rattle.std.proofs.Common.{◌≡◌, ◌∙◌, sym, true≢false}
-use Rattle.babel_durable.specs.DurableRuns.{IsKept}
+use Rattle.std.proofs.Common.{◌∙◌, sym, true≢false}
 use Rattle.babel_durable.proofs.Keepings.{keeping_not_made, keeping_done, keeping_failed}
 use Rattle.babel_durable.proofs.keeper.Keeper.keep.Goals as goal
 
