@@ -19,7 +19,7 @@ use Rattle.babel_state.specs.Restarts.{restarted, snapshot_of}
 use Rattle.babel_state.specs.State.{State, interface_at}
 use Rattle.babel_state.specs.StepLaws.{MessagesKeepSettings, TicksKeepSettings, SendingKeepsSettings}
 use Rattle.babel_state.specs.Ticks.{ticked}
-use Rattle.babel_speaker.specs.Sending.{fits_by, MeansFrom}
+use Rattle.babel_speaker.specs.Sending.{fits_by, MeansFrom, IsBuiltFrom}
 use Rattle.babel_wire.specs.Calls.{Sending}
 use Rattle.babel_wire.specs.Turns.{draft_at, IsDraftSent}
 use Rattle.babel_machine.specs.declared.events.Event.{Event}
@@ -171,7 +171,7 @@ emit_leads laws n node now config s x is sent = by (transport_at x.target.iface 
               speaker = s;
               is = is.speaker;
               sent = Some d;
-              is_sent = subst (λ (o : Option Target). IsSent node s (next_of now s) o (Some d)) (sym sent.target) (record { sender = refl; is_own = own; means = means });
+              is_sent = subst (λ (o : Option Target). IsSent node s (next_of now s) o (Some d)) (sym sent.target) (record { sender = refl; is_own = own; means = means; built = subst (λ (o : Option Addr). IsBuiltFrom o x.octets (draft_at now s).messages) own sent.built });
               next = refl;
             }) (no_fault (events.Emit node now) n s config is.speaker is.configured refl);
             is_at = at_after n node config s (draft_at now s).state m is (kept_transports s (draft_at now s).state (laws.sending now (fits_by s) s)) refl refl;

@@ -64,14 +64,13 @@ pub(crate) struct LinkWire<'a, R: Clock, I: Read + AsRawFd> {
     pub(crate) faults: u64,
 }
 
-impl<'a, R: Clock + Net, I: Read + AsRawFd> LinkWire<'a, R, I> {
+impl<'a, R: AllocGlobal + Clock + Net, I: Read + AsRawFd> LinkWire<'a, R, I> {
     /// Opens the sockets of each device.
     ///
     /// # Errors
     ///
     /// W2 if the sockets of a device can't be made, L8.
     pub(crate) fn open(
-        alloc: Global,
         rt: &'a R,
         input: &'a mut I,
         port: u16,
@@ -79,15 +78,11 @@ impl<'a, R: Clock + Net, I: Read + AsRawFd> LinkWire<'a, R, I> {
     ) -> Result<LinkWire<'a, R, I>, RunFault>
         ensures { IfOk result (λ wire. wire.faults ≡ 0) }
     {
+        let alloc = rt.alloc();
         let start = Instant::now(rt).map_err(|_| RunFault::System)?;
         let poll = Poll::new(rt).map_err(|_| RunFault::System)?;
+        let links = open_links(alloc, rt, &poll, port, devices)?;
         let events = Events::with_capacity(alloc, MAX_EVENTS)?;
-        let mut links = Vec::new(alloc);
-        for (number, device) in devices.iter().enumerate() {
-            let link = Link::open(rt, &poll, port, number, device)
-                .map_err(|_| RunFault::Device(number, DeviceFault::Socket))?;
-            links.push(link).map_err(AllocError::from)?;
-        }
         // A file and /dev/null can't be waited for, and have no end that comes later.
         let _ = watch(&poll, input.as_raw_fd(), INPUT);
         Ok(LinkWire {
@@ -106,6 +101,23 @@ impl<'a, R: Clock + Net, I: Read + AsRawFd> LinkWire<'a, R, I> {
             faults: 0,
         })
     }
+}
+
+/// Opens the sockets of each device.
+fn open_links<R: Net>(
+    alloc: Global,
+    rt: &R,
+    poll: &Poll,
+    port: u16,
+    devices: &[Device],
+) -> Result<Vec<Link>, RunFault> {
+    let mut links = Vec::new(alloc);
+    for (number, device) in devices.iter().enumerate() {
+        let link = Link::open(rt, poll, port, number, device)
+            .map_err(|_| RunFault::Device(number, DeviceFault::Socket))?;
+        links.push(link).map_err(AllocError::from)?;
+    }
+    Ok(links)
 }
 
 fn watch(poll: &Poll, fd: RawFd, token: usize) -> io::Result<()> {

@@ -90,24 +90,96 @@ pub fn run<R: AllocGlobal + Net + Clock + Files, I: Read + AsRawFd, W: Write, E:
 where
     R::File: LockFile,
 {
-    let alloc = rt.alloc();
-    let devices = find_devices(alloc, rt, options.devices)?;
-    let config = config_of(alloc, options.settings, options.devices, &devices)?;
-    config.check()?;
-    let (store, mut speaker) = start(alloc, rt, config, options.keep)?;
-    let names = names_of(alloc, options.devices)?;
-    let mut printer = Printer::new(alloc, options, &names, out, err)?;
-    let wire = LinkWire::open(alloc, rt, input, options.port, &devices)?;
-    let mut wire = KeptWire { wire, store };
+    let devices = find_devices(rt.alloc(), rt, options.devices)?;
+    let plan = Plan {
+        options,
+        devices: &devices,
+    };
+    run_on(rt, plan, input, out, err)
+}
+
+/// What a run was asked for, and the devices as they are.
+#[derive(Clone, Copy, Debug)]
+struct Plan<'a> {
+    options: RunOptions<'a>,
+    devices: &'a [Device],
+}
+
+// In each of these functions at most one value has to be given back if the next step fails.
+
+/// Makes or restores the speaker, and runs it.
+fn run_on<R: AllocGlobal + Net + Clock + Files, I: Read + AsRawFd, W: Write, E: Write>(
+    rt: &R,
+    plan: Plan<'_>,
+    input: &mut I,
+    out: &mut W,
+    err: &mut E,
+) -> Result<(), RunFault>
+where
+    R::File: LockFile,
+{
+    let (store, mut speaker) = start(rt, plan)?;
+    let wire = LinkWire::open(rt, input, plan.options.port, plan.devices);
+    match wire {
+        Ok(wire) => {
+            let mut wire = KeptWire { wire, store };
+            print_run(rt.alloc(), plan, &mut speaker, &mut wire, out, err)
+        }
+        Err(fault) => Err(fault),
+    }
+}
+
+fn print_run<'r, R: Net + Clock + Files, I: Read + AsRawFd, W: Write, E: Write>(
+    alloc: Global,
+    plan: Plan<'_>,
+    speaker: &mut Speaker,
+    wire: &mut KeptWire<'r, LinkWire<'r, R, I>, R>,
+    out: &mut W,
+    err: &mut E,
+) -> Result<(), RunFault>
+where
+    R::File: LockFile,
+{
+    let names = names_of(alloc, plan.options.devices)?;
+    match Printer::new(alloc, plan.options, &names, out, err) {
+        Ok(mut printer) => run_printed(alloc, plan.options.turns, speaker, wire, &mut printer),
+        Err(error) => Err(RunFault::from(error)),
+    }
+}
+
+fn run_printed<'r, R: Net + Clock + Files, I: Read + AsRawFd, W: Write, E: Write>(
+    alloc: Global,
+    turns: u64,
+    speaker: &mut Speaker,
+    wire: &mut KeptWire<'r, LinkWire<'r, R, I>, R>,
+    printer: &mut Printer<'_, '_, W, E>,
+) -> Result<(), RunFault>
+where
+    R::File: LockFile,
+{
     let mut driver = DurableDriver::new(alloc, MAX_DATAGRAM_LEN)?;
+    take_turns(turns, speaker, wire, printer, &mut driver)
+}
+
+/// Takes the turns, and prints what changed and what was counted.
+fn take_turns<'r, R: Net + Clock + Files, I: Read + AsRawFd, W: Write, E: Write>(
+    turns: u64,
+    speaker: &mut Speaker,
+    wire: &mut KeptWire<'r, LinkWire<'r, R, I>, R>,
+    printer: &mut Printer<'_, '_, W, E>,
+    driver: &mut DurableDriver,
+) -> Result<(), RunFault>
+where
+    R::File: LockFile,
+{
     let mut counts = Counts::default();
     printer.begin()?;
-    for _ in 0..options.turns {
+    for _ in 0..turns {
         if wire.wire.has_ended() || wire.wire.faults >= MAX_FAULTS || printer.has_failed() {
             break;
         }
         wire.wire.wait_until(speaker.next_due());
-        let turn = drive_durable(&mut speaker, &mut driver, &mut wire, &mut printer, 1);
+        let turn = drive_durable(speaker, driver, wire, printer, 1);
         if turn.failed_keeps > 0 && counts.turns == 0 {
             return Err(RunFault::SnapshotFile(SnapshotFileFault::Unwritable));
         }
@@ -120,25 +192,59 @@ where
     Ok(())
 }
 
-/// The speaker of the configuration, and the file that it is kept in. If it is there, the speaker is restored from it.
-fn start<'a, R: Files>(
-    alloc: Global,
+/// The speaker, and the file that it is kept in. If that is there, the speaker is restored from it.
+fn start<'a, R: AllocGlobal + Files>(
     rt: &'a R,
-    config: Config,
-    keep: Option<Kept<'a>>,
+    plan: Plan<'a>,
 ) -> Result<(Option<SnapshotStore<'a, R>>, Speaker), RunFault>
 where
     R::File: LockFile,
 {
-    let Some(keep) = keep else {
-        return Ok((None, Speaker::new(alloc, config)?));
+    let alloc = rt.alloc();
+    let config = config_of(alloc, plan.options.settings, plan.options.devices, plan.devices)?;
+    if let Err(fault) = config.check() {
+        return Err(RunFault::Config(fault));
+    }
+    match plan.options.keep {
+        Some(keep) => start_kept(alloc, rt, config, keep),
+        None => match Speaker::new(alloc, config) {
+            Ok(speaker) => Ok((None, speaker)),
+            Err(fault) => Err(RunFault::Config(fault)),
+        },
+    }
+}
+
+fn start_kept<'a, R: Files>(
+    alloc: Global,
+    rt: &'a R,
+    config: Config,
+    keep: Kept<'a>,
+) -> Result<(Option<SnapshotStore<'a, R>>, Speaker), RunFault>
+where
+    R::File: LockFile,
+{
+    let (store, octets) = match SnapshotStore::open(alloc, rt, keep.path, keep.start) {
+        Ok(opened) => opened,
+        Err(fault) => return Err(RunFault::SnapshotFile(fault)),
     };
-    let (store, octets) = SnapshotStore::open(alloc, rt, keep.path, keep.start)?;
-    let speaker = match octets {
-        Some(octets) => Speaker::restore(alloc, config, MOMENT, octets.as_slice())?,
-        None => Speaker::new(alloc, config)?,
-    };
-    Ok((Some(store), speaker))
+    match made(alloc, config, octets) {
+        Ok(speaker) => Ok((Some(store), speaker)),
+        Err(fault) => Err(fault),
+    }
+}
+
+/// A speaker of the configuration, restored from the octets if there are any.
+fn made(alloc: Global, config: Config, octets: Option<Vec<u8>>) -> Result<Speaker, RunFault> {
+    match octets {
+        Some(octets) => match Speaker::restore(alloc, config, MOMENT, octets.as_slice()) {
+            Ok(speaker) => Ok(speaker),
+            Err(fault) => Err(RunFault::Restore(fault)),
+        },
+        None => match Speaker::new(alloc, config) {
+            Ok(speaker) => Ok(speaker),
+            Err(fault) => Err(RunFault::Config(fault)),
+        },
+    }
 }
 
 fn names_of<'a>(
