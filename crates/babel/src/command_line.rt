@@ -15,6 +15,7 @@ use babel_commands::{NamedLog, try_explain, try_replay, try_replay_explained};
 use babel_commands::{
     BadLines, Details, LineOptions, Status, show_lines, try_show, try_show_explained,
 };
+use babel_snapshot_file::LockFile;
 use babel_text::LineFault;
 use clap::error::ErrorKind;
 use clap::{Arg, ArgAction, ArgMatches, Command};
@@ -79,6 +80,7 @@ pub(crate) fn run<F, R: Read + AsRawFd + Drop, W: Write + Drop, E: Write + IsTer
 ) -> Status
 where
     F: AllocGlobal + Files + Net + Clock,
+    F::File: LockFile,
 {
     match try_run(rt, arguments, input, out, err) {
         Ok(status) => status,
@@ -95,6 +97,7 @@ fn try_run<F, R: Read + AsRawFd + Drop, W: Write + Drop, E: Write + IsTerminal>(
 ) -> Result<Status, LineFault>
 where
     F: AllocGlobal + Files + Net + Clock,
+    F::File: LockFile,
 {
     let out = NotingWriter::new(out);
     let mut out = BufWriter::with_capacity(rt.alloc(), WRITE_LEN, out).map_err(
@@ -112,6 +115,7 @@ fn run_command<'a, F, R: Read + AsRawFd + Drop, W: Write + Drop, E: Write + IsTe
 ) -> Result<Status, LineFault>
 where
     F: AllocGlobal + Files + Net + Clock,
+    F::File: LockFile,
 {
     let command: Command<'a> = command(rt.alloc())?;
     match command.try_get_matches_from(arguments) {
@@ -148,6 +152,7 @@ fn dispatch<F, R: Read + AsRawFd + Drop, W: Write + Drop, E: Write + IsTerminal>
 ) -> Status
 where
     F: AllocGlobal + Files + Net + Clock,
+    F::File: LockFile,
 {
     let Some((command, arguments)) = matches.subcommand() else {
         return Status::Usage;
@@ -206,6 +211,7 @@ fn run_one<F, W: Write, E: Write + IsTerminal>(
 ) -> Result<Status, Fault>
 where
     F: AllocGlobal + Files + Net + Clock,
+    F::File: LockFile,
 {
     match command {
         "show" => return Ok(run_show(rt.alloc(), arguments, out, err)?),

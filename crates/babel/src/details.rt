@@ -233,6 +233,7 @@ fn explain_snapshot_file<F: Files, E: Write>(
                 "{saved}: {fault}; look at its folder, permissions and space. The file is as it was"
             )
         }
+        SnapshotFileFault::InUse => writeln!(err, "{restored}: {fault}"),
         SnapshotFileFault::Memory => writeln!(err, "{}", LineProblem::Memory),
     }
 }

@@ -401,8 +401,14 @@ in order at SIGTERM, SIGINT and SIGHUP. The speaker ends when its standard input
 does.
 
 It announces the prefixes of --announce, and passes on what its neighbours
-announce. It keeps no state over a restart yet, so no promise is made about a
-restart. It gives the kernel no routes by itself: --ip prints them for ip.
+announce. It gives the kernel no routes by itself: --ip prints them for ip.
+
+With --keep FILE the speaker is restored from FILE, and its snapshot is kept
+there before anything is sent that depends on it. So it may be killed at any
+moment, and be started again at once. The first time, --new begins without FILE.
+FILE.lock keeps other processes from FILE. If the snapshot can't be kept later,
+nothing is sent until it can. Without --keep a restart is that of a new router:
+wait until no router around has a route through this one, at least 3 minutes.
 
 With --routes, each change of a selected route is a line
   <time> select <prefix> via <device> <address> metric <n> router <id> seqno <n>
@@ -417,9 +423,11 @@ With --ip, each change is a line for ip -force -batch -, at first and at the end
 
 At the end it prints, on one line
   turns <n> received <n> sent <n> refused <n> faults <n>
+and, if there were any, `failed keeps <n> unsent datagrams <n>`.
 
 Examples:
   ./babel run eth0 wlan0 --announce 10.1.0.0/16 --routes
+  ./babel run eth0 --keep router.kept --new
   ./babel run eth0 --ip | sudo ip -force -batch -
 
 Exit status:
@@ -433,5 +441,9 @@ Codes, in the order of test: F3 for an argument that can't be read, then
   W4  a link-local address that is still tentative after five seconds
   W5  a device on which nobody joined the group ff02::1:6
   C1 to C7  as in babel check --help
+  K10  another process keeps its snapshot in FILE
+  K8  FILE can't be read, or has more than 15384 octets
+  K9  FILE is there, with --new; or FILE or FILE.lock can't be written
+  K1 to K7  as in babel check --help
   W2  a socket can't be made
   L7  writing failed                L8  out of memory";

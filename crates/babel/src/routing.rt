@@ -4,7 +4,8 @@ use crate::arguments::{details_arg, flag, option};
 use crate::details::details_of;
 use crate::help;
 use babel_line_details::Excerpt;
-use babel_router::{DeviceSettings, Printed, RunFault, RunOptions, Settings, run};
+use babel_router::{DeviceSettings, Kept, Printed, RunFault, RunOptions, Settings, run};
+use babel_snapshot_file::{LockFile, StoreStart};
 use babel_commands::{Details, Status, refuse};
 use babel_text::{parse_network, parse_prefix, parse_router_id};
 use babel_value::{Addr, Prefix};
@@ -63,6 +64,7 @@ pub(crate) fn run_router<F, R: Read + AsRawFd, W: Write, E: Write + IsTerminal>(
 ) -> Status
 where
     F: AllocGlobal + Files + Net + Clock,
+    F::File: LockFile,
 {
     let refused = match try_run_router(rt, arguments, input, out, err) {
         Ok(()) => return Status::Done,
@@ -105,6 +107,10 @@ fn explain<E: Write>(
             let name = names.get(number).copied().unwrap_or("");
             writeln!(err, "device {} {fault}", Excerpt(name))
         }
+        Refused::Run(fault @ (RunFault::SnapshotFile(_) | RunFault::Restore(_))) => {
+            let name = arguments.get_str("keep").unwrap_or("");
+            writeln!(err, "{name}: {fault}")
+        }
         Refused::Run(fault) => writeln!(err, "{fault}"),
     }
 }
@@ -118,6 +124,7 @@ fn try_run_router<'a, F, R: Read + AsRawFd, W: Write, E: Write>(
 ) -> Result<(), Refused<'a>>
 where
     F: AllocGlobal + Files + Net + Clock,
+    F::File: LockFile,
 {
     let alloc = rt.alloc();
     let prefixes = prefixes_of(alloc, arguments)?;
@@ -133,10 +140,22 @@ where
         settings,
         port: arguments.get_one::<u16>("port").unwrap_or(DEFAULT_PORT),
         turns: arguments.get_one::<u64>("turns").unwrap_or(u64::MAX),
+        keep: kept(arguments),
         routes: printed(arguments, "routes"),
         commands: printed(arguments, "ip"),
     };
     Ok(run(rt, options, input, out, err)?)
+}
+
+/// The file of the snapshot.
+fn kept<'a>(arguments: &ArgMatches<'a>) -> Option<Kept<'a>> {
+    let path = arguments.get_str("keep")?;
+    let start = if arguments.get_flag("new") {
+        StoreStart::New
+    } else {
+        StoreStart::Existing
+    };
+    Some(Kept { path, start })
 }
 
 /// Whether the flag asks for it.
@@ -238,6 +257,15 @@ fn number_arg<'a>(
     option(alloc, name, "N", help).value_parser(ValueParser::unsigned(least, most))
 }
 
+fn new_arg<'a>(alloc: Global) -> Result<Arg<'a>, AllocError> {
+    let new = flag(
+        alloc,
+        "new",
+        "With --keep, begins with a new speaker; FILE must not be there",
+    );
+    new.requires_arg("keep")
+}
+
 /// The arguments of the command.
 pub(crate) fn run_command<'a>(alloc: Global) -> Result<Command<'a>, AllocError> {
     Command::new(alloc, "run")
@@ -290,6 +318,13 @@ pub(crate) fn run_command<'a>(alloc: Global) -> Result<Command<'a>, AllocError> 
             1,
             u64::MAX,
         ))?
+        .arg(option(
+            alloc,
+            "keep",
+            "FILE",
+            "The file of the snapshot: the speaker is restored from it, and keeps it",
+        ))?
+        .arg(new_arg(alloc)?)?
         .arg(flag(
             alloc,
             "routes",

@@ -1,8 +1,10 @@
 //! Why the command `run` refuses, or ends early.
 
-use babel_state::ConfigFault;
+use babel_snapshot_file::{RestoreCode, SnapshotFileFault};
+use babel_state::{ConfigFault, RestoreFault};
 use babel_text::LineFault;
 use std::alloc::AllocError;
+use std::fmt;
 use thiserror::Error;
 
 /// Why a speaker can't use a device.
@@ -34,6 +36,12 @@ pub enum RunFault {
     /// W6: what the system reports of devices can't be read.
     #[error("/proc/net/if_inet6 or /proc/net/igmp6 can't be read")]
     System,
+    /// K8, K9, K10 and L8: the file of the snapshot can't be read, kept or locked.
+    #[error("{0}")]
+    SnapshotFile(#[from] SnapshotFileFault),
+    /// K1 to K7, or C7: no speaker can be restored from the snapshot.
+    #[error("{0}")]
+    Restore(#[from] RestoreFault),
     /// L7 and L8: writing failed, or an allocation failed.
     #[error("{0}")]
     Output(#[from] LineFault),
@@ -46,16 +54,31 @@ impl From<AllocError> for RunFault {
 }
 
 impl RunFault {
-    /// The code that the program prints.
-    pub fn code(self) -> &'static str {
-        match self {
-            RunFault::Config(fault) => fault.code(),
-            RunFault::Device(_, DeviceFault::Socket) => "W2",
-            RunFault::Device(_, DeviceFault::NoAddress) => "W3",
-            RunFault::Device(_, DeviceFault::Tentative) => "W4",
-            RunFault::Device(_, DeviceFault::NotMember) => "W5",
-            RunFault::System => "W6",
-            RunFault::Output(fault) => fault.code(),
+    /// The code that the program prints, as `W2` or `K6 0`.
+    pub fn code(self) -> RunCode {
+        RunCode { fault: self }
+    }
+}
+
+/// The code of a fault as text, with the number of the record after `K6` and `K7`.
+#[derive(Clone, Copy, Debug, PartialEq, Eq)]
+pub struct RunCode {
+    /// The fault.
+    pub fault: RunFault,
+}
+
+impl fmt::Display for RunCode {
+    fn fmt<W: fmt::Write>(&self, f: &mut fmt::Formatter<W>) -> fmt::Result {
+        match self.fault {
+            RunFault::Config(fault) => f.write_str(fault.code()),
+            RunFault::Device(_, DeviceFault::Socket) => f.write_str("W2"),
+            RunFault::Device(_, DeviceFault::NoAddress) => f.write_str("W3"),
+            RunFault::Device(_, DeviceFault::Tentative) => f.write_str("W4"),
+            RunFault::Device(_, DeviceFault::NotMember) => f.write_str("W5"),
+            RunFault::System => f.write_str("W6"),
+            RunFault::SnapshotFile(fault) => f.write_str(fault.code()),
+            RunFault::Restore(fault) => write!(f, "{}", RestoreCode { fault }),
+            RunFault::Output(fault) => f.write_str(fault.code()),
         }
     }
 }

@@ -24,8 +24,8 @@ const MAX_TAKEN: u32 = 64;
 /// How many events are looked at in one wait: two for each interface, and the input.
 const MAX_EVENTS: usize = 32;
 
-/// How long a turn waits for a datagram at most.
-const MAX_WAIT: Duration = Duration::from_secs(1);
+/// How long a turn waits for a datagram at most, in seconds.
+const MAX_WAIT: u64 = 1;
 
 /// The token of the standard input. Those of sockets are twice their device's number, and one more.
 const INPUT: usize = usize::MAX;
@@ -225,7 +225,7 @@ impl<R: Clock, I: Read + AsRawFd> LinkWire<'_, R, I> {
             // A clock that fails must not make the speaker late.
             Err(_) => due,
         };
-        self.wait = due.saturating_sub(passed).min(MAX_WAIT);
+        self.wait = due.saturating_sub(passed).min(Duration::from_secs(MAX_WAIT));
     }
 
     /// Takes a datagram that waits at a socket.

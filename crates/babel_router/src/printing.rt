@@ -1,18 +1,29 @@
-//! What `run` prints: changes of selected routes, commands for `ip`, and what was counted.
+//! What `run` prints: changes of selected routes, commands for `ip`, keeps that fail, and what was counted.
 
 use crate::running::{Printed, RunOptions};
+use babel_durable::{DurableReport, Observer};
 use babel_speaker::Speaker;
 use babel_text::LineFault;
 use babel_udp::{RouteLines, Selections, write_report};
-use babel_wire::Report;
 use std::alloc::{AllocError, Global};
 use std::io::Write;
 
-/// What was printed of the routes.
+/// Whether the snapshot was kept in the last turn.
+#[derive(Clone, Copy, Debug, PartialEq, Eq)]
+enum LastKeep {
+    Done,
+    Failed,
+}
+
+/// What was printed of the routes, and to where the rest is.
 #[derive(Drop)]
-pub(crate) struct Printer<'a> {
+pub(crate) struct Printer<'s, 'a, W: Write, E: Write> {
+    out: &'s mut W,
+    err: &'s mut E,
     commands: Option<Selections<'a>>,
     routes: Option<Selections<'a>>,
+    last_keep: LastKeep,
+    written: Result<(), LineFault>,
 }
 
 fn selections<'a>(
@@ -26,67 +37,126 @@ fn selections<'a>(
     }
 }
 
-impl<'a> Printer<'a> {
+impl<'s, 'a, W: Write, E: Write> Printer<'s, 'a, W, E> {
     /// Nothing is printed yet.
     pub(crate) fn new(
         alloc: Global,
         options: RunOptions<'_>,
         names: &'a [&'a str],
-    ) -> Result<Printer<'a>, AllocError> {
+        out: &'s mut W,
+        err: &'s mut E,
+    ) -> Result<Printer<'s, 'a, W, E>, AllocError> {
         let commands = selections(alloc, options.commands, RouteLines::Commands(names))?;
         let routes = selections(alloc, options.routes, RouteLines::Names(names))?;
-        Ok(Printer { commands, routes })
+        Ok(Printer {
+            out,
+            err,
+            commands,
+            routes,
+            last_keep: LastKeep::Done,
+            written: Ok(()),
+        })
     }
 
     /// Before anything is sent, the routes of a run that was killed are taken away from the kernel.
-    pub(crate) fn begin<W: Write>(&self, out: &mut W) -> Result<(), LineFault> {
+    pub(crate) fn begin(&mut self) -> Result<(), LineFault> {
         match self.commands {
-            Some(_) => flush_routes(out),
+            Some(_) => flush_routes(self.out),
             None => Ok(()),
         }
     }
 
-    /// After a turn: what has changed.
-    pub(crate) fn write_changes<W: Write, E: Write>(
-        &mut self,
-        speaker: &Speaker,
-        moment: u64,
-        out: &mut W,
-        err: &mut E,
-    ) -> Result<(), LineFault> {
-        let Some(commands) = &mut self.commands else {
-            return write_if_some(&mut self.routes, speaker, moment, out);
+    /// Whether writing has failed.
+    pub(crate) fn has_failed(&self) -> bool {
+        self.written.is_err()
+    }
+
+    /// Says once that the snapshot can't be kept any more, and once that it is kept again.
+    pub(crate) fn note_keeping(&mut self, failed_keeps: u64) {
+        let keep = if failed_keeps > 0 {
+            LastKeep::Failed
+        } else {
+            LastKeep::Done
         };
-        write_changes(commands, speaker, moment, out)?;
-        write_if_some(&mut self.routes, speaker, moment, err)
+        if keep == self.last_keep {
+            return;
+        }
+        self.last_keep = keep;
+        // Who can't read it finds it in the counts.
+        let _ = match keep {
+            LastKeep::Failed => writeln!(
+                self.err,
+                "babel: the snapshot can't be kept: nothing is sent until it can"
+            ),
+            LastKeep::Done => writeln!(self.err, "babel: the snapshot is kept again"),
+        };
+    }
+
+    fn write_changes(&mut self, speaker: &Speaker, moment: u64) -> Result<(), LineFault> {
+        let Some(commands) = &mut self.commands else {
+            return write_if_some(&mut self.routes, speaker, moment, self.out);
+        };
+        write_changes(commands, speaker, moment, self.out)?;
+        write_if_some(&mut self.routes, speaker, moment, self.err)
     }
 
     /// After the last turn: the kernel gets no route any more, and the table is written.
-    pub(crate) fn end<W: Write, E: Write>(
-        &self,
-        out: &mut W,
-        err: &mut E,
-    ) -> Result<(), LineFault> {
+    ///
+    /// # Errors
+    ///
+    /// L7 or L8 of a change before, or L7.
+    pub(crate) fn end(&mut self) -> Result<(), LineFault> {
+        let ended = self.write_end();
+        self.written?;
+        ended
+    }
+
+    fn write_end(&mut self) -> Result<(), LineFault> {
         if self.commands.is_none() {
-            return write_table(&self.routes, out);
+            return write_table(&self.routes, self.out);
         }
-        flush_routes(out)?;
-        write_table(&self.routes, err)
+        flush_routes(self.out)?;
+        write_table(&self.routes, self.err)
     }
 
     /// The counts of all turns.
-    pub(crate) fn write_counts<W: Write, E: Write>(
-        &self,
+    pub(crate) fn write_counts(
+        &mut self,
         turns: u64,
-        report: Report,
-        out: &mut W,
-        err: &mut E,
+        report: DurableReport,
     ) -> Result<(), LineFault> {
         match self.commands {
-            Some(_) => write_report(turns, report, err),
-            None => write_report(turns, report, out),
+            Some(_) => write_durable_report(turns, report, self.err),
+            None => write_durable_report(turns, report, self.out),
         }
     }
+}
+
+impl<W: Write, E: Write> Observer for Printer<'_, '_, W, E> {
+    /// What has changed is written after the snapshot was kept, and before a datagram is sent.
+    fn turn(&mut self, now: u64, speaker: &Speaker) {
+        if self.written.is_ok() {
+            self.written = self.write_changes(speaker, now);
+        }
+    }
+}
+
+/// Writes the counts of a run, and those of keeps that failed if there were any.
+fn write_durable_report<W: Write>(
+    turns: u64,
+    report: DurableReport,
+    out: &mut W,
+) -> Result<(), LineFault> {
+    write_report(turns, report.report, out)?;
+    let DurableReport {
+        failed_keeps, lost, ..
+    } = report;
+    if failed_keeps == 0 {
+        return Ok(());
+    }
+    writeln!(out, "failed keeps {failed_keeps} unsent datagrams {lost}").map_err(
+        LineFault::of_writing,
+    )
 }
 
 fn write_if_some<W: Write>(

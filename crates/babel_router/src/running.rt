@@ -3,12 +3,16 @@
 ghost use Rattle.std.specs.Prelude.{◌≡◌};
 
 use crate::devices::{Device, Lists};
+use crate::keeping::KeptWire;
 use crate::links::LinkWire;
 use crate::printing::Printer;
 use crate::settings::{DeviceSettings, Settings, config_of};
 use crate::{DeviceFault, RunFault};
+use babel_durable::{DurableDriver, DurableReport, drive_durable};
+use babel_snapshot_file::{LockFile, SnapshotFileFault, SnapshotStore, StoreStart};
 use babel_speaker::Speaker;
-use babel_wire::{Report, drive};
+use babel_state::Config;
+use babel_wire::Report;
 use std::alloc::{AllocError, Global};
 use std::fs::Files;
 use std::io::{Read, Write};
@@ -24,6 +28,18 @@ const MAX_TENTATIVE: u32 = 50;
 
 /// How many calls of the wire may fail: far more than in any run.
 const MAX_FAULTS: u64 = 1 << 62;
+
+/// The moment at which a speaker is restored: the first one.
+const MOMENT: u64 = 0;
+
+/// The file in which the snapshot is kept, and whether it is there.
+#[derive(Clone, Copy, Debug)]
+pub struct Kept<'a> {
+    /// The file's name.
+    pub path: &'a str,
+    /// Whether the speaker is restored from it, or is a new one.
+    pub start: StoreStart,
+}
 
 /// Whether something is printed.
 #[derive(Clone, Copy, Debug, PartialEq, Eq)]
@@ -45,6 +61,8 @@ pub struct RunOptions<'a> {
     pub port: u16,
     /// After how many turns it ends.
     pub turns: u64,
+    /// Where the snapshot is kept before anything is sent. Without it nothing is kept over a restart.
+    pub keep: Option<Kept<'a>>,
     /// Each change of a selected route, and all of them at the end.
     pub routes: Printed,
     /// Each change of a selected route, as a command for `ip -force -batch -`.
@@ -54,40 +72,73 @@ pub struct RunOptions<'a> {
 /// Runs a speaker on the devices until the input ends, and writes what was counted. With commands for `ip` the
 /// output has these alone, and all else is written to the standard error.
 ///
+/// In each turn the snapshot is kept if it has changed, then changes of routes are written, and then datagrams are
+/// sent. If the snapshot can't be kept in the first turn the run ends, and nothing was sent. Later nothing is sent until
+/// it can be kept again; that is written to the standard error once.
+///
 /// # Errors
 ///
-/// W6, W3, W4 or W5 for the first device that can't be used, C1 to C7, and W2, before anything is sent. Then L7 and L8.
+/// W6, W3, W4 or W5 for the first device that can't be used, C1 to C7, K10, K8, K9, K1 to K7, and W2, before anything
+/// is sent. Then K9, L7 and L8.
 pub fn run<R: AllocGlobal + Net + Clock + Files, I: Read + AsRawFd, W: Write, E: Write>(
     rt: &R,
     options: RunOptions<'_>,
     input: &mut I,
     out: &mut W,
     err: &mut E,
-) -> Result<(), RunFault> {
+) -> Result<(), RunFault>
+where
+    R::File: LockFile,
+{
     let alloc = rt.alloc();
     let devices = find_devices(alloc, rt, options.devices)?;
     let config = config_of(alloc, options.settings, options.devices, &devices)?;
-    let mut speaker = Speaker::new(alloc, config)?;
+    config.check()?;
+    let (store, mut speaker) = start(alloc, rt, config, options.keep)?;
     let names = names_of(alloc, options.devices)?;
-    let mut printer = Printer::new(alloc, options, &names)?;
-    let mut wire = LinkWire::open(alloc, rt, input, options.port, &devices)?;
-    let mut buf = vec![in alloc; 0u8; MAX_DATAGRAM_LEN]?;
+    let mut printer = Printer::new(alloc, options, &names, out, err)?;
+    let wire = LinkWire::open(alloc, rt, input, options.port, &devices)?;
+    let mut wire = KeptWire { wire, store };
+    let mut driver = DurableDriver::new(alloc, MAX_DATAGRAM_LEN)?;
     let mut counts = Counts::default();
-    printer.begin(out)?;
-    let mut turned = Ok(());
+    printer.begin()?;
     for _ in 0..options.turns {
-        if wire.has_ended() || wire.faults >= MAX_FAULTS || turned.is_err() {
+        if wire.wire.has_ended() || wire.wire.faults >= MAX_FAULTS || printer.has_failed() {
             break;
         }
-        take_turn(&mut speaker, &mut wire, &mut buf, &mut counts);
-        turned = printer.write_changes(&speaker, wire.moment(), out, err);
+        wire.wire.wait_until(speaker.next_due());
+        let turn = drive_durable(&mut speaker, &mut driver, &mut wire, &mut printer, 1);
+        if turn.failed_keeps > 0 && counts.turns == 0 {
+            return Err(RunFault::SnapshotFile(SnapshotFileFault::Unwritable));
+        }
+        counts.add(turn);
+        printer.note_keeping(turn.failed_keeps);
     }
     // The kernel's routes are taken away also if a change couldn't be written.
-    let ended = printer.end(out, err);
-    turned?;
-    ended?;
-    printer.write_counts(counts.turns, counts.report, out, err)?;
+    printer.end()?;
+    printer.write_counts(counts.turns, counts.report)?;
     Ok(())
+}
+
+/// The speaker of the configuration, and the file that it is kept in. If it is there, the speaker is restored from it.
+fn start<'a, R: Files>(
+    alloc: Global,
+    rt: &'a R,
+    config: Config,
+    keep: Option<Kept<'a>>,
+) -> Result<(Option<SnapshotStore<'a, R>>, Speaker), RunFault>
+where
+    R::File: LockFile,
+{
+    let Some(keep) = keep else {
+        return Ok((None, Speaker::new(alloc, config)?));
+    };
+    let (store, octets) = SnapshotStore::open(alloc, rt, keep.path, keep.start)?;
+    let speaker = match octets {
+        Some(octets) => Speaker::restore(alloc, config, MOMENT, octets.as_slice())?,
+        None => Speaker::new(alloc, config)?,
+    };
+    Ok((Some(store), speaker))
 }
 
 fn names_of<'a>(
@@ -138,25 +189,26 @@ fn devices_now<R: Files>(
 #[derive(Clone, Copy, Debug, Default)]
 struct Counts {
     turns: u64,
-    report: Report,
+    report: DurableReport,
 }
 
-/// Takes a turn, and counts it.
-fn take_turn<R: Net + Clock, I: Read + AsRawFd>(
-    speaker: &mut Speaker,
-    wire: &mut LinkWire<'_, R, I>,
-    buf: &mut [u8],
-    counts: &mut Counts,
-) {
-    if wire.faults >= MAX_FAULTS {
-        return;
+impl Counts {
+    /// Counts a turn.
+    fn add(&mut self, turn: DurableReport) {
+        self.turns = self.turns.saturating_add(1);
+        self.report = DurableReport {
+            report: added(self.report.report, turn.report),
+            failed_keeps: self.report.failed_keeps.saturating_add(turn.failed_keeps),
+            lost: self.report.lost.saturating_add(turn.lost),
+        };
     }
-    wire.wait_until(speaker.next_due());
-    let turn = drive(speaker, wire, buf, 1);
-    counts.turns = counts.turns.saturating_add(1);
-    let report = &mut counts.report;
-    report.received = report.received.saturating_add(turn.received);
-    report.sent = report.sent.saturating_add(turn.sent);
-    report.refused = report.refused.saturating_add(turn.refused);
-    report.faults = report.faults.saturating_add(turn.faults);
+}
+
+fn added(all: Report, turn: Report) -> Report {
+    Report {
+        received: all.received.saturating_add(turn.received),
+        sent: all.sent.saturating_add(turn.sent),
+        refused: all.refused.saturating_add(turn.refused),
+        faults: all.faults.saturating_add(turn.faults),
+    }
 }

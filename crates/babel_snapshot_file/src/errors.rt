@@ -19,6 +19,9 @@ pub enum SnapshotFileFault {
     /// K9: the file can't be written.
     #[error("the snapshot's file can't be written")]
     Unwritable,
+    /// K10: another process keeps its snapshot in the file.
+    #[error("another process keeps its snapshot in the file")]
+    InUse,
     /// L8: an allocation failed.
     #[error("out of memory")]
     Memory,
@@ -32,6 +35,7 @@ impl SnapshotFileFault {
         match self {
             SnapshotFileFault::Unreadable => "K8",
             SnapshotFileFault::Unwritable => "K9",
+            SnapshotFileFault::InUse => "K10",
             SnapshotFileFault::Memory => "L8",
         }
     }

@@ -24,6 +24,34 @@ pub fn replace_file<F: Files>(
     path: &str,
     octets: &[u8],
 ) -> Result<(), SnapshotFileFault> {
+    replace(alloc, files, path, octets)?;
+    // Some file systems can't sync a folder. After a crash the file is whole then too, the old or the new.
+    let _ = sync_folder(files, path);
+    Ok(())
+}
+
+/// The same, and the new octets survive a crash of the machine.
+///
+/// # Errors
+///
+/// Those of [`replace_file`], and K9 if the folder can't be synced: then the file has the new octets, but after a
+/// crash it may have the old ones.
+pub(crate) fn keep_file<F: Files>(
+    alloc: Global,
+    files: &F,
+    path: &str,
+    octets: &[u8],
+) -> Result<(), SnapshotFileFault> {
+    replace(alloc, files, path, octets)?;
+    sync_folder(files, path).map_err(SnapshotFileFault::of_writing)
+}
+
+fn replace<F: Files>(
+    alloc: Global,
+    files: &F,
+    path: &str,
+    octets: &[u8],
+) -> Result<(), SnapshotFileFault> {
     let temporary = temporary_path(alloc, path)?;
     if is_other_than_file(files, path) {
         return Err(SnapshotFileFault::Unwritable);
@@ -33,8 +61,6 @@ pub fn replace_file<F: Files>(
         let _ = fs::remove_file(files, temporary.as_str());
         return Err(SnapshotFileFault::of_writing(error));
     }
-    // Some file systems can't sync a folder. After a crash the file is whole then too, the old or the new.
-    let _ = sync_folder(files, path);
     Ok(())
 }
 
