@@ -219,18 +219,15 @@ fn centiseconds(time: Duration) -> u64 {
 }
 
 impl<R: Clock, I: Read + AsRawFd> LinkWire<'_, R, I> {
-    /// The moment that was asked last.
-    pub(crate) fn moment(&self) -> u64 {
-        self.moment
-    }
-
     /// Whether the input has ended.
     pub(crate) fn has_ended(&self) -> bool {
         self.has_ended
     }
 
     /// The next turn waits for a datagram until this moment, and a second at most.
-    pub(crate) fn wait_until(&mut self, moment: u64) {
+    pub(crate) fn wait_until(&mut self, moment: u64)
+        ensures { self.new.faults ≡ self.old.faults }
+    {
         let due = Duration::from_millis(moment.saturating_mul(10));
         let passed = match self.start.elapsed(self.clock) {
             Ok(passed) => passed,
@@ -238,26 +235,6 @@ impl<R: Clock, I: Read + AsRawFd> LinkWire<'_, R, I> {
             Err(_) => due,
         };
         self.wait = due.saturating_sub(passed).min(Duration::from_secs(MAX_WAIT));
-    }
-
-    /// Takes a datagram that waits at a socket.
-    fn take(&mut self, buf: &mut [u8]) -> io::Result<Option<Arrival>>
-        ensures faults { self.new.faults ≡ self.old.faults }
-        ensures within { IfOk result (λ came. IfSome came (λ arrival. arrival.len ≤ length buf.new)) }
-    {
-        let count = self.links.len();
-        for step in 0..count {
-            let number = self.first.saturating_add(step) % count;
-            let Some(link) = self.links.get_mut(number) else {
-                continue;
-            };
-            if let Some((source, len)) = link.take(self.port, buf)? {
-                self.first = number.saturating_add(1) % count;
-                let iface = u8::try_from(number).unwrap_or(u8::MAX);
-                return Ok(Some(Arrival { iface, source, len }));
-            }
-        }
-        Ok(None)
     }
 
     /// Looks which sources are ready, and waits for one if none is.
@@ -296,15 +273,40 @@ impl<R: Clock, I: Read + AsRawFd> LinkWire<'_, R, I> {
         ensures within { IfOk result (λ came. IfSome came (λ arrival. arrival.len ≤ length buf.new)) }
     {
         if self.taken < MAX_TAKEN {
-            let came = self.take(buf)?;
+            let came = take(&mut self.links, &mut self.first, self.port, buf)?;
             if came.is_some() {
                 self.taken = self.taken.saturating_add(1);
                 return Ok(came);
             }
         }
         self.look()?;
-        self.take(buf)
+        take(&mut self.links, &mut self.first, self.port, buf)
     }
+}
+
+/// Takes a datagram that waits at a socket of one of the links. The one after the link that it came over is asked first
+/// the next time.
+fn take(
+    links: &mut [Link],
+    first: &mut usize,
+    port: u16,
+    buf: &mut [u8],
+) -> io::Result<Option<Arrival>>
+    ensures { IfOk result (λ came. IfSome came (λ arrival. arrival.len ≤ length buf.new)) }
+{
+    let count = links.len();
+    for step in 0..count {
+        let number = first.saturating_add(step) % count;
+        let Some(link) = links.get_mut(number) else {
+            continue;
+        };
+        if let Some((source, len)) = link.take(port, buf)? {
+            *first = number.saturating_add(1) % count;
+            let iface = u8::try_from(number).unwrap_or(u8::MAX);
+            return Ok(Some(Arrival { iface, source, len }));
+        }
+    }
+    Ok(None)
 }
 
 /// Whether the input has ended. What comes over it before is passed over.

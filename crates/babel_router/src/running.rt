@@ -12,7 +12,7 @@ use babel_durable::{DurableDriver, DurableReport, drive_durable};
 use babel_snapshot_file::{LockFile, SnapshotFileFault, SnapshotStore, StoreStart};
 use babel_speaker::Speaker;
 use babel_state::Config;
-use babel_wire::Report;
+use babel_wire::{Report, Wire};
 use std::alloc::{AllocError, Global};
 use std::fs::Files;
 use std::io::{Read, Write};
@@ -175,11 +175,12 @@ where
     let mut counts = Counts::default();
     printer.begin()?;
     for _ in 0..turns {
-        if wire.wire.has_ended() || wire.wire.faults >= MAX_FAULTS || printer.has_failed() {
+        if wire.wire.has_ended() || printer.has_failed() {
             break;
         }
-        wire.wire.wait_until(speaker.next_due());
-        let turn = drive_durable(speaker, driver, wire, printer, 1);
+        let Some(turn) = take_turn(speaker, wire, printer, driver) else {
+            break;
+        };
         if turn.failed_keeps > 0 && counts.turns == 0 {
             return Err(RunFault::SnapshotFile(SnapshotFileFault::Unwritable));
         }
@@ -190,6 +191,23 @@ where
     printer.end()?;
     printer.write_counts(counts.turns, counts.report)?;
     Ok(())
+}
+
+/// Takes a turn. `None`: the wire has failed too often.
+fn take_turn<'r, R: Net + Clock + Files, I: Read + AsRawFd, W: Write, E: Write>(
+    speaker: &mut Speaker,
+    wire: &mut KeptWire<'r, LinkWire<'r, R, I>, R>,
+    printer: &mut Printer<'_, '_, W, E>,
+    driver: &mut DurableDriver,
+) -> Option<DurableReport>
+where
+    R::File: LockFile,
+{
+    wire.wire.wait_until(speaker.next_due());
+    if wire.faults() > MAX_FAULTS {
+        return None;
+    }
+    Some(drive_durable(speaker, driver, wire, printer, 1))
 }
 
 /// The speaker, and the file that it is kept in. If that is there, the speaker is restored from it.
