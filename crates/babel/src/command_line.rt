@@ -7,14 +7,11 @@ use crate::noting::NotingWriter;
 use crate::opening::{open_config_and_snapshot, restore_arg};
 use crate::routing::{run_command as router_command, run_router};
 use crate::speaking::{run_speak, speak_command};
-use babel_commands::try_check;
-use babel_config::FileFault;
-use babel_commands::{Fault, report_fault};
-use babel_commands::try_net;
-use babel_commands::{NamedLog, try_explain, try_replay, try_replay_explained};
 use babel_commands::{
-    BadLines, Details, LineOptions, Status, show_lines, try_show, try_show_explained,
+    BadLines, Details, Fault, LineOptions, NamedLog, Status, report_fault, show_lines, try_check,
+    try_explain, try_net, try_replay, try_replay_explained, try_show, try_show_explained,
 };
+use babel_config::FileFault;
 use babel_snapshot_file::LockFile;
 use babel_text::LineFault;
 use clap::error::ErrorKind;

@@ -1,15 +1,13 @@
 //! The line with a sentence after the code of a fault.
 
 use crate::files::{FileFailure, MAX_TEXT_LEN, failure_of, log_line, octets_of, open_again};
+use babel_commands::{Absence, Details, Fault, absence_of};
 use babel_config::FileFault;
-use babel_commands::Fault;
 use babel_file_details::{
     FileKind, FileText, explain_config, explain_event, explain_file, explain_network,
     explain_transport, write_warnings,
 };
 use babel_line_details::{LineProblem, ReportCode, explain_hex, explain_log_line};
-use babel_commands::{Absence, absence_of};
-use babel_commands::Details;
 use babel_snapshot_file::{MAX_SNAPSHOT_LEN, SnapshotFileFault};
 use babel_state::RestoreFault;
 use babel_text::{LineFault, parse_prefix};

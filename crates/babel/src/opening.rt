@@ -1,8 +1,8 @@
 //! The files of `check` and `speak`: a configuration, and a snapshot if one is named.
 
 use crate::arguments::option;
-use babel_config::FileFault;
 use babel_commands::Fault;
+use babel_config::FileFault;
 use babel_snapshot_file::SnapshotFileFault;
 use clap::{Arg, ArgMatches};
 use std::alloc::Global;

@@ -3,10 +3,10 @@
 use crate::arguments::{details_arg, flag, option};
 use crate::details::details_of;
 use crate::help;
+use babel_commands::{Details, Status, refuse};
 use babel_line_details::Excerpt;
 use babel_router::{DeviceSettings, Kept, Printed, RunFault, RunOptions, Settings, run};
 use babel_snapshot_file::{LockFile, StoreStart};
-use babel_commands::{Details, Status, refuse};
 use babel_text::{parse_network, parse_prefix, parse_router_id};
 use babel_value::{Addr, Prefix};
 use clap::builder::ValueParser;
@@ -167,10 +167,7 @@ fn printed(arguments: &ArgMatches<'_>, flag: &str) -> Printed {
     }
 }
 
-fn prefixes_of<'a>(
-    alloc: Global,
-    arguments: &ArgMatches<'a>,
-) -> Result<Vec<Prefix>, Refused<'a>> {
+fn prefixes_of<'a>(alloc: Global, arguments: &ArgMatches<'a>) -> Result<Vec<Prefix>, Refused<'a>> {
     let mut prefixes = Vec::new(alloc);
     for text in arguments.get_strs("announce").unwrap_or(&[]) {
         let Some(prefix) = parse_prefix(text) else {
@@ -247,13 +244,7 @@ fn devices_arg<'a>(alloc: Global) -> Arg<'a> {
         .action(ArgAction::Append)
 }
 
-fn number_arg<'a>(
-    alloc: Global,
-    name: &'a str,
-    help: &'a str,
-    least: u64,
-    most: u64,
-) -> Arg<'a> {
+fn number_arg<'a>(alloc: Global, name: &'a str, help: &'a str, least: u64, most: u64) -> Arg<'a> {
     option(alloc, name, "N", help).value_parser(ValueParser::unsigned(least, most))
 }
 

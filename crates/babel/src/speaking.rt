@@ -3,8 +3,8 @@
 use crate::arguments::{details_arg, flag, option, positional};
 use crate::help;
 use crate::opening::{open_config_and_snapshot, restore_arg};
-use babel_config::{FileFault, read_config, read_file};
 use babel_commands::Fault;
+use babel_config::{FileFault, read_config, read_file};
 use babel_state::Config;
 use babel_udp::{SpeakFault, SpeakOptions, speak};
 use clap::builder::ValueParser;

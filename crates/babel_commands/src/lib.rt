@@ -19,5 +19,10 @@ mod showing;
 pub use checking::{check, try_check};
 pub use faults::{Fault, end, report_fault};
 pub use hops::{net, try_net};
-pub use reporting::{Absence, NamedLog, absence_of, explain, replay, try_explain, try_replay, try_replay_explained};
-pub use showing::{BadLines, Details, LineCode, LineOptions, READ_LEN, Status, read_line, refuse, report, show, show_lines, try_show, try_show_explained};
+pub use reporting::{
+    Absence, NamedLog, absence_of, explain, replay, try_explain, try_replay, try_replay_explained,
+};
+pub use showing::{
+    BadLines, Details, LineCode, LineOptions, READ_LEN, Status, read_line, refuse, report, show,
+    show_lines, try_show, try_show_explained,
+};

@@ -17,7 +17,9 @@ use crate::laws::{networks_begin, networks_go_on};
 use crate::nodes::Nodes;
 use crate::owners::Owners;
 use babel_choice::Selection;
-use babel_machine::laws::{events_are_machine_runs, next_hops_are_picks, sound_networks_have_no_loop};
+use babel_machine::laws::{
+    events_are_machine_runs, next_hops_are_picks, sound_networks_have_no_loop,
+};
 use babel_machine::{Event, NetFault, StepFault};
 use babel_state::{Config, Selected};
 use babel_value::{Addr, Memory, Prefix, RouterId};

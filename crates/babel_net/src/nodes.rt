@@ -108,13 +108,7 @@ impl Nodes {
     }
 
     /// The node receives the recorded datagram.
-    fn deliver(
-        &mut self,
-        number: usize,
-        node: usize,
-        iface: u8,
-        now: u64,
-    ) -> Result<(), StepFault>
+    fn deliver(&mut self, number: usize, node: usize, iface: u8, now: u64) -> Result<(), StepFault>
         requires inside { node < length self.old.speakers }
         requires sound { IsNetwork self.old }
         ensures ok { OnOk result (MakesDeliver number node iface now self.old self.new) }

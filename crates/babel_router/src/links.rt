@@ -113,8 +113,10 @@ fn open_links<R: Net>(
 ) -> Result<Vec<Link>, RunFault> {
     let mut links = Vec::new(alloc);
     for (number, device) in devices.iter().enumerate() {
-        let link = Link::open(rt, poll, port, number, device)
-            .map_err(|_| RunFault::Device(number, DeviceFault::Socket))?;
+        let link = Link::open(rt, poll, port, number, device).map_err(|_| RunFault::Device(
+            number,
+            DeviceFault::Socket,
+        ))?;
         links.push(link).map_err(AllocError::from)?;
     }
     Ok(links)
@@ -234,7 +236,9 @@ impl<R: Clock, I: Read + AsRawFd> LinkWire<'_, R, I> {
             // A clock that fails must not make the speaker late.
             Err(_) => due,
         };
-        self.wait = due.saturating_sub(passed).min(Duration::from_secs(MAX_WAIT));
+        self.wait = due
+            .saturating_sub(passed)
+            .min(Duration::from_secs(MAX_WAIT));
     }
 
     /// Looks which sources are ready, and waits for one if none is.
@@ -319,7 +323,9 @@ fn has_ended<I: Read + AsRawFd>(poll: &Poll, input: &mut I) -> bool {
     };
     let fd = input.as_raw_fd();
     // So that what is left is reported again.
-    let again = poll.registry().reregister(&mut SourceFd(&fd), Token(INPUT), Interest::READABLE);
+    let again = poll
+        .registry()
+        .reregister(&mut SourceFd(&fd), Token(INPUT), Interest::READABLE);
     has_ended || again.is_err()
 }
 

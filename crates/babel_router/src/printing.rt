@@ -149,7 +149,9 @@ fn write_durable_report<W: Write>(
 ) -> Result<(), LineFault> {
     write_report(turns, report.report, out)?;
     let DurableReport {
-        failed_keeps, lost, ..
+        failed_keeps,
+        lost,
+        ..
     } = report;
     if failed_keeps == 0 {
         return Ok(());

@@ -219,7 +219,12 @@ where
     R::File: LockFile,
 {
     let alloc = rt.alloc();
-    let config = config_of(alloc, plan.options.settings, plan.options.devices, plan.devices)?;
+    let config = config_of(
+        alloc,
+        plan.options.settings,
+        plan.options.devices,
+        plan.devices,
+    )?;
     if let Err(fault) = config.check() {
         return Err(RunFault::Config(fault));
     }
@@ -265,10 +270,7 @@ fn made(alloc: Global, config: Config, octets: Option<Vec<u8>>) -> Result<Speake
     }
 }
 
-fn names_of<'a>(
-    alloc: Global,
-    devices: &[DeviceSettings<'a>],
-) -> Result<Vec<&'a str>, AllocError> {
+fn names_of<'a>(alloc: Global, devices: &[DeviceSettings<'a>]) -> Result<Vec<&'a str>, AllocError> {
     let mut names = Vec::new(alloc);
     for device in devices {
         names.push(device.name)?;

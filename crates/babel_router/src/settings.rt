@@ -41,7 +41,9 @@ pub(crate) fn config_of(
     named: &[DeviceSettings<'_>],
     devices: &[Device],
 ) -> Result<Config, AllocError> {
-    let first = devices.first().map_or([0; 8], |it| interface_id(it.address));
+    let first = devices
+        .first()
+        .map_or([0; 8], |it| interface_id(it.address));
     let mut interfaces = Vec::new(alloc);
     for (name, device) in named.iter().zip(devices) {
         interfaces.push(Interface {

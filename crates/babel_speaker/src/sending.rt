@@ -181,15 +181,7 @@ pub(crate) fn next_datagram(
     builder.begin(source);
     // The first message always fits.
     let _ = builder.add(&message);
-    babel_calls::send_message(
-        core,
-        now,
-        target,
-        &message,
-        settled,
-        lowered,
-        &mut cursor,
-    );
+    babel_calls::send_message(core, now, target, &message, settled, lowered, &mut cursor);
     babel_calls::remove_first_item(core);
     fill(core, now, target, builder, settled, lowered, &mut cursor);
     builder.write_to(out);

@@ -297,7 +297,14 @@ impl SettledCore {
         }
         let mut settled = self.is_settled;
         let mut lowered = false;
-        let target = next_datagram(&mut self.core, now, out, builder, &mut settled, &mut lowered);
+        let target = next_datagram(
+            &mut self.core,
+            now,
+            out,
+            builder,
+            &mut settled,
+            &mut lowered,
+        );
         self.is_settled = settled;
         self.snapshot.note(lowered);
         target

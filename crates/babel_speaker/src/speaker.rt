@@ -227,15 +227,7 @@ impl Speaker {
         decoded_are_encodable(octets, &source);
         let alloc = self.alloc;
         let scratch = &mut self.scratch;
-        self.core.receive(
-            alloc,
-            now,
-            iface,
-            source,
-            octets,
-            scratch,
-            &mut self.trail,
-        )
+        self.core.receive(alloc, now, iface, source, octets, scratch, &mut self.trail)
     }
 
     /// The same for a datagram that is decoded already.

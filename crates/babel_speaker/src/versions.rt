@@ -35,7 +35,11 @@ impl Version {
         ensures counted { self.new ≡ self.old → self.new < greatest_version → IsFalse changed }
     {
         let count = self.count;
-        self.count = if changed { count.saturating_add(1) } else { count };
+        self.count = if changed {
+            count.saturating_add(1)
+        } else {
+            count
+        };
     }
 
     /// The count.

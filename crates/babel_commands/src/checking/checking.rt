@@ -1,8 +1,8 @@
 //! `babel check CONFIG --restore FILE`.
 
-use babel_config::{read_config, read_file};
 use crate::faults::{Fault, end};
 use crate::showing::Status;
+use babel_config::{read_config, read_file};
 use babel_snapshot::SavedState;
 use babel_snapshot_file::read_snapshot;
 use babel_speaker::Speaker;

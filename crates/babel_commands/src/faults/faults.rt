@@ -1,9 +1,9 @@
 //! Why a command refuses.
 
+use crate::showing::LineCode;
 use babel_config::FileFault;
 use babel_machine::{NetFault, StepFault};
 use babel_replay::ReplayFault;
-use crate::showing::LineCode;
 use babel_snapshot_file::{RestoreCode, SnapshotFileFault};
 use babel_state::{ConfigFault, RestoreFault};
 use babel_text::LineFault;

@@ -1,11 +1,11 @@
 //! `babel net SCENARIO`.
 
-use crate::hops::hops::Hops;
-use babel_config::{Scenario, read_file, read_scenario};
 use crate::faults::{Fault, end};
+use crate::hops::hops::Hops;
+use crate::showing::Status;
+use babel_config::{Scenario, read_file, read_scenario};
 use babel_machine::{Event, StepFault};
 use babel_net::{Network, node_of};
-use crate::showing::Status;
 use babel_text::LineFault;
 use std::alloc::Global;
 use std::io::{Read, Write};

@@ -1,10 +1,10 @@
 //! Why a prefix has no route after a log.
 
 use crate::reporting::sightings::{Sighting, sighting_in};
+use crate::showing::{READ_LEN, read_line};
 use babel_message::Reason;
 use babel_packet::decode;
 use babel_replay::{Action, MAX_LINE_LEN, parse_line};
-use crate::showing::{READ_LEN, read_line};
 use babel_text::LineFault;
 use babel_value::{Addr, Prefix};
 use std::alloc::Global;

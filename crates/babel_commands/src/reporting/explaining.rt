@@ -1,9 +1,9 @@
 //! `babel explain CONFIG LOG PREFIX`.
 
-use crate::reporting::replaying::config_in;
-use babel_config::FileFault;
 use crate::faults::{Fault, end};
+use crate::reporting::replaying::config_in;
 use crate::showing::{READ_LEN, Status};
+use babel_config::FileFault;
 use babel_text::{LineFault, parse_prefix};
 use std::alloc::Global;
 use std::io::{BufReader, Read, Write};

@@ -1,10 +1,10 @@
 //! `babel replay CONFIG LOG`.
 
+use crate::faults::{Fault, end};
 use crate::reporting::log_places::CountingLog;
 use crate::reporting::sentences::ExplainedReport;
-use babel_config::{FileFault, read_config, read_file};
-use crate::faults::{Fault, end};
 use crate::showing::{READ_LEN, Status};
+use babel_config::{FileFault, read_config, read_file};
 use babel_state::Config;
 use babel_text::LineFault;
 use std::alloc::Global;

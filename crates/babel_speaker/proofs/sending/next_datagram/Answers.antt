@@ -67,7 +67,7 @@ pub returns-clause-saved : goal.returns-clause-saved
 returns-clause-saved c = λ same.
     c.fill.ensures.saved same
     ∙ removed_snapshot c.send_message.new.core c.remove_first_item.new.core c.args.core.now c.remove_first_item.ensures
-        (c.send_message.ensures.saved (c.fill.ensures.marked same) ∙ c.skip_silent.ensures.saved.same)
+    (c.send_message.ensures.saved (c.fill.ensures.marked same) ∙ c.skip_silent.ensures.saved.same)
 
 pub returns-in_default-clause-saved : goal.returns-in_default-clause-saved
 returns-in_default-clause-saved c = λ same. c.skip_silent.ensures.saved.same
