@@ -216,7 +216,7 @@ where
         "replay" => run_replay(rt, arguments, out, err)?,
         "explain" => run_explain(rt, arguments, out)?,
         "net" => run_net(rt, arguments, out)?,
-        "speak" => run_speak(rt, arguments, out)?,
+        "speak" => run_speak(rt, arguments, out, err)?,
         _ => return Ok(Status::Usage),
     }
     Ok(Status::Done)

@@ -306,21 +306,21 @@ has a route.
 Example, 30 seconds with one interface:
   babel speak router.toml --turns 3000 --routes
 
-Restarts: --save writes a snapshot after the last turn, with the own seqno and
-the source table. It is written to FILE.tmp, which then replaces FILE: after a
-crash, FILE is whole, the old one or the new one. --restore reads a snapshot
-before the first turn. Both may name one file.
+Restarts: with --keep FILE the speaker is restored from FILE, and its snapshot,
+the own seqno and the source table, is kept there before anything is sent that
+depends on it. So it may be killed at any moment, and be started again at once:
+  babel speak router.toml --turns 3000 --keep router.kept --new
+  babel speak router.toml --turns 3000 --keep router.kept
+The first time, --new begins without FILE. FILE.lock keeps other processes from
+FILE. If the snapshot can't be kept in the first turn, nothing was sent (K9); if
+that happens later, nothing is sent until it can. Then the line after the counts
+is `failed keeps <n> unsent datagrams <n>`.
+If FILE is lost, wait until the routers around have no route through this one,
+at least 3 minutes, and start with --new.
 
-A snapshot is safe to restore if its speaker sent nothing after the save. So it
-is safe once, and only if the run that saved it ended by itself. A run that was
-killed saved nothing: FILE is from an earlier run, and a loop may come of it.
-Move FILE away before the run:
-  mv router.saved router.restore
-  babel speak router.toml --turns 3000 --restore router.restore \\
-    --save router.saved
-If router.saved is missing after that, the snapshot is lost: wait until the
-routers around have no route through this one, at least 3 minutes, and start
-without --restore.
+--save writes a snapshot after the last turn alone, and --restore reads one
+before the first. It is safe to restore if its speaker sent nothing after the
+save: so once, and only if the run that saved it ended by itself.
 
 Exit status:
   0  all turns were made; the counts have what failed
@@ -330,13 +330,16 @@ Exit status:
 Codes, in the order of test: those of a file, C1 to C6 (babel check --help),
 then
   W1        an interface has IPv6 transport
-  K8        the snapshot can't be read, or has more than 15384 octets; tested
-            first if it can't be opened
+  K10       another process keeps its snapshot in the FILE of --keep
+  K8        the snapshot can't be read, or has more than 15384 octets; of
+            --restore tested first if it can't be opened
+  K9        FILE is there, with --new; or FILE or FILE.lock of --keep can't be
+            written, at the latest in the first turn
   K1 to K7  the snapshot is refused (babel check --help)
   C7        out of memory
   W2        a socket can't be made
 At the end, after the counts:
-  K9        the snapshot can't be written; FILE is as it was
+  K9        the snapshot of --save can't be written; FILE is as it was
   L7        writing failed          L8  out of memory";
 
 /// After the help of `net`.

@@ -3,10 +3,11 @@
 use crate::arguments::{details_arg, flag, option};
 use crate::details::details_of;
 use crate::help;
+use crate::opening::{keep_arg, kept, new_arg};
 use babel_commands::{Details, Status, refuse};
 use babel_line_details::Excerpt;
-use babel_router::{DeviceSettings, Kept, Printed, RunFault, RunOptions, Settings, run};
-use babel_snapshot_file::{LockFile, StoreStart};
+use babel_router::{DeviceSettings, Printed, RunFault, RunOptions, Settings, run};
+use babel_snapshot_file::LockFile;
 use babel_text::{parse_network, parse_prefix, parse_router_id};
 use babel_value::{Addr, Prefix};
 use clap::builder::ValueParser;
@@ -147,17 +148,6 @@ where
     Ok(run(rt, options, input, out, err)?)
 }
 
-/// The file of the snapshot.
-fn kept<'a>(arguments: &ArgMatches<'a>) -> Option<Kept<'a>> {
-    let path = arguments.get_str("keep")?;
-    let start = if arguments.get_flag("new") {
-        StoreStart::New
-    } else {
-        StoreStart::Existing
-    };
-    Some(Kept { path, start })
-}
-
 /// Whether the flag asks for it.
 fn printed(arguments: &ArgMatches<'_>, flag: &str) -> Printed {
     if arguments.get_flag(flag) {
@@ -248,15 +238,6 @@ fn number_arg<'a>(alloc: Global, name: &'a str, help: &'a str, least: u64, most:
     option(alloc, name, "N", help).value_parser(ValueParser::unsigned(least, most))
 }
 
-fn new_arg<'a>(alloc: Global) -> Result<Arg<'a>, AllocError> {
-    let new = flag(
-        alloc,
-        "new",
-        "With --keep, begins with a new speaker; FILE must not be there",
-    );
-    new.requires_arg("keep")
-}
-
 /// The arguments of the command.
 pub(crate) fn run_command<'a>(alloc: Global) -> Result<Command<'a>, AllocError> {
     Command::new(alloc, "run")
@@ -309,12 +290,7 @@ pub(crate) fn run_command<'a>(alloc: Global) -> Result<Command<'a>, AllocError> 
             1,
             u64::MAX,
         ))?
-        .arg(option(
-            alloc,
-            "keep",
-            "FILE",
-            "The file of the snapshot: the speaker is restored from it, and keeps it",
-        ))?
+        .arg(keep_arg(alloc))?
         .arg(new_arg(alloc)?)?
         .arg(flag(
             alloc,

@@ -2,11 +2,12 @@
 
 use crate::arguments::{details_arg, flag, option, positional};
 use crate::help;
-use crate::opening::{open_config_and_snapshot, restore_arg};
+use crate::opening::{keep_arg, kept, new_arg, open_config, open_config_and_snapshot, restore_arg};
 use babel_commands::Fault;
 use babel_config::{FileFault, read_config, read_file};
+use babel_snapshot_file::{Kept, LockFile};
 use babel_state::Config;
-use babel_udp::{SpeakFault, SpeakOptions, speak};
+use babel_udp::{KeptOptions, SpeakFault, SpeakOptions, speak, speak_kept};
 use clap::builder::ValueParser;
 use clap::{Arg, ArgMatches, Command};
 use std::alloc::{AllocError, Global};
@@ -22,7 +23,45 @@ const MAX_TURNS: u64 = 1_000_000;
 const DEFAULT_PORT: u16 = 6696;
 
 /// Reads the configuration, restores the speaker, and speaks.
-pub(crate) fn run_speak<F: AllocGlobal + Files + Net + Clock, W: Write>(
+pub(crate) fn run_speak<F: AllocGlobal + Files + Net + Clock, W: Write, E: Write>(
+    rt: &F,
+    arguments: &ArgMatches<'_>,
+    out: &mut W,
+    err: &mut E,
+) -> Result<(), Fault>
+where
+    F::File: LockFile,
+{
+    match kept(arguments) {
+        Some(keep) => run_kept(rt, arguments, keep, out, err),
+        None => run_saved(rt, arguments, out),
+    }
+}
+
+/// A speaker whose snapshot is kept all the time.
+fn run_kept<F: AllocGlobal + Files + Net + Clock, W: Write, E: Write>(
+    rt: &F,
+    arguments: &ArgMatches<'_>,
+    keep: Kept<'_>,
+    out: &mut W,
+    err: &mut E,
+) -> Result<(), Fault>
+where
+    F::File: LockFile,
+{
+    let file = open_config(rt, arguments)?;
+    let config = config_in(rt.alloc(), file)?;
+    let options = KeptOptions {
+        turns: arguments.get_one::<u32>("turns").unwrap_or(1),
+        port: arguments.get_one::<u16>("port").unwrap_or(DEFAULT_PORT),
+        routes: arguments.get_flag("routes"),
+        keep,
+    };
+    speak_kept(rt, config, options, out, err).map_err(fault_of)
+}
+
+/// A speaker whose snapshot is saved at the end, if at all.
+fn run_saved<F: AllocGlobal + Files + Net + Clock, W: Write>(
     rt: &F,
     arguments: &ArgMatches<'_>,
     out: &mut W,
@@ -116,5 +155,7 @@ pub(crate) fn speak_command<'a>(alloc: Global) -> Result<Command<'a>, AllocError
         .arg(routes_arg(alloc))?
         .arg(restore_arg(alloc))?
         .arg(save_arg(alloc))?
+        .arg(keep_arg(alloc).conflicts_with_all(&["restore", "save"])?)?
+        .arg(new_arg(alloc)?)?
         .arg(details_arg(alloc))
 }

@@ -3,6 +3,7 @@
 use babel_snapshot_file::{RestoreCode, SnapshotFileFault};
 use babel_state::{ConfigFault, RestoreFault};
 use babel_text::LineFault;
+use babel_udp::StartFault;
 use std::alloc::AllocError;
 use std::fmt;
 use thiserror::Error;
@@ -50,6 +51,16 @@ pub enum RunFault {
 impl From<AllocError> for RunFault {
     fn from(error: AllocError) -> RunFault {
         RunFault::Output(LineFault::from(error))
+    }
+}
+
+impl From<StartFault> for RunFault {
+    fn from(fault: StartFault) -> RunFault {
+        match fault {
+            StartFault::SnapshotFile(fault) => RunFault::SnapshotFile(fault),
+            StartFault::Restore(RestoreFault::Config(fault)) => RunFault::Config(fault),
+            StartFault::Restore(fault) => RunFault::Restore(fault),
+        }
     }
 }
 

@@ -4,16 +4,9 @@ use crate::running::{Printed, RunOptions};
 use babel_durable::{DurableReport, Observer};
 use babel_speaker::Speaker;
 use babel_text::LineFault;
-use babel_udp::{RouteLines, Selections, write_report};
+use babel_udp::{Counts, LastKeep, RouteLines, Selections};
 use std::alloc::{AllocError, Global};
 use std::io::Write;
-
-/// Whether the snapshot was kept in the last turn.
-#[derive(Clone, Copy, Debug, PartialEq, Eq)]
-enum LastKeep {
-    Done,
-    Failed,
-}
 
 /// What was printed of the routes, and to where the rest is.
 #[derive(Drop)]
@@ -71,25 +64,9 @@ impl<'s, 'a, W: Write, E: Write> Printer<'s, 'a, W, E> {
         self.written.is_err()
     }
 
-    /// Says once that the snapshot can't be kept any more, and once that it is kept again.
-    pub(crate) fn note_keeping(&mut self, failed_keeps: u64) {
-        let keep = if failed_keeps > 0 {
-            LastKeep::Failed
-        } else {
-            LastKeep::Done
-        };
-        if keep == self.last_keep {
-            return;
-        }
-        self.last_keep = keep;
-        // Who can't read it finds it in the counts.
-        let _ = match keep {
-            LastKeep::Failed => writeln!(
-                self.err,
-                "babel: the snapshot can't be kept: nothing is sent until it can"
-            ),
-            LastKeep::Done => writeln!(self.err, "babel: the snapshot is kept again"),
-        };
+    /// Writes once that the snapshot can't be kept any more, and once that it is kept again.
+    pub(crate) fn note_keeping(&mut self, turn: DurableReport) {
+        self.last_keep.note(turn, self.err);
     }
 
     fn write_changes(&mut self, speaker: &Speaker, moment: u64) -> Result<(), LineFault> {
@@ -120,14 +97,10 @@ impl<'s, 'a, W: Write, E: Write> Printer<'s, 'a, W, E> {
     }
 
     /// The counts of all turns.
-    pub(crate) fn write_counts(
-        &mut self,
-        turns: u64,
-        report: DurableReport,
-    ) -> Result<(), LineFault> {
+    pub(crate) fn write_counts(&mut self, counts: Counts) -> Result<(), LineFault> {
         match self.commands {
-            Some(_) => write_durable_report(turns, report, self.err),
-            None => write_durable_report(turns, report, self.out),
+            Some(_) => counts.write_to(self.err),
+            None => counts.write_to(self.out),
         }
     }
 }
@@ -139,26 +112,6 @@ impl<W: Write, E: Write> Observer for Printer<'_, '_, W, E> {
             self.written = self.write_changes(speaker, now);
         }
     }
-}
-
-/// Writes the counts of a run, and those of keeps that failed if there were any.
-fn write_durable_report<W: Write>(
-    turns: u64,
-    report: DurableReport,
-    out: &mut W,
-) -> Result<(), LineFault> {
-    write_report(turns, report.report, out)?;
-    let DurableReport {
-        failed_keeps,
-        lost,
-        ..
-    } = report;
-    if failed_keeps == 0 {
-        return Ok(());
-    }
-    writeln!(out, "failed keeps {failed_keeps} unsent datagrams {lost}").map_err(
-        LineFault::of_writing,
-    )
 }
 
 fn write_if_some<W: Write>(

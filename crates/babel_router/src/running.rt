@@ -3,16 +3,16 @@
 ghost use Rattle.std.specs.Prelude.{◌≡◌};
 
 use crate::devices::{Device, Lists};
-use crate::keeping::KeptWire;
 use crate::links::LinkWire;
 use crate::printing::Printer;
 use crate::settings::{DeviceSettings, Settings, config_of};
 use crate::{DeviceFault, RunFault};
 use babel_durable::{DurableDriver, DurableReport, drive_durable};
-use babel_snapshot_file::{LockFile, SnapshotFileFault, SnapshotStore, StoreStart};
+use babel_snapshot_file::{Kept, LockFile, SnapshotFileFault, SnapshotStore};
 use babel_speaker::Speaker;
 use babel_state::Config;
-use babel_wire::{Report, Wire};
+use babel_udp::{Counts, KeptWire, open_kept};
+use babel_wire::Wire;
 use std::alloc::{AllocError, Global};
 use std::fs::Files;
 use std::io::{Read, Write};
@@ -28,18 +28,6 @@ const MAX_TENTATIVE: u32 = 50;
 
 /// How many calls of the wire may fail: far more than in any run.
 const MAX_FAULTS: u64 = 1 << 62;
-
-/// The moment at which a speaker is restored: the first one.
-const MOMENT: u64 = 0;
-
-/// The file in which the snapshot is kept, and whether it is there.
-#[derive(Clone, Copy, Debug)]
-pub struct Kept<'a> {
-    /// The file's name.
-    pub path: &'a str,
-    /// Whether the speaker is restored from it, or is a new one.
-    pub start: StoreStart,
-}
 
 /// Whether something is printed.
 #[derive(Clone, Copy, Debug, PartialEq, Eq)]
@@ -185,11 +173,11 @@ where
             return Err(RunFault::SnapshotFile(SnapshotFileFault::Unwritable));
         }
         counts.add(turn);
-        printer.note_keeping(turn.failed_keeps);
+        printer.note_keeping(turn);
     }
     // The kernel's routes are taken away also if a change couldn't be written.
     printer.end()?;
-    printer.write_counts(counts.turns, counts.report)?;
+    printer.write_counts(counts)?;
     Ok(())
 }
 
@@ -246,27 +234,9 @@ fn start_kept<'a, R: Files>(
 where
     R::File: LockFile,
 {
-    let (store, octets) = match SnapshotStore::open(alloc, rt, keep.path, keep.start) {
-        Ok(opened) => opened,
-        Err(fault) => return Err(RunFault::SnapshotFile(fault)),
-    };
-    match made(alloc, config, octets) {
-        Ok(speaker) => Ok((Some(store), speaker)),
-        Err(fault) => Err(fault),
-    }
-}
-
-/// A speaker of the configuration, restored from the octets if there are any.
-fn made(alloc: Global, config: Config, octets: Option<Vec<u8>>) -> Result<Speaker, RunFault> {
-    match octets {
-        Some(octets) => match Speaker::restore(alloc, config, MOMENT, octets.as_slice()) {
-            Ok(speaker) => Ok(speaker),
-            Err(fault) => Err(RunFault::Restore(fault)),
-        },
-        None => match Speaker::new(alloc, config) {
-            Ok(speaker) => Ok(speaker),
-            Err(fault) => Err(RunFault::Config(fault)),
-        },
+    match open_kept(alloc, rt, config, keep) {
+        Ok((store, speaker)) => Ok((Some(store), speaker)),
+        Err(fault) => Err(RunFault::from(fault)),
     }
 }
 
@@ -309,32 +279,4 @@ fn devices_now<R: Files>(
         devices.push(device).map_err(AllocError::from)?;
     }
     Ok(devices)
-}
-
-/// How many turns were taken, and what was counted in them.
-#[derive(Clone, Copy, Debug, Default)]
-struct Counts {
-    turns: u64,
-    report: DurableReport,
-}
-
-impl Counts {
-    /// Counts a turn.
-    fn add(&mut self, turn: DurableReport) {
-        self.turns = self.turns.saturating_add(1);
-        self.report = DurableReport {
-            report: added(self.report.report, turn.report),
-            failed_keeps: self.report.failed_keeps.saturating_add(turn.failed_keeps),
-            lost: self.report.lost.saturating_add(turn.lost),
-        };
-    }
-}
-
-fn added(all: Report, turn: Report) -> Report {
-    Report {
-        received: all.received.saturating_add(turn.received),
-        sent: all.sent.saturating_add(turn.sent),
-        refused: all.refused.saturating_add(turn.refused),
-        faults: all.faults.saturating_add(turn.faults),
-    }
 }

@@ -5,11 +5,12 @@ use Rattle.babel_state.specs.declared.errors.RestoreFault.{RestoreFault}
 use Rattle.babel_state.specs.declared.errors.RestoreFault.TheVariants as restore_faults
 use Rattle.babel_state.specs.Codes.{restore_code}
 use Rattle.babel_snapshot_file.specs.declared.errors.SnapshotFileFault.{SnapshotFileFault}
-use Rattle.babel_snapshot_file.specs.declared.errors.SnapshotFileFault.TheVariants.{Unreadable, Unwritable, InUse, Memory}
+use Rattle.babel_snapshot_file.specs.declared.errors.SnapshotFileFault.TheVariants.{Unreadable, Unwritable, Existing, InUse, Memory}
 
 abbrev pub snapshot_file_code : SnapshotFileFault → List ℕ
 snapshot_file_code Unreadable = codes "K8"
 snapshot_file_code Unwritable = codes "K9"
+snapshot_file_code Existing = codes "K9"
 snapshot_file_code InUse = codes "K10"
 snapshot_file_code Memory = codes "L8"
 

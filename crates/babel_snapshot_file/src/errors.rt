@@ -19,6 +19,9 @@ pub enum SnapshotFileFault {
     /// K9: the file can't be written.
     #[error("the snapshot's file can't be written")]
     Unwritable,
+    /// K9: a new speaker is to be kept in the file, and it is there.
+    #[error("the snapshot's file is there already: start without --new, or name another file")]
+    Existing,
     /// K10: another process keeps its snapshot in the file.
     #[error("another process keeps its snapshot in the file")]
     InUse,
@@ -35,6 +38,7 @@ impl SnapshotFileFault {
         match self {
             SnapshotFileFault::Unreadable => "K8",
             SnapshotFileFault::Unwritable => "K9",
+            SnapshotFileFault::Existing => "K9",
             SnapshotFileFault::InUse => "K10",
             SnapshotFileFault::Memory => "L8",
         }

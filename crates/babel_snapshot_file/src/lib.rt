@@ -17,4 +17,4 @@ pub use errors::SnapshotFileFault;
 pub use locking::LockFile;
 pub use reading::{MAX_SNAPSHOT_LEN, read_snapshot};
 pub use replacing::replace_file;
-pub use storing::{SnapshotStore, StoreStart};
+pub use storing::{Kept, SnapshotStore, StoreStart};

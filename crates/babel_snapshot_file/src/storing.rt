@@ -15,6 +15,15 @@ pub enum StoreStart {
     New,
 }
 
+/// The file in which a process keeps its snapshot, and whether it is there.
+#[derive(Clone, Copy, Debug)]
+pub struct Kept<'a> {
+    /// The file's name.
+    pub path: &'a str,
+    /// Whether the speaker is restored from it, or is a new one.
+    pub start: StoreStart,
+}
+
 /// A snapshot's file, locked against other processes.
 #[derive(Drop)]
 pub struct SnapshotStore<'a, F: Files> {
@@ -38,9 +47,9 @@ where
     pub fn open(
         alloc: Global,
         files: &'a F,
-        path: &'a str,
-        start: StoreStart,
+        kept: Kept<'a>,
     ) -> Result<(SnapshotStore<'a, F>, Option<Vec<u8>>), SnapshotFileFault> {
+        let Kept { path, start } = kept;
         let lock = lock(alloc, files, path)?;
         let octets = match start {
             StoreStart::Existing => {
@@ -49,7 +58,7 @@ where
             }
             StoreStart::New => {
                 if fs::symlink_metadata(files, path).is_ok() {
-                    return Err(SnapshotFileFault::Unwritable);
+                    return Err(SnapshotFileFault::Existing);
                 }
                 None
             }

@@ -1,5 +1,6 @@
 //! Why the command `speak` ends early.
 
+use crate::StartFault;
 use babel_snapshot_file::{RestoreCode, SnapshotFileFault};
 use babel_state::{ConfigFault, RestoreFault};
 use babel_text::LineFault;
@@ -16,7 +17,7 @@ pub enum SpeakFault {
     /// W1: an interface has IPv6 transport.
     #[error("an interface has IPv6 transport")]
     Transport,
-    /// K8, K9 and L8: the file of a snapshot can't be read or written.
+    /// K8, K9, K10 and L8: the file of a snapshot can't be read, written or locked.
     #[error("{0}")]
     SnapshotFile(#[from] SnapshotFileFault),
     /// K1 to K7, or C7: no speaker can be restored from the snapshot.
@@ -33,6 +34,16 @@ pub enum SpeakFault {
 impl From<AllocError> for SpeakFault {
     fn from(error: AllocError) -> SpeakFault {
         SpeakFault::Output(LineFault::from(error))
+    }
+}
+
+impl From<StartFault> for SpeakFault {
+    fn from(fault: StartFault) -> SpeakFault {
+        match fault {
+            StartFault::SnapshotFile(fault) => SpeakFault::SnapshotFile(fault),
+            StartFault::Restore(RestoreFault::Config(fault)) => SpeakFault::Config(fault),
+            StartFault::Restore(fault) => SpeakFault::Restore(fault),
+        }
     }
 }
 

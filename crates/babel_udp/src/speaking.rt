@@ -3,6 +3,7 @@
 ghost use Rattle.std.specs.Prelude.{◌≡◌};
 
 use crate::SpeakFault;
+use crate::counting::write_report;
 use crate::links::Links;
 use crate::selections::{RouteLines, Selections};
 use crate::snapshots::{make_speaker, save};
@@ -18,7 +19,7 @@ use std::net::Net;
 use std::time::Clock;
 
 /// The most octets that a datagram may have.
-const MAX_DATAGRAM_LEN: usize = 65535;
+pub(crate) const MAX_DATAGRAM_LEN: usize = 65535;
 
 /// How long a speaker speaks, on which port, what it prints, and where it is saved.
 #[derive(Clone, Copy, Debug)]
@@ -69,7 +70,7 @@ fn speak_over<R: Net + Clock + Files, W: Write>(
 }
 
 /// The links of a configuration that a speaker can be made of, if they all have IPv4 transport.
-fn checked_links(alloc: Global, config: &Config) -> Result<Links, SpeakFault> {
+pub(crate) fn checked_links(alloc: Global, config: &Config) -> Result<Links, SpeakFault> {
     config.check()?;
     let links = Links::of(alloc, config)?;
     if links.have_addresses() {
@@ -145,24 +146,4 @@ fn speak_with_routes<R: Net + Clock, W: Write>(
     }
     selections.write_table(out)?;
     Ok(report)
-}
-
-/// Writes the counts of all turns.
-///
-/// # Errors
-///
-/// L7 if writing fails.
-pub fn write_report<W: Write>(turns: u64, report: Report, out: &mut W) -> Result<(), LineFault> {
-    let Report {
-        received,
-        sent,
-        refused,
-        faults,
-    } = report;
-    writeln!(
-        out,
-        "turns {turns} received {received} sent {sent} refused {refused} faults {faults}"
-    )
-    .map_err(LineFault::of_writing)?;
-    out.flush().map_err(LineFault::of_writing)
 }

@@ -1,0 +1,219 @@
+//! `babel speak CONFIG --keep FILE`: a speaker over UDP that may be killed at any moment.
+
+ghost use Rattle.std.specs.Prelude.{◌≡◌};
+
+use crate::SpeakFault;
+use crate::counting::{Counts, LastKeep};
+use crate::keeping::{KeptWire, open_kept};
+use crate::links::Links;
+use crate::selections::{RouteLines, Selections};
+use crate::sockets::UdpWire;
+use crate::speaking::{MAX_DATAGRAM_LEN, checked_links};
+use babel_durable::{DurableDriver, DurableReport, Observer, drive_durable};
+use babel_snapshot_file::{Kept, LockFile, SnapshotFileFault};
+use babel_speaker::Speaker;
+use babel_state::Config;
+use babel_text::LineFault;
+use babel_wire::Wire;
+use std::alloc::{AllocError, Global};
+use std::fs::Files;
+use std::io::Write;
+use std::net::Net;
+use std::time::Clock;
+
+/// How many calls of the wire may fail: far more than in any run.
+const MAX_FAULTS: u64 = 1 << 62;
+
+/// How long a speaker speaks, on which port, what it prints, and where it is kept.
+#[derive(Clone, Copy, Debug)]
+pub struct KeptOptions<'a> {
+    /// How many turns it has.
+    pub turns: u32,
+    /// The UDP port of all speakers (RFC 8966, section 4).
+    pub port: u16,
+    /// Whether each change of a selected route is printed, and all selected routes at the end.
+    pub routes: bool,
+    /// The file in which its snapshot is kept.
+    pub keep: Kept<'a>,
+}
+
+/// The same as [`crate::speak`], but in each turn the snapshot is kept if it has changed, then changes of
+/// routes are written, and then datagrams are sent. So it may be killed at any moment, and start again at once.
+///
+/// If the snapshot can't be kept in the first turn, the run ends, and nothing was sent. Later nothing is sent
+/// until it can be kept again; that is written to `err` once.
+///
+/// # Errors
+///
+/// C1 to C6, W1, K10, K8, K9, K1 to K7, C7, W2, by the first cause in this order, before anything is sent.
+/// Then K9 of the first turn, L7 and L8.
+pub fn speak_kept<R: AllocGlobal + Net + Clock + Files, W: Write, E: Write>(
+    rt: &R,
+    config: Config,
+    options: KeptOptions<'_>,
+    out: &mut W,
+    err: &mut E,
+) -> Result<(), SpeakFault>
+where
+    R::File: LockFile,
+{
+    let mut started = start(rt, config, options)?;
+    print_turns(rt.alloc(), options, &mut started, out, err)
+}
+
+/// A speaker that may send, and what it is driven over.
+#[derive(Drop)]
+struct Started<'a, R: Net + Clock + Files> {
+    speaker: Speaker,
+    wire: KeptWire<'a, UdpWire<'a, R>, R>,
+}
+
+/// Makes or restores the speaker, and its sockets.
+fn start<'a, R: AllocGlobal + Net + Clock + Files>(
+    rt: &'a R,
+    config: Config,
+    options: KeptOptions<'a>,
+) -> Result<Started<'a, R>, SpeakFault>
+where
+    R::File: LockFile,
+{
+    match checked_links(rt.alloc(), &config) {
+        Ok(links) => start_over(rt, links, config, options),
+        Err(fault) => Err(fault),
+    }
+}
+
+fn start_over<'a, R: AllocGlobal + Net + Clock + Files>(
+    rt: &'a R,
+    links: Links,
+    config: Config,
+    options: KeptOptions<'a>,
+) -> Result<Started<'a, R>, SpeakFault>
+where
+    R::File: LockFile,
+{
+    let (store, speaker) = match open_kept(rt.alloc(), rt, config, options.keep) {
+        Ok(opened) => opened,
+        Err(fault) => return Err(SpeakFault::from(fault)),
+    };
+    match UdpWire::bind(rt.alloc(), rt, links, options.port) {
+        Ok(wire) => {
+            let store = Some(store);
+            let wire = KeptWire { wire, store };
+            Ok(Started { speaker, wire })
+        }
+        Err(fault) => Err(fault),
+    }
+}
+
+/// Drives the speaker for all turns, and prints what is asked for.
+fn print_turns<R: Net + Clock + Files, W: Write, E: Write>(
+    alloc: Global,
+    options: KeptOptions<'_>,
+    started: &mut Started<'_, R>,
+    out: &mut W,
+    err: &mut E,
+) -> Result<(), SpeakFault>
+where
+    R::File: LockFile,
+{
+    let mut printer = Printer::new(alloc, options.routes, out, err)?;
+    let mut driver = DurableDriver::new(alloc, MAX_DATAGRAM_LEN)?;
+    take_turns(options.turns, started, &mut driver, &mut printer)?;
+    Ok(printer.end()?)
+}
+
+/// Drives the speaker turn by turn, until its lines can't be written.
+fn take_turns<R: Net + Clock + Files, W: Write, E: Write>(
+    turns: u32,
+    started: &mut Started<'_, R>,
+    driver: &mut DurableDriver,
+    printer: &mut Printer<'_, W, E>,
+) -> Result<(), SnapshotFileFault>
+where
+    R::File: LockFile,
+{
+    for _ in 0..turns {
+        if printer.written.is_err() || started.wire.faults() > MAX_FAULTS {
+            break;
+        }
+        let Started { speaker, wire } = &mut *started;
+        let turn = drive_durable(speaker, driver, wire, printer, 1);
+        if turn.failed_keeps > 0 && printer.counts.turns == 0 {
+            return Err(SnapshotFileFault::Unwritable);
+        }
+        printer.add(turn);
+    }
+    Ok(())
+}
+
+/// What was counted and printed, and to where the rest is.
+#[derive(Drop)]
+struct Printer<'s, W: Write, E: Write> {
+    out: &'s mut W,
+    err: &'s mut E,
+    routes: Option<Selections<'s>>,
+    counts: Counts,
+    last_keep: LastKeep,
+    written: Result<(), LineFault>,
+}
+
+impl<'s, W: Write, E: Write> Printer<'s, W, E> {
+    fn new(
+        alloc: Global,
+        routes: bool,
+        out: &'s mut W,
+        err: &'s mut E,
+    ) -> Result<Printer<'s, W, E>, AllocError> {
+        let routes = match routes {
+            true => Some(Selections::new(alloc, RouteLines::Numbers)?),
+            false => None,
+        };
+        Ok(Printer {
+            out,
+            err,
+            routes,
+            counts: Counts::default(),
+            last_keep: LastKeep::Done,
+            written: Ok(()),
+        })
+    }
+
+    /// Counts a turn.
+    fn add(&mut self, turn: DurableReport) {
+        self.counts.add(turn);
+        self.last_keep.note(turn, self.err);
+    }
+
+    fn write_changes(&mut self, speaker: &Speaker, moment: u64) -> Result<(), LineFault> {
+        let Some(routes) = &mut self.routes else {
+            return Ok(());
+        };
+        if routes.write_changes(speaker, moment, self.out)? {
+            self.out.flush().map_err(LineFault::of_writing)?;
+        }
+        Ok(())
+    }
+
+    /// After the last turn: the selected routes and the counts.
+    ///
+    /// # Errors
+    ///
+    /// L7 or L8 of a change before, or L7.
+    fn end(&mut self) -> Result<(), LineFault> {
+        self.written?;
+        if let Some(routes) = &self.routes {
+            routes.write_table(self.out)?;
+        }
+        self.counts.write_to(self.out)
+    }
+}
+
+impl<W: Write, E: Write> Observer for Printer<'_, W, E> {
+    /// Changes are written after the snapshot was kept, and before a datagram is sent.
+    fn turn(&mut self, now: u64, speaker: &Speaker) {
+        if self.written.is_ok() {
+            self.written = self.write_changes(speaker, now);
+        }
+    }
+}
