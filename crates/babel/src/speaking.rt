@@ -144,18 +144,28 @@ fn save_arg<'a>(alloc: Global) -> Arg<'a> {
     )
 }
 
+/// The argument `--keep`. What is kept all the time is neither restored from another file nor saved at the end.
+fn only_keep_arg<'a>(alloc: Global) -> Result<Arg<'a>, AllocError> {
+    keep_arg(alloc).conflicts_with_all(&["restore", "save"])
+}
+
+/// The arguments with which a speaker begins and ends.
+fn add_snapshot_args<'a>(alloc: Global, command: Command<'a>) -> Result<Command<'a>, AllocError> {
+    command
+        .arg(restore_arg(alloc))?
+        .arg(save_arg(alloc))?
+        .arg(only_keep_arg(alloc)?)?
+        .arg(new_arg(alloc)?)
+}
+
 /// The arguments of the command.
 pub(crate) fn speak_command<'a>(alloc: Global) -> Result<Command<'a>, AllocError> {
-    Command::new(alloc, "speak")
+    let command = Command::new(alloc, "speak")
         .about("Speaks Babel over UDP and IPv4")
         .after_help(help::SPEAK)
         .arg(config_arg(alloc))?
         .arg(turns_arg(alloc))?
         .arg(port_arg(alloc))?
-        .arg(routes_arg(alloc))?
-        .arg(restore_arg(alloc))?
-        .arg(save_arg(alloc))?
-        .arg(keep_arg(alloc).conflicts_with_all(&["restore", "save"])?)?
-        .arg(new_arg(alloc)?)?
-        .arg(details_arg(alloc))
+        .arg(routes_arg(alloc))?;
+    add_snapshot_args(alloc, command)?.arg(details_arg(alloc))
 }
