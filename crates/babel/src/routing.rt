@@ -133,8 +133,7 @@ where
     let settings = Settings {
         router_id: router_id_of(arguments)?,
         prefixes: &prefixes,
-        cost: arguments.get_one::<u16>("cost").unwrap_or(DEFAULT_COST),
-        hello: arguments.get_one::<u16>("hello").unwrap_or(DEFAULT_HELLO),
+        collect: false,
     };
     let options = RunOptions {
         devices: &devices,
@@ -192,7 +191,13 @@ fn devices_of<'a>(
             }
         }
         devices
-            .push(DeviceSettings { name, ipv4 })
+            .push(DeviceSettings {
+                name,
+                ipv4,
+                is_ipv4_fixed: false,
+                cost: arguments.get_one::<u16>("cost").unwrap_or(DEFAULT_COST),
+                hello: arguments.get_one::<u16>("hello").unwrap_or(DEFAULT_HELLO),
+            })
             .map_err(AllocError::from)?;
     }
     Ok(devices)

@@ -1,7 +1,8 @@
 //! A router on real links (RFC 8966, section 4): the command `run`.
 //!
-//! `devices` is what the system reports of a device, `settings` the configuration that the speaker gets of
-//! them, `links` the wire over their sockets, `printing` what is printed, and `running` the command.
+//! `devices` is what the system reports of a device, `tracking` how the devices of a run change, `settings` the configuration that
+//! the speaker gets of them, `sockets` what a device has, `links` the wire over all of them, `printing` what is
+//! printed, `turns` the turns of the speaker with the changes of devices, and `running` the command.
 #![tactic(auto)]
 
 mod devices;
@@ -10,6 +11,9 @@ mod links;
 mod printing;
 mod running;
 mod settings;
+mod sockets;
+mod tracking;
+mod turns;
 
 pub use errors::{DeviceFault, RunCode, RunFault};
 pub use running::{Printed, RunOptions, run};
