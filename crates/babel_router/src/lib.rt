@@ -2,7 +2,8 @@
 //!
 //! `devices` is what the system reports of a device, `tracking` how the devices of a run change, `settings` the configuration that
 //! the speaker gets of them, `sockets` what a device has, `links` the wire over all of them, `printing` what is
-//! printed, `turns` the turns of the speaker with the changes of devices, and `running` the command.
+//! printed, `turns` the turns of the speaker with the changes of devices, `running` the run, and `words` what the command
+//! line and the file of `--config` ask for.
 #![tactic(auto)]
 
 mod devices;
@@ -14,7 +15,9 @@ mod settings;
 mod sockets;
 mod tracking;
 mod turns;
+mod words;
 
-pub use errors::{DeviceFault, RunCode, RunFault};
+pub use errors::{DeviceFault, RunCode, RunFault, WordsFault};
 pub use running::{Printed, RunOptions, run};
 pub use settings::{DeviceSettings, Settings};
+pub use words::{RunWords, run_words};
