@@ -8,7 +8,7 @@ use babel_config::FileFault;
 use babel_file_details::FileText;
 use babel_line_details::Excerpt;
 use babel_router::{Printed, RunFault, RunWords, WordsFault, run_words};
-use babel_router_file::explain_router_file;
+use babel_router_details::explain_router_file;
 use babel_snapshot_file::LockFile;
 use clap::ArgMatches;
 use std::fs::Files;

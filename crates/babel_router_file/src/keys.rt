@@ -4,13 +4,15 @@ use std::fmt;
 
 /// What the value at a key is.
 #[derive(Clone, Copy, Debug, PartialEq, Eq)]
-pub(crate) enum Kind {
+pub enum Kind {
     /// 16 hexadecimal digits.
     RouterId,
     /// True or false.
     TruthValue,
-    /// A prefix, one of a list.
+    /// A prefix.
     Prefix,
+    /// A list of them.
+    Prefixes,
     /// A number from the first to the second.
     Number(u16, u16),
     /// An IPv4 address with the length of its network's prefix.
@@ -27,9 +29,8 @@ impl fmt::Display for Kind {
         match *self {
             Kind::RouterId => f.write_str("a router-id of 16 hexadecimal digits"),
             Kind::TruthValue => f.write_str("true or false"),
-            Kind::Prefix => f.write_str(
-                "a list of prefixes, as [\"10.0.0.0/8\", \"2001:db8::/32\"]",
-            ),
+            Kind::Prefix => f.write_str("a prefix, as 10.0.0.0/8 or 2001:db8::/32"),
+            Kind::Prefixes => f.write_str("a list of prefixes, as [\"10.0.0.0/8\"]"),
             Kind::Number(least, greatest) => { write!(f, "a number from {least} to {greatest}") }
             Kind::Network => f.write_str("an IPv4 address with a length, as 192.168.0.2/24"),
             Kind::Devices => f.write_str("tables, as [device.eth0]"),
@@ -39,20 +40,20 @@ impl fmt::Display for Kind {
 }
 
 /// The key under which the tables of devices are.
-pub(crate) const DEVICE: &str = "device";
+pub const DEVICE: &str = "device";
 
 /// The keys of the file itself.
-pub(crate) const FILE_KEYS: &str = "router-id, collect, prefixes, device";
+pub const FILE_KEYS: &str = "router-id, collect, prefixes, device";
 
 /// The keys of a device.
-pub(crate) const DEVICE_KEYS: &str = "cost, hello, ipv4";
+pub const DEVICE_KEYS: &str = "cost, hello, ipv4";
 
 /// What the value at a key of the file is, if there is such a key.
 pub(crate) fn kind_in_file(key: &str) -> Option<Kind> {
     match key {
         "router-id" => Some(Kind::RouterId),
         "collect" => Some(Kind::TruthValue),
-        "prefixes" => Some(Kind::Prefix),
+        "prefixes" => Some(Kind::Prefixes),
         DEVICE => Some(Kind::Devices),
         _ => None,
     }

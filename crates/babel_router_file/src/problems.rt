@@ -8,7 +8,7 @@ use toml::{Table, Value};
 
 /// What is wrong with a value.
 #[derive(Clone, Copy, Debug, PartialEq, Eq)]
-pub(crate) enum Cause<'a> {
+pub enum Cause<'a> {
     /// The table has no such key.
     UnknownKey,
     /// The value is of another kind.
@@ -21,13 +21,15 @@ pub(crate) enum Cause<'a> {
 
 /// What is wrong with a file, and where.
 #[derive(Clone, Copy, Debug, PartialEq, Eq)]
-pub(crate) struct Problem<'a> {
+pub struct Problem<'a> {
     /// The device in whose table the key is.
-    pub(crate) device: Option<&'a str>,
-    pub(crate) key: &'a str,
+    pub device: Option<&'a str>,
+    /// The key.
+    pub key: &'a str,
     /// The index in the list at the key.
-    pub(crate) index: Option<usize>,
-    pub(crate) cause: Cause<'a>,
+    pub index: Option<usize>,
+    /// What is wrong with it.
+    pub cause: Cause<'a>,
 }
 
 impl<'a> Problem<'a> {
@@ -50,13 +52,13 @@ impl<'a> Problem<'a> {
 }
 
 /// The first problem, in the order of the keys.
-pub(crate) fn first_problem(file: &Table) -> Option<Problem<'_>> {
+pub fn first_problem(file: &Table) -> Option<Problem<'_>> {
     for (key, value) in file.iter() {
         let key = key.as_str();
         let problem = match kind_in_file(key) {
             None => Some(Problem::at(key, Cause::UnknownKey)),
             Some(Kind::Devices) => devices_problem(key, value),
-            Some(Kind::Prefix) => prefixes_problem(key, value),
+            Some(Kind::Prefixes) => prefixes_problem(key, value),
             Some(kind) => value_problem(key, kind, value),
         };
         if problem.is_some() {
@@ -101,7 +103,7 @@ fn device_problem<'a>(name: &'a str, value: &'a Value) -> Option<Problem<'a>> {
 
 fn prefixes_problem<'a>(key: &'a str, value: &'a Value) -> Option<Problem<'a>> {
     let Value::Array(items) = value else {
-        return Some(Problem::at(key, Cause::WrongKind(Kind::Prefix)));
+        return Some(Problem::at(key, Cause::WrongKind(Kind::Prefixes)));
     };
     for (index, item) in items.iter().enumerate() {
         if let Some(problem) = value_problem(key, Kind::Prefix, item) {

@@ -1,10 +1,9 @@
 //! The sentence about a file that is refused.
 
-use crate::keys::{DEVICE, DEVICE_KEYS, FILE_KEYS, Kind};
-use crate::problems::{Cause, Problem, first_problem};
 use babel_config::FileFault;
 use babel_file_details::{FileKind, FileText, Part, Position, Step, explain_file, position_at};
 use babel_line_details::Excerpt;
+use babel_router_file::{Cause, DEVICE, DEVICE_KEYS, FILE_KEYS, Kind, Problem, first_problem};
 use std::alloc::{AllocError, Global};
 use std::fmt;
 use std::io::{self, Write};
@@ -33,8 +32,8 @@ fn write_problem<W: Write>(
 ) -> io::Result<()> {
     let name = file.name;
     match position_of(alloc, file.octets, problem) {
-        Some(position) => writeln!(out, "{name}:{position}: {problem}"),
-        None => writeln!(out, "{name}: {problem}"),
+        Some(position) => writeln!(out, "{name}:{position}: {}", Sentence(problem)),
+        None => writeln!(out, "{name}: {}", Sentence(problem)),
     }
 }
 
@@ -70,11 +69,14 @@ fn is_device(cause: Cause<'_>) -> bool {
     cause == Cause::WrongKind(Kind::Device)
 }
 
-/// The sentence.
-impl fmt::Display for Problem<'_> {
+/// A problem, as it is written.
+#[derive(Clone, Copy, Debug)]
+struct Sentence<'a>(&'a Problem<'a>);
+
+impl fmt::Display for Sentence<'_> {
     fn fmt<W: fmt::Write>(&self, f: &mut fmt::Formatter<W>) -> fmt::Result {
-        let key = self.key;
-        match (self.cause, self.device) {
+        let key = self.0.key;
+        match (self.0.cause, self.0.device) {
             (Cause::UnknownKey, Some(device)) => write!(
                 f,
                 "unknown key '{key}' of device {device}; the keys are {DEVICE_KEYS}"
