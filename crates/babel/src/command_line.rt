@@ -5,7 +5,8 @@ use crate::details::{details_of, explain_absence, explain_fault, explain_output,
 use crate::help;
 use crate::noting::NotingWriter;
 use crate::opening::{open_config_and_snapshot, restore_arg};
-use crate::routing::{run_command as router_command, run_router};
+use crate::routing::run_router;
+use crate::routing_arguments::run_command as router_command;
 use crate::speaking::{run_speak, speak_command};
 use babel_commands::{
     BadLines, Details, Fault, LineOptions, NamedLog, Status, report_fault, show_lines, try_check,

@@ -193,6 +193,18 @@ fn explain_unreadable<F: Files, E: Write>(
     writeln!(err, "{name}: {}", FileFault::Unreadable)
 }
 
+/// F5 of a file that isn't the first argument of a command.
+pub(crate) fn explain_unreadable_file<F: Files, E: Write>(
+    rt: &F,
+    name: &str,
+    err: &mut E,
+) -> io::Result<()> {
+    match failure_of(rt, name, MAX_TEXT_LEN) {
+        Some(failure) => write_failure(name, failure, MAX_TEXT_LEN, err),
+        None => writeln!(err, "{name}: {}", FileFault::Unreadable),
+    }
+}
+
 fn write_failure<E: Write>(
     name: &str,
     failure: FileFailure,

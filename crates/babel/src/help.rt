@@ -420,9 +420,20 @@ where <time> is in centiseconds since the start. At the end there is a line
 `table`, in place of <time> and `select`, for each prefix to which the speaker
 has a route.
 
-With --ip, each change is a line for ip -force -batch -, at first and at the end
-`route flush proto babel`. Routes have the kernel's metric 1024. The lines of
---routes and the counts are on standard error then.
+With --ip, each change is a line for ip -force -batch -, which needs the right
+to change routes. The first two lines flush the routes of a run that was killed,
+and at the end each own route is deleted. Routes have the kernel's metric 1024.
+The lines of --routes and the counts are on standard error then.
+
+With --config FILE there are settings by device, in TOML, all of which may be
+left out:
+  router-id = \"0000000000000001\"    prefixes = [\"10.1.0.0/16\"]
+  [device.eth0]
+  cost = 96    hello = 400    ipv4 = \"192.168.0.1/24\"
+
+A device that goes down and comes back, or is created again, is opened again. If
+it gets another address, the speaker starts again from its snapshot. Each change
+is a line on standard error.
 
 At the end it prints, on one line
   turns <n> received <n> sent <n> refused <n> faults <n>
@@ -438,7 +449,8 @@ Exit status:
   1  refused: the code is on standard error
   2  the command line is not one of the commands
 
-Codes, in the order of test: F3 for an argument that can't be read, then
+Codes, in the order of test: F1 to F5 of the file of --config, F3 for an argument
+that can't be read, then
   W6  the system's lists of devices can't be read
   W3  a device without a link-local IPv6 address
   W4  a link-local address that is still tentative after five seconds

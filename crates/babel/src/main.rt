@@ -12,6 +12,7 @@ mod help;
 mod noting;
 mod opening;
 mod routing;
+mod routing_arguments;
 mod speaking;
 
 use command_line::{read_arguments, report_arguments, run};

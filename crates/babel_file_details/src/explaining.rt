@@ -185,23 +185,44 @@ fn write_head<W: Write>(
 }
 
 fn position_of(alloc: Global, octets: &[u8], finding: &Finding<'_>) -> Option<Position> {
-    let Ok(text) = str::from_utf8(octets) else {
-        return None;
-    };
     let Ok(mut steps) = finding.at.steps(alloc) else {
         return None;
     };
-    if is_unknown_key(finding.problem) && steps.push(Step::Key(finding.text)).is_err() {
+    let is_of_key = is_unknown_key(finding.problem);
+    if is_of_key && steps.push(Step::Key(finding.text)).is_err() {
         return None;
     }
+    let part = if is_of_key { Part::Key } else { Part::Value };
+    position_at(alloc, octets, steps.as_slice(), part)
+}
+
+/// A key, or the value at it.
+#[derive(Clone, Copy, Debug, PartialEq, Eq)]
+pub enum Part {
+    /// The key.
+    Key,
+    /// The value.
+    Value,
+}
+
+/// The position of what the steps lead to in the text of a TOML document. `None` if it isn't there, or if an allocation
+/// fails.
+pub fn position_at(
+    alloc: Global,
+    octets: &[u8],
+    steps: &[Step<'_>],
+    part: Part,
+) -> Option<Position> {
+    let Ok(text) = str::from_utf8(octets) else {
+        return None;
+    };
     if steps.is_empty() {
         return None;
     }
-    let place = locate(alloc, text, steps.as_slice())?;
-    let rest = if is_unknown_key(finding.problem) {
-        place.key
-    } else {
-        place.value
+    let place = locate(alloc, text, steps)?;
+    let rest = match part {
+        Part::Key => place.key,
+        Part::Value => place.value,
     };
     Some(Position::after(octets, text.len().saturating_sub(rest.len())))
 }

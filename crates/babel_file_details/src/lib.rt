@@ -26,6 +26,8 @@ mod skipping;
 mod warnings;
 
 pub use explaining::{
-    FileKind, FileText, explain_config, explain_event, explain_file, explain_network,
-    explain_transport, write_warnings,
+    FileKind, FileText, Part, explain_config, explain_event, explain_file, explain_network,
+    explain_transport, position_at, write_warnings,
 };
+pub use locations::Step;
+pub use positions::Position;

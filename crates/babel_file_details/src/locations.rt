@@ -51,7 +51,7 @@ impl fmt::Display for Owner {
 
 /// A step from a table to a value at its key, or from a list to one of its elements.
 #[derive(Clone, Copy, Debug, PartialEq, Eq)]
-pub(crate) enum Step<'a> {
+pub enum Step<'a> {
     /// The value at the key.
     Key(&'a str),
     /// The element with this index.

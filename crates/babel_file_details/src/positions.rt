@@ -4,7 +4,7 @@ use std::fmt;
 
 /// A line and a column, both from 1 on. A column counts characters.
 #[derive(Clone, Copy, Debug, PartialEq, Eq)]
-pub(crate) struct Position {
+pub struct Position {
     line: usize,
     column: usize,
 }

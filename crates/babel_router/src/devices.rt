@@ -49,14 +49,19 @@ impl Lists {
         })
     }
 
-    /// The device of this name, if a speaker can send and receive over it.
+    /// The device of this name, if a speaker can send and receive over it. Of several link-local addresses it is the preferred
+    /// one, or else the first.
     ///
     /// # Errors
     ///
     /// The device has no link-local address, it isn't sure yet that the address is free, or nobody has joined the
     /// group on it.
-    pub(crate) fn device(&self, name: &str) -> Result<Device, DeviceFault> {
-        let device = self.link_local(name)?;
+    pub(crate) fn device(
+        &self,
+        name: &str,
+        preferred: Option<[u8; 16]>,
+    ) -> Result<Device, DeviceFault> {
+        let device = self.link_local(name, preferred)?;
         if self.is_member(name) {
             Ok(device)
         } else {
@@ -64,16 +69,17 @@ impl Lists {
         }
     }
 
-    fn link_local(&self, name: &str) -> Result<Device, DeviceFault> {
-        let mut fault = DeviceFault::NoAddress;
+    fn link_local(&self, name: &str, preferred: Option<[u8; 16]>) -> Result<Device, DeviceFault> {
+        let mut found = Err(DeviceFault::NoAddress);
         for line in self.addresses.lines() {
             match address_in(line, name) {
-                Some((_, true)) => fault = DeviceFault::Tentative,
-                Some((device, false)) => return Ok(device),
-                None => {}
+                Some((device, false)) if preferred == Some(device.address) => return Ok(device),
+                Some((device, false)) if found.is_err() => found = Ok(device),
+                Some((_, true)) if found.is_err() => found = Err(DeviceFault::Tentative),
+                _ => {}
             }
         }
-        Err(fault)
+        found
     }
 
     fn is_member(&self, name: &str) -> bool {

@@ -1,5 +1,6 @@
 //! Why the command `run` refuses, or ends early.
 
+use babel_config::FileFault;
 use babel_snapshot_file::{RestoreCode, SnapshotFileFault};
 use babel_state::{ConfigFault, RestoreFault};
 use babel_text::LineFault;
@@ -46,6 +47,21 @@ pub enum RunFault {
     /// L7 and L8: writing failed, or an allocation failed.
     #[error("{0}")]
     Output(#[from] LineFault),
+}
+
+/// Why what the command line and the file of `--config` ask for isn't run.
+#[derive(Clone, Copy, Debug, PartialEq, Eq)]
+pub enum WordsFault<'a> {
+    /// F3: a prefix can't be read.
+    Prefix(&'a str),
+    /// F3: the router-id can't be read.
+    RouterId(&'a str),
+    /// F3: the IPv4 address of a device can't be read.
+    Address(&'a str),
+    /// F1 to F5: the file is refused.
+    File(FileFault),
+    /// The run is refused, or ended early.
+    Run(RunFault),
 }
 
 impl From<AllocError> for RunFault {

@@ -1,7 +1,9 @@
 //! A router on real links (RFC 8966, section 4): the command `run`.
 //!
-//! `devices` is what the system reports of a device, `settings` the configuration that the speaker gets of
-//! them, `links` the wire over their sockets, `printing` what is printed, and `running` the command.
+//! `devices` is what the system reports of a device, `tracking` how the devices of a run change, `settings` the configuration that
+//! the speaker gets of them, `sockets` what a device has, `links` the wire over all of them, `printing` what is
+//! printed, `turns` the turns of the speaker with the changes of devices, `running` the run, and `words` what the command
+//! line and the file of `--config` ask for.
 #![tactic(auto)]
 
 mod devices;
@@ -10,7 +12,12 @@ mod links;
 mod printing;
 mod running;
 mod settings;
+mod sockets;
+mod tracking;
+mod turns;
+mod words;
 
-pub use errors::{DeviceFault, RunCode, RunFault};
+pub use errors::{DeviceFault, RunCode, RunFault, WordsFault};
 pub use running::{Printed, RunOptions, run};
 pub use settings::{DeviceSettings, Settings};
+pub use words::{RunWords, run_words};

@@ -2,56 +2,52 @@
 
 ghost use Rattle.std.specs.Prelude.{◌≡◌, ◌≤◌, length, IfOk, IfSome};
 
+use crate::RunFault;
 use crate::devices::Device;
-use crate::{DeviceFault, RunFault};
+use crate::sockets::{Half, Sockets, group_address, watch};
 use babel_state::Target;
 use babel_value::Addr;
 use babel_wire::{Arrival, Wire, WireFault};
 use mio::unix::SourceFd;
-use mio::{Events, Interest, Poll, Token};
+use mio::{Events, Interest, Poll, Registry, Token};
 use std::alloc::{AllocError, Global};
 use std::io::{self, Read};
-use std::net::{Ipv6Addr, Net, SocketAddr, SocketAddrV6, UdpSocket};
-use std::os::fd::{AsRawFd, RawFd};
+use std::net::{Ipv6Addr, Net};
+use std::os::fd::AsRawFd;
 use std::time::{Clock, Duration, Instant};
-
-/// The group of Babel routers, ff02::1:6 (RFC 8966, section 4).
-const GROUP: [u16; 8] = [0xff02, 0, 0, 0, 0, 0, 1, 6];
 
 /// How many datagrams are taken before the other sources are looked at.
 const MAX_TAKEN: u32 = 64;
 
-/// How many events are looked at in one wait: two for each interface, and the input.
-const MAX_EVENTS: usize = 32;
-
-/// How long a turn waits for a datagram at most, in seconds.
-const MAX_WAIT: u64 = 1;
+/// How many events are looked at in one wait: two for each interface, the input, and those of other sources.
+const MAX_EVENTS: usize = 64;
 
 /// The token of the standard input. Those of sockets are twice their device's number, and one more.
 const INPUT: usize = usize::MAX;
 
-/// The sockets of a device.
-#[derive(Drop)]
-struct Link {
-    scope: u32,
-    /// Bound to the device's own address: all is sent from it, and datagrams for this router alone come to it.
-    own: UdpSocket,
-    /// Bound to the group, so that no datagram comes twice.
-    group: UdpSocket,
-    own_is_ready: bool,
-    group_is_ready: bool,
-}
+/// The least token of sources that the wire only waits for, see [`LinkWire::take_ready`].
+pub(crate) const FIRST_OTHER: usize = 1 << 16;
+
+/// After how long the devices are looked at again, in centiseconds, if all can be used.
+const LOOK_AGAIN: u64 = 1000;
+
+/// The same if one can't be used.
+const LOOK_SOON: u64 = 100;
+
+/// The most octets of the input that wait to be taken. Those that come after are lost.
+const MAX_HEARD: usize = 4096;
 
 /// The sockets of a speaker, its clock, which begins at 0, and the input whose end stops it.
 #[derive(Drop)]
 pub(crate) struct LinkWire<'a, R: Clock, I: Read + AsRawFd> {
-    clock: &'a R,
+    system: &'a R,
     input: &'a mut I,
     start: Instant,
     /// The moment that was returned last.
     moment: u64,
     port: u16,
-    links: Vec<Link>,
+    /// The sockets of each device, unless it can't be used now.
+    links: Vec<Option<Sockets>>,
     poll: Poll,
     events: Events<Global>,
     /// The number of the link that is asked first.
@@ -61,32 +57,40 @@ pub(crate) struct LinkWire<'a, R: Clock, I: Read + AsRawFd> {
     /// How long `recv` waits.
     wait: Duration,
     has_ended: bool,
+    /// What came over the input.
+    heard: Vec<u8>,
+    /// Whether a socket failed since the devices were looked at.
+    is_disturbed: bool,
+    /// When the devices are looked at again.
+    next_look: u64,
+    /// A bit for each of the other sources that was ready.
+    others: u64,
     pub(crate) faults: u64,
 }
 
 impl<'a, R: AllocGlobal + Clock + Net, I: Read + AsRawFd> LinkWire<'a, R, I> {
-    /// Opens the sockets of each device.
+    /// A wire of so many devices, none of which has sockets yet.
     ///
     /// # Errors
     ///
-    /// W2 if the sockets of a device can't be made, L8.
-    pub(crate) fn open(
+    /// W6, L8.
+    pub(crate) fn new(
         rt: &'a R,
         input: &'a mut I,
         port: u16,
-        devices: &[Device],
+        count: usize,
     ) -> Result<LinkWire<'a, R, I>, RunFault>
         ensures { IfOk result (λ wire. wire.faults ≡ 0) }
     {
         let alloc = rt.alloc();
         let start = Instant::now(rt).map_err(|_| RunFault::System)?;
         let poll = Poll::new(rt).map_err(|_| RunFault::System)?;
-        let links = open_links(alloc, rt, &poll, port, devices)?;
+        let links = no_links(alloc, count)?;
         let events = Events::with_capacity(alloc, MAX_EVENTS)?;
         // A file and /dev/null can't be waited for, and have no end that comes later.
         let _ = watch(&poll, input.as_raw_fd(), INPUT);
         Ok(LinkWire {
-            clock: rt,
+            system: rt,
             input,
             start,
             moment: 0,
@@ -98,120 +102,21 @@ impl<'a, R: AllocGlobal + Clock + Net, I: Read + AsRawFd> LinkWire<'a, R, I> {
             taken: 0,
             wait: Duration::from_millis(0),
             has_ended: false,
+            heard: Vec::new(alloc),
+            is_disturbed: false,
+            next_look: LOOK_AGAIN,
+            others: 0,
             faults: 0,
         })
     }
 }
 
-/// Opens the sockets of each device.
-fn open_links<R: Net>(
-    alloc: Global,
-    rt: &R,
-    poll: &Poll,
-    port: u16,
-    devices: &[Device],
-) -> Result<Vec<Link>, RunFault> {
+fn no_links(alloc: Global, count: usize) -> Result<Vec<Option<Sockets>>, AllocError> {
     let mut links = Vec::new(alloc);
-    for (number, device) in devices.iter().enumerate() {
-        let link = Link::open(rt, poll, port, number, device).map_err(|_| RunFault::Device(
-            number,
-            DeviceFault::Socket,
-        ))?;
-        links.push(link).map_err(AllocError::from)?;
+    for _ in 0..count {
+        links.push(None)?;
     }
     Ok(links)
-}
-
-fn watch(poll: &Poll, fd: RawFd, token: usize) -> io::Result<()> {
-    poll.registry()
-        .register(&mut SourceFd(&fd), Token(token), Interest::READABLE)
-}
-
-impl Link {
-    fn open<R: Net>(
-        rt: &R,
-        poll: &Poll,
-        port: u16,
-        number: usize,
-        device: &Device,
-    ) -> io::Result<Link> {
-        let Device { scope, address } = *device;
-        let own = bind(rt, Ipv6Addr::from_octets(address), port, scope)?;
-        let group = bind(rt, Ipv6Addr::from_segments(GROUP), port, scope)?;
-        let token = number.saturating_mul(2);
-        watch(poll, own.as_raw_fd(), token)?;
-        watch(poll, group.as_raw_fd(), token.saturating_add(1))?;
-        Ok(Link {
-            scope,
-            own,
-            group,
-            own_is_ready: true,
-            group_is_ready: true,
-        })
-    }
-
-    /// Whether a datagram may wait at one of the sockets.
-    fn is_ready(&self) -> bool {
-        self.own_is_ready || self.group_is_ready
-    }
-
-    /// Takes a datagram from one of the sockets.
-    fn take(&mut self, port: u16, buf: &mut [u8]) -> io::Result<Option<(Addr, usize)>>
-        ensures { IfOk result (λ came. IfSome came (λ it. it.1 ≤ length buf.new)) }
-    {
-        if self.own_is_ready {
-            let came = take_from(&self.own, &mut self.own_is_ready, port, buf)?;
-            if came.is_some() {
-                return Ok(came);
-            }
-        }
-        if self.group_is_ready {
-            return take_from(&self.group, &mut self.group_is_ready, port, buf);
-        }
-        Ok(None)
-    }
-
-    fn send(&self, port: u16, to: Ipv6Addr, octets: &[u8]) -> bool {
-        let to = SocketAddrV6::new(to, port, 0, self.scope);
-        match self.own.send_to(octets, to) {
-            Ok(len) => len == octets.len(),
-            Err(_) => false,
-        }
-    }
-}
-
-/// A socket that doesn't wait, and doesn't hear what this machine sends to the group.
-fn bind<R: Net>(rt: &R, address: Ipv6Addr, port: u16, scope: u32) -> io::Result<UdpSocket> {
-    let socket = UdpSocket::bind(rt, SocketAddrV6::new(address, port, 0, scope))?;
-    socket.set_nonblocking(true)?;
-    socket.set_multicast_loop_v6(false)?;
-    Ok(socket)
-}
-
-/// Takes a datagram that waits at the socket. One from another port is dropped (RFC 8966, section 4).
-fn take_from(
-    socket: &UdpSocket,
-    is_ready: &mut bool,
-    port: u16,
-    buf: &mut [u8],
-) -> io::Result<Option<(Addr, usize)>>
-    ensures { IfOk result (λ came. IfSome came (λ it. it.1 ≤ length buf.new)) }
-{
-    match socket.recv_from(buf) {
-        Ok((len, SocketAddr::V6(from))) if from.port() == port => {
-            Ok(Some((Addr::V6(from.ip().octets()), len)))
-        }
-        Ok(_) => Ok(None),
-        Err(error) if error.kind() == io::ErrorKind::Interrupted => Ok(None),
-        Err(error) => {
-            // Nothing waits, or the device has failed: its next event is waited for.
-            *is_ready = false;
-            match error.kind() {
-                io::ErrorKind::WouldBlock => Ok(None),
-                _ => Err(error),
-            }
-        }
-    }
 }
 
 /// Whole centiseconds.
@@ -220,32 +125,106 @@ fn centiseconds(time: Duration) -> u64 {
     time.as_secs().saturating_mul(100).saturating_add(rest)
 }
 
-impl<R: Clock, I: Read + AsRawFd> LinkWire<'_, R, I> {
+impl<R: Clock + Net, I: Read + AsRawFd> LinkWire<'_, R, I> {
+    /// Opens the sockets of a device, in place of those that it had.
+    pub(crate) fn open_link(&mut self, number: usize, device: Device) -> io::Result<()>
+        ensures { self.new.faults ≡ self.old.faults }
+    {
+        self.close_link(number);
+        let token = number.saturating_mul(2);
+        let sockets = Sockets::open(self.system, &self.poll, self.port, token, device)?;
+        if let Some(link) = self.links.get_mut(number) {
+            *link = Some(sockets);
+        }
+        Ok(())
+    }
+}
+
+impl<'a, R: Clock, I: Read + AsRawFd> LinkWire<'a, R, I> {
+    /// The system, with its clock and its sockets.
+    pub(crate) fn system(&self) -> &'a R {
+        self.system
+    }
+
     /// Whether the input has ended.
     pub(crate) fn has_ended(&self) -> bool {
         self.has_ended
     }
 
-    /// The next turn waits for a datagram until this moment, and a second at most.
+    /// Closes the sockets of a device.
+    pub(crate) fn close_link(&mut self, number: usize)
+        ensures { self.new.faults ≡ self.old.faults }
+    {
+        if let Some(link) = self.links.get_mut(number) {
+            *link = None;
+        }
+    }
+
+    /// Where other sources are registered, with tokens from `FIRST_OTHER` on. A turn ends its wait if one is ready.
+    pub(crate) fn registry(&self) -> &Registry {
+        self.poll.registry()
+    }
+
+    /// The other sources that were ready since this was asked last: bit `n` is that of the token `FIRST_OTHER + n`.
+    pub(crate) fn take_ready(&mut self) -> u64
+        ensures { self.new.faults ≡ self.old.faults }
+    {
+        let others = self.others;
+        self.others = 0;
+        others
+    }
+
+    /// Whether the devices have to be looked at: the input reports one, a socket failed, or it is time.
+    pub(crate) fn has_to_look(&self) -> bool {
+        self.is_disturbed || !self.heard.is_empty() || self.moment >= self.next_look
+    }
+
+    /// What came over the input.
+    pub(crate) fn heard(&self) -> &[u8] {
+        &self.heard
+    }
+
+    /// The devices were looked at, and the whole lines of the input were taken.
+    pub(crate) fn note_look(&mut self)
+        ensures { self.new.faults ≡ self.old.faults }
+    {
+        self.is_disturbed = false;
+        // A line that isn't whole yet is lost. The launcher writes each by one call, so there is none.
+        self.heard.clear();
+        let pause = if self.links.iter().all(|link| link.is_some()) {
+            LOOK_AGAIN
+        } else {
+            LOOK_SOON
+        };
+        self.next_look = self.moment.saturating_add(pause);
+    }
+
+    /// The next turn waits for a datagram until this moment, or until the devices are looked at.
     pub(crate) fn wait_until(&mut self, moment: u64)
         ensures { self.new.faults ≡ self.old.faults }
     {
-        let due = Duration::from_millis(moment.saturating_mul(10));
-        let passed = match self.start.elapsed(self.clock) {
+        let due = Duration::from_millis(moment.min(self.next_look).saturating_mul(10));
+        let passed = match self.start.elapsed(self.system) {
             Ok(passed) => passed,
             // A clock that fails must not make the speaker late.
             Err(_) => due,
         };
-        self.wait = due
-            .saturating_sub(passed)
-            .min(Duration::from_secs(MAX_WAIT));
+        self.wait = due.saturating_sub(passed);
+    }
+
+    /// Whether a datagram may wait at a socket.
+    fn is_ready(&self) -> bool {
+        self.links.iter().any(|link| match link {
+            Some(sockets) => sockets.is_ready(),
+            None => false,
+        })
     }
 
     /// Looks which sources are ready, and waits for one if none is.
     fn look(&mut self) -> io::Result<()>
         ensures faults { self.new.faults ≡ self.old.faults }
     {
-        let wait = if self.links.iter().any(|link| link.is_ready()) {
+        let wait = if self.is_ready() {
             Duration::from_millis(0)
         } else {
             self.wait
@@ -259,13 +238,12 @@ impl<R: Clock, I: Read + AsRawFd> LinkWire<'_, R, I> {
         for event in self.events.iter() {
             let Token(token) = event.token();
             if token == INPUT {
-                self.has_ended = self.has_ended || has_ended(&self.poll, self.input);
-            } else if let Some(link) = self.links.get_mut(token / 2) {
-                if token % 2 == 0 {
-                    link.own_is_ready = true;
-                } else {
-                    link.group_is_ready = true;
-                }
+                let has_ended = take_input(&self.poll, self.input, &mut self.heard);
+                self.has_ended = self.has_ended || has_ended;
+            } else if token >= FIRST_OTHER {
+                self.others |= bit_of(token);
+            } else {
+                note_ready(&mut self.links, token);
             }
         }
         Ok(())
@@ -286,12 +264,45 @@ impl<R: Clock, I: Read + AsRawFd> LinkWire<'_, R, I> {
         self.look()?;
         take(&mut self.links, &mut self.first, self.port, buf)
     }
+
+    /// Sends a datagram over a device.
+    fn send_over(&self, target: &Target, octets: &[u8]) -> bool {
+        let to = match target.to {
+            None => Some(group_address()),
+            Some(Addr::V6(address)) => Some(Ipv6Addr::from_octets(address)),
+            Some(Addr::V4(_)) => None,
+        };
+        match (self.links.get(usize::from(target.iface)), to) {
+            (Some(Some(sockets)), Some(to)) => sockets.send(self.port, to, octets),
+            _ => false,
+        }
+    }
+}
+
+/// The bit of one of the other sources.
+fn bit_of(token: usize) -> u64 {
+    match token.saturating_sub(FIRST_OTHER) {
+        number @ 0..64 => 1 << number,
+        _ => 0,
+    }
+}
+
+/// A socket is ready.
+fn note_ready(links: &mut [Option<Sockets>], token: usize) {
+    let half = if token % 2 == 0 {
+        Half::Own
+    } else {
+        Half::Group
+    };
+    if let Some(Some(sockets)) = links.get_mut(token / 2) {
+        sockets.note_ready(half);
+    }
 }
 
 /// Takes a datagram that waits at a socket of one of the links. The one after the link that it came over is asked first
 /// the next time.
 fn take(
-    links: &mut [Link],
+    links: &mut [Option<Sockets>],
     first: &mut usize,
     port: u16,
     buf: &mut [u8],
@@ -301,10 +312,10 @@ fn take(
     let count = links.len();
     for step in 0..count {
         let number = first.saturating_add(step) % count;
-        let Some(link) = links.get_mut(number) else {
+        let Some(Some(sockets)) = links.get_mut(number) else {
             continue;
         };
-        if let Some((source, len)) = link.take(port, buf)? {
+        if let Some((source, len)) = sockets.take(port, buf)? {
             *first = number.saturating_add(1) % count;
             let iface = u8::try_from(number).unwrap_or(u8::MAX);
             return Ok(Some(Arrival { iface, source, len }));
@@ -313,12 +324,18 @@ fn take(
     Ok(None)
 }
 
-/// Whether the input has ended. What comes over it before is passed over.
-fn has_ended<I: Read + AsRawFd>(poll: &Poll, input: &mut I) -> bool {
+/// Takes what came over the input, and returns whether that has ended.
+fn take_input<I: Read + AsRawFd>(poll: &Poll, input: &mut I, heard: &mut Vec<u8>) -> bool {
     let mut room = [0u8; 512];
     let has_ended = match input.read(&mut room) {
         Ok(0) => true,
-        Ok(_) => false,
+        Ok(count) => {
+            if let (Some(octets), true) = (room.get(..count), heard.len() < MAX_HEARD) {
+                // Without memory the devices are looked at later.
+                let _ = heard.extend_from_slice(octets);
+            }
+            false
+        }
         Err(error) => error.kind() != io::ErrorKind::Interrupted,
     };
     let fd = input.as_raw_fd();
@@ -333,7 +350,7 @@ impl<R: Clock, I: Read + AsRawFd> Wire for LinkWire<'_, R, I> {
     ghost fault_count = { λ w. w.faults };
 
     fn now(&mut self) -> u64 {
-        if let Ok(elapsed) = self.start.elapsed(self.clock) {
+        if let Ok(elapsed) = self.start.elapsed(self.system) {
             self.moment = centiseconds(elapsed);
         }
         self.moment
@@ -344,26 +361,19 @@ impl<R: Clock, I: Read + AsRawFd> Wire for LinkWire<'_, R, I> {
         match self.take_or_wait(buf) {
             Ok(came) => Ok(came),
             Err(_) => {
+                self.is_disturbed = true;
                 self.faults += 1;
                 Err(WireFault)
             }
         }
     }
 
-    /// Sends to the group, or to one neighbour.
+    /// Sends to the group, or to one neighbour. Over a device that can't be used now nothing is sent.
     fn send(&mut self, target: &Target, octets: &[u8]) -> Result<(), WireFault> {
-        let to = match target.to {
-            None => Some(Ipv6Addr::from_segments(GROUP)),
-            Some(Addr::V6(address)) => Some(Ipv6Addr::from_octets(address)),
-            Some(Addr::V4(_)) => None,
-        };
-        let sent = match (self.links.get(usize::from(target.iface)), to) {
-            (Some(link), Some(to)) => link.send(self.port, to, octets),
-            _ => false,
-        };
-        if sent {
+        if self.send_over(target, octets) {
             return Ok(());
         }
+        self.is_disturbed = true;
         self.faults += 1;
         Err(WireFault)
     }

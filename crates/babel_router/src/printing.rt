@@ -1,12 +1,37 @@
 //! What `run` prints: changes of selected routes, commands for `ip`, keeps that fail, and what was counted.
 
+use crate::DeviceFault;
 use crate::running::{Printed, RunOptions};
 use babel_durable::{DurableReport, Observer};
 use babel_speaker::Speaker;
 use babel_text::LineFault;
 use babel_udp::{Counts, LastKeep, RouteLines, Selections};
 use std::alloc::{AllocError, Global};
+use std::fmt;
 use std::io::Write;
+
+/// What became of a device.
+#[derive(Clone, Copy, Debug, PartialEq, Eq)]
+pub(crate) enum Note {
+    /// It can't be used any more.
+    Lost(DeviceFault),
+    /// Its sockets were opened again.
+    Opened,
+    /// One of its addresses is another one.
+    Moved,
+}
+
+impl fmt::Display for Note {
+    fn fmt<W: fmt::Write>(&self, f: &mut fmt::Formatter<W>) -> fmt::Result {
+        match *self {
+            Note::Lost(fault) => write!(f, "{fault}"),
+            Note::Opened => f.write_str("is used again"),
+            Note::Moved => f.write_str(
+                "has another address: the speaker starts again from its snapshot",
+            ),
+        }
+    }
+}
 
 /// What was printed of the routes, and to where the rest is.
 #[derive(Drop)]
@@ -59,6 +84,19 @@ impl<'s, 'a, W: Write, E: Write> Printer<'s, 'a, W, E> {
         }
     }
 
+    /// The kernel may have lost the routes over the device of this number: they are given to it again.
+    pub(crate) fn forget(&mut self, number: usize) {
+        if let (Some(commands), Ok(iface)) = (&mut self.commands, u8::try_from(number)) {
+            commands.forget(iface);
+        }
+    }
+
+    /// Says what became of a device.
+    pub(crate) fn note(&mut self, name: &str, note: Note) {
+        // Who can't read it sees it in the neighbours.
+        let _ = writeln!(self.err, "babel: device {name} {note}");
+    }
+
     /// Whether writing has failed.
     pub(crate) fn has_failed(&self) -> bool {
         self.written.is_err()
@@ -92,7 +130,7 @@ impl<'s, 'a, W: Write, E: Write> Printer<'s, 'a, W, E> {
         if self.commands.is_none() {
             return write_table(&self.routes, self.out);
         }
-        flush_routes(self.out)?;
+        remove_routes(&self.commands, self.out)?;
         write_table(&self.routes, self.err)
     }
 
@@ -148,9 +186,21 @@ fn write_changes<W: Write>(
     Ok(())
 }
 
-/// Takes all routes of Babel away from the kernel.
+/// Takes all routes of Babel away from the kernel. The first line is for IPv4 alone, in each table the second is for both
+/// families.
 fn flush_routes<W: Write>(out: &mut W) -> Result<(), LineFault> {
     writeln!(out, "route flush proto babel").map_err(LineFault::of_writing)?;
-    writeln!(out, "-6 route flush proto babel").map_err(LineFault::of_writing)?;
+    writeln!(out, "route flush table all proto babel").map_err(LineFault::of_writing)?;
+    out.flush().map_err(LineFault::of_writing)
+}
+
+/// Takes the own routes away from the kernel.
+fn remove_routes<W: Write>(
+    commands: &Option<Selections<'_>>,
+    out: &mut W,
+) -> Result<(), LineFault> {
+    if let Some(commands) = commands {
+        commands.write_removals(out)?;
+    }
     out.flush().map_err(LineFault::of_writing)
 }

@@ -1,18 +1,17 @@
 //! `babel run DEVICE..`: a speaker on real links.
 
-ghost use Rattle.std.specs.Prelude.{◌≡◌};
-
-use crate::devices::{Device, Lists};
+use crate::devices::Lists;
 use crate::links::LinkWire;
 use crate::printing::Printer;
 use crate::settings::{DeviceSettings, Settings, config_of};
+use crate::tracking::Tracked;
+use crate::turns::Router;
 use crate::{DeviceFault, RunFault};
-use babel_durable::{DurableDriver, DurableReport, drive_durable};
-use babel_snapshot_file::{Kept, LockFile, SnapshotFileFault, SnapshotStore};
+use babel_durable::DurableDriver;
+use babel_snapshot_file::{Kept, LockFile, SnapshotStore};
 use babel_speaker::Speaker;
 use babel_state::Config;
-use babel_udp::{Counts, KeptWire, open_kept};
-use babel_wire::Wire;
+use babel_udp::{KeptWire, open_kept};
 use std::alloc::{AllocError, Global};
 use std::fs::Files;
 use std::io::{Read, Write};
@@ -25,9 +24,6 @@ const MAX_DATAGRAM_LEN: usize = 65535;
 
 /// How long a device may keep a tentative address, in tenths of a second.
 const MAX_TENTATIVE: u32 = 50;
-
-/// How many calls of the wire may fail: far more than in any run.
-const MAX_FAULTS: u64 = 1 << 62;
 
 /// Whether something is printed.
 #[derive(Clone, Copy, Debug, PartialEq, Eq)]
@@ -67,7 +63,7 @@ pub struct RunOptions<'a> {
 /// # Errors
 ///
 /// W6, W3, W4 or W5 for the first device that can't be used, C1 to C7, K10, K8, K9, K1 to K7, and W2, before anything
-/// is sent. Then K9, L7 and L8.
+/// is sent. Then K9, L7 and L8, and C1 to C7 if a device gets another address.
 pub fn run<R: AllocGlobal + Net + Clock + Files, I: Read + AsRawFd, W: Write, E: Write>(
     rt: &R,
     options: RunOptions<'_>,
@@ -78,67 +74,75 @@ pub fn run<R: AllocGlobal + Net + Clock + Files, I: Read + AsRawFd, W: Write, E:
 where
     R::File: LockFile,
 {
-    let devices = find_devices(rt.alloc(), rt, options.devices)?;
-    let plan = Plan {
-        options,
-        devices: &devices,
-    };
-    run_on(rt, plan, input, out, err)
+    let mut devices = find_devices(rt.alloc(), rt, options.devices)?;
+    let mut options = options;
+    // It stays if the device's address changes later.
+    options.settings.router_id = Some(options.settings.router_id_on(&devices));
+    let outputs = Outputs { out, err };
+    run_on(rt, options, &mut devices, input, outputs)
 }
 
-/// What a run was asked for, and the devices as they are.
-#[derive(Clone, Copy, Debug)]
-struct Plan<'a> {
-    options: RunOptions<'a>,
-    devices: &'a [Device],
+/// The standard output, and the standard error.
+#[derive(Drop)]
+struct Outputs<'s, W: Write, E: Write> {
+    out: &'s mut W,
+    err: &'s mut E,
+}
+
+/// The speaker of a run, and its devices.
+#[derive(Drop)]
+struct Started<'d, 'a> {
+    speaker: &'d mut Speaker,
+    devices: &'d mut [Tracked<'a>],
 }
 
 // In each of these functions at most one value has to be given back if the next step fails.
 
 /// Makes or restores the speaker, and runs it.
-fn run_on<R: AllocGlobal + Net + Clock + Files, I: Read + AsRawFd, W: Write, E: Write>(
+fn run_on<'a, R: AllocGlobal + Net + Clock + Files, I: Read + AsRawFd, W: Write, E: Write>(
     rt: &R,
-    plan: Plan<'_>,
+    options: RunOptions<'a>,
+    devices: &mut [Tracked<'a>],
     input: &mut I,
-    out: &mut W,
-    err: &mut E,
+    outputs: Outputs<'_, W, E>,
 ) -> Result<(), RunFault>
 where
     R::File: LockFile,
 {
-    let (store, mut speaker) = start(rt, plan)?;
-    let wire = LinkWire::open(rt, input, plan.options.port, plan.devices);
-    match wire {
+    let (store, mut speaker) = start(rt, options, devices)?;
+    match LinkWire::new(rt, input, options.port, devices.len()) {
         Ok(wire) => {
             let mut wire = KeptWire { wire, store };
-            print_run(rt.alloc(), plan, &mut speaker, &mut wire, out, err)
+            let speaker = &mut speaker;
+            let started = Started { speaker, devices };
+            open_and_run(rt.alloc(), options, started, &mut wire, outputs)
         }
         Err(fault) => Err(fault),
     }
 }
 
-fn print_run<'r, R: Net + Clock + Files, I: Read + AsRawFd, W: Write, E: Write>(
+fn open_and_run<'a, 'r, R: Net + Clock + Files, I: Read + AsRawFd, W: Write, E: Write>(
     alloc: Global,
-    plan: Plan<'_>,
-    speaker: &mut Speaker,
+    options: RunOptions<'a>,
+    started: Started<'_, 'a>,
     wire: &mut KeptWire<'r, LinkWire<'r, R, I>, R>,
-    out: &mut W,
-    err: &mut E,
+    outputs: Outputs<'_, W, E>,
 ) -> Result<(), RunFault>
 where
     R::File: LockFile,
 {
-    let names = names_of(alloc, plan.options.devices)?;
-    match Printer::new(alloc, plan.options, &names, out, err) {
-        Ok(mut printer) => run_printed(alloc, plan.options.turns, speaker, wire, &mut printer),
+    open_links(&mut wire.wire, started.devices)?;
+    let names = names_of(alloc, options.devices)?;
+    match Printer::new(alloc, options, &names, outputs.out, outputs.err) {
+        Ok(mut printer) => run_printed(alloc, options, started, wire, &mut printer),
         Err(error) => Err(RunFault::from(error)),
     }
 }
 
-fn run_printed<'r, R: Net + Clock + Files, I: Read + AsRawFd, W: Write, E: Write>(
+fn run_printed<'a, 'r, R: Net + Clock + Files, I: Read + AsRawFd, W: Write, E: Write>(
     alloc: Global,
-    turns: u64,
-    speaker: &mut Speaker,
+    options: RunOptions<'a>,
+    started: Started<'_, 'a>,
     wire: &mut KeptWire<'r, LinkWire<'r, R, I>, R>,
     printer: &mut Printer<'_, '_, W, E>,
 ) -> Result<(), RunFault>
@@ -146,77 +150,45 @@ where
     R::File: LockFile,
 {
     let mut driver = DurableDriver::new(alloc, MAX_DATAGRAM_LEN)?;
-    take_turns(turns, speaker, wire, printer, &mut driver)
+    let mut router = Router {
+        alloc,
+        settings: options.settings,
+        speaker: started.speaker,
+        driver: &mut driver,
+        devices: started.devices,
+    };
+    router.take_turns(options.turns, wire, printer)
 }
 
-/// Takes the turns, and prints what changed and what was counted.
-fn take_turns<'r, R: Net + Clock + Files, I: Read + AsRawFd, W: Write, E: Write>(
-    turns: u64,
-    speaker: &mut Speaker,
-    wire: &mut KeptWire<'r, LinkWire<'r, R, I>, R>,
-    printer: &mut Printer<'_, '_, W, E>,
-    driver: &mut DurableDriver,
-) -> Result<(), RunFault>
-where
-    R::File: LockFile,
-{
-    let mut counts = Counts::default();
-    printer.begin()?;
-    for _ in 0..turns {
-        if wire.wire.has_ended() || printer.has_failed() {
-            break;
+/// Opens the sockets of each device.
+fn open_links<R: Clock + Net, I: Read + AsRawFd>(
+    wire: &mut LinkWire<'_, R, I>,
+    devices: &[Tracked<'_>],
+) -> Result<(), RunFault> {
+    for (number, tracked) in devices.iter().enumerate() {
+        if let Some(device) = tracked.device() {
+            wire.open_link(number, device)
+                .map_err(|_| RunFault::Device(number, DeviceFault::Socket))?;
         }
-        let Some(turn) = take_turn(speaker, wire, printer, driver) else {
-            break;
-        };
-        if turn.failed_keeps > 0 && counts.turns == 0 {
-            return Err(RunFault::SnapshotFile(SnapshotFileFault::Unwritable));
-        }
-        counts.add(turn);
-        printer.note_keeping(turn);
     }
-    // The kernel's routes are taken away also if a change couldn't be written.
-    printer.end()?;
-    printer.write_counts(counts)?;
     Ok(())
-}
-
-/// Takes a turn. `None`: the wire has failed too often.
-fn take_turn<'r, R: Net + Clock + Files, I: Read + AsRawFd, W: Write, E: Write>(
-    speaker: &mut Speaker,
-    wire: &mut KeptWire<'r, LinkWire<'r, R, I>, R>,
-    printer: &mut Printer<'_, '_, W, E>,
-    driver: &mut DurableDriver,
-) -> Option<DurableReport>
-where
-    R::File: LockFile,
-{
-    wire.wire.wait_until(speaker.next_due());
-    if wire.faults() > MAX_FAULTS {
-        return None;
-    }
-    Some(drive_durable(speaker, driver, wire, printer, 1))
 }
 
 /// The speaker, and the file that it is kept in. If that is there, the speaker is restored from it.
 fn start<'a, R: AllocGlobal + Files>(
     rt: &'a R,
-    plan: Plan<'a>,
+    options: RunOptions<'a>,
+    devices: &[Tracked<'_>],
 ) -> Result<(Option<SnapshotStore<'a, R>>, Speaker), RunFault>
 where
     R::File: LockFile,
 {
     let alloc = rt.alloc();
-    let config = config_of(
-        alloc,
-        plan.options.settings,
-        plan.options.devices,
-        plan.devices,
-    )?;
+    let config = config_of(alloc, options.settings, devices)?;
     if let Err(fault) = config.check() {
         return Err(RunFault::Config(fault));
     }
-    match plan.options.keep {
+    match options.keep {
         Some(keep) => start_kept(alloc, rt, config, keep),
         None => match Speaker::new(alloc, config) {
             Ok(speaker) => Ok((None, speaker)),
@@ -249,11 +221,11 @@ fn names_of<'a>(alloc: Global, devices: &[DeviceSettings<'a>]) -> Result<Vec<&'a
 }
 
 /// The devices of these names. A tentative address is waited for.
-fn find_devices<R: Clock + Files>(
+fn find_devices<'a, R: Clock + Files>(
     alloc: Global,
     rt: &R,
-    named: &[DeviceSettings<'_>],
-) -> Result<Vec<Device>, RunFault> {
+    named: &[DeviceSettings<'a>],
+) -> Result<Vec<Tracked<'a>>, RunFault> {
     for _ in 0..MAX_TENTATIVE {
         match devices_now(alloc, rt, named) {
             Err(RunFault::Device(_, DeviceFault::Tentative)) => {
@@ -265,18 +237,28 @@ fn find_devices<R: Clock + Files>(
     devices_now(alloc, rt, named)
 }
 
-fn devices_now<R: Files>(
+fn devices_now<'a, R: Files>(
     alloc: Global,
     rt: &R,
-    named: &[DeviceSettings<'_>],
-) -> Result<Vec<Device>, RunFault> {
+    named: &[DeviceSettings<'a>],
+) -> Result<Vec<Tracked<'a>>, RunFault> {
     let lists = Lists::read(alloc, rt).map_err(|_| RunFault::System)?;
+    listed(alloc, &lists, named)
+}
+
+fn listed<'a>(
+    alloc: Global,
+    lists: &Lists,
+    named: &[DeviceSettings<'a>],
+) -> Result<Vec<Tracked<'a>>, RunFault> {
     let mut devices = Vec::new(alloc);
     for (number, settings) in named.iter().enumerate() {
-        let device = lists
-            .device(settings.name)
-            .map_err(|fault| RunFault::Device(number, fault))?;
-        devices.push(device).map_err(AllocError::from)?;
+        match lists.device(settings.name, None) {
+            Ok(device) => devices
+                .push(Tracked::of(*settings, device))
+                .map_err(AllocError::from)?,
+            Err(fault) => return Err(RunFault::Device(number, fault)),
+        }
     }
     Ok(devices)
 }

@@ -1,6 +1,6 @@
 //! The configuration of a speaker on real links.
 
-use crate::devices::Device;
+use crate::tracking::Tracked;
 use babel_state::{Config, Interface};
 use babel_value::{Family, Prefix};
 use std::alloc::{AllocError, Global};
@@ -12,6 +12,12 @@ pub struct DeviceSettings<'a> {
     pub name: &'a str,
     /// Its IPv4 address, and the length of its network's prefix: the next hop of IPv4 prefixes.
     pub ipv4: Option<([u8; 4], u8)>,
+    /// Whether that stays, whatever the launcher reports later.
+    pub is_ipv4_fixed: bool,
+    /// The nominal cost of receiving over it, 1 to 65534 (RFC 8966, appendix A.2.1).
+    pub cost: u16,
+    /// The interval between two Hellos, 1 to 4000 centiseconds (RFC 8966, section 3.4.1).
+    pub hello: u16,
 }
 
 /// What is the same for all devices.
@@ -21,10 +27,20 @@ pub struct Settings<'a> {
     pub router_id: Option<[u8; 8]>,
     /// The prefixes that the speaker announces.
     pub prefixes: &'a [Prefix],
-    /// The nominal cost of receiving over a device, 1 to 65534 (RFC 8966, appendix A.2.1).
-    pub cost: u16,
-    /// The interval between two Hellos, 1 to 4000 centiseconds (RFC 8966, section 3.4.1).
-    pub hello: u16,
+    /// Whether sources are forgotten after some time. Loop freedom wants that they aren't.
+    pub collect: bool,
+}
+
+impl Settings<'_> {
+    /// The router-id of a speaker on these devices.
+    pub(crate) fn router_id_on(&self, devices: &[Tracked<'_>]) -> [u8; 8] {
+        match self.router_id {
+            Some(router_id) => router_id,
+            None => devices
+                .first()
+                .map_or([0; 8], |it| interface_id(it.address)),
+        }
+    }
 }
 
 /// The end of an IPv6 address: for most devices their EUI-64 (RFC 4291, section 2.5.1).
@@ -34,32 +50,31 @@ fn interface_id(address: [u8; 16]) -> [u8; 8] {
 }
 
 /// The speaker's configuration. Each device sends over IPv6 to all routers of its link, so it has no peers.
-/// Sources are not collected, as loop freedom wants.
 pub(crate) fn config_of(
     alloc: Global,
     settings: Settings<'_>,
-    named: &[DeviceSettings<'_>],
-    devices: &[Device],
+    devices: &[Tracked<'_>],
 ) -> Result<Config, AllocError> {
-    let first = devices
-        .first()
-        .map_or([0; 8], |it| interface_id(it.address));
     let mut interfaces = Vec::new(alloc);
-    for (name, device) in named.iter().zip(devices) {
-        interfaces.push(Interface {
-            transport: Family::Ipv6,
-            ipv4: name.ipv4,
-            ipv6: Some(device.address),
-            peers: Vec::new(alloc),
-            cost: settings.cost,
-            hello: settings.hello,
-        })?;
+    for device in devices {
+        interfaces.push(interface_of(alloc, device))?;
     }
     Ok(Config {
-        router_id: settings.router_id.unwrap_or(first),
+        router_id: settings.router_id_on(devices),
         seqno: 0,
-        collect: false,
+        collect: settings.collect,
         prefixes: settings.prefixes.to_vec(alloc)?,
         interfaces,
     })
+}
+
+fn interface_of(alloc: Global, device: &Tracked<'_>) -> Interface {
+    Interface {
+        transport: Family::Ipv6,
+        ipv4: device.settings.ipv4,
+        ipv6: Some(device.address),
+        peers: Vec::new(alloc),
+        cost: device.settings.cost,
+        hello: device.settings.hello,
+    }
 }

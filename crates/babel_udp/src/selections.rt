@@ -185,6 +185,31 @@ impl<'a> Selections<'a> {
         Ok(has_changed)
     }
 
+    /// Forgets what was printed of the routes over an interface, so that each is printed again.
+    pub fn forget(&mut self, iface: u8) {
+        for entry in self.printed.iter_mut() {
+            if entry.1.is_some_and(|route| route.peer.iface == iface) {
+                entry.1 = None;
+            }
+        }
+    }
+
+    /// Writes a line that takes each selected route away.
+    ///
+    /// # Errors
+    ///
+    /// L7 if writing fails.
+    pub fn write_removals<W: Write>(&self, out: &mut W) -> Result<(), LineFault> {
+        for (prefix, printed) in &self.printed {
+            if printed.is_some() {
+                self.lines
+                    .write_command(prefix, &None, out)
+                    .map_err(LineFault::of_writing)?;
+            }
+        }
+        Ok(())
+    }
+
     /// Writes the selected route of each prefix, for people.
     ///
     /// # Errors

@@ -1,0 +1,154 @@
+//! The devices of a run as they change, and what the launcher reports of them.
+
+use crate::DeviceFault;
+use crate::devices::{Device, Lists};
+use crate::settings::DeviceSettings;
+use babel_text::parse_network;
+use babel_value::Addr;
+
+/// An IPv4 address, and the length of its network's prefix.
+type Ipv4Network = ([u8; 4], u8);
+
+/// A device of the run.
+#[derive(Clone, Copy, Debug)]
+pub(crate) struct Tracked<'a> {
+    /// Its name, and what the speaker's configuration has for it.
+    pub(crate) settings: DeviceSettings<'a>,
+    /// The link-local address that the speaker's configuration has.
+    pub(crate) address: [u8; 16],
+    /// As it was seen last.
+    state: Result<Device, DeviceFault>,
+    /// Whether the launcher reported that it went down.
+    was_down: bool,
+    /// Whether its sockets could not be opened the last time.
+    has_failed: bool,
+    /// The IPv4 address that the launcher reported last.
+    ipv4: Option<Ipv4Network>,
+}
+
+/// What has to be done for a device that was looked at.
+#[derive(Clone, Copy, Debug, PartialEq, Eq)]
+pub(crate) enum Step {
+    /// Nothing: it is as it was.
+    Nothing,
+    /// It can't be used any more.
+    Close(DeviceFault),
+    /// It can be used, or it has to be opened again.
+    Open(Device),
+}
+
+/// What the launcher reports of a device.
+#[derive(Clone, Copy, Debug, PartialEq, Eq)]
+enum Change {
+    /// It went down, though it may be up again.
+    Down,
+    /// It has this IPv4 address, or none.
+    Up(Option<Ipv4Network>),
+}
+
+impl<'a> Tracked<'a> {
+    /// A device that can be used.
+    pub(crate) fn of(settings: DeviceSettings<'a>, device: Device) -> Tracked<'a> {
+        Tracked {
+            settings,
+            address: device.address,
+            state: Ok(device),
+            was_down: false,
+            has_failed: false,
+            ipv4: settings.ipv4,
+        }
+    }
+
+    /// The device, if it could be used when it was seen last.
+    pub(crate) fn device(&self) -> Option<Device> {
+        self.state.ok()
+    }
+
+    /// Looks at the device again.
+    pub(crate) fn look(&mut self, lists: &Lists) -> Step {
+        let seen = lists.device(self.settings.name, Some(self.address));
+        let step = match seen {
+            Err(fault) if self.state == Err(fault) => Step::Nothing,
+            Err(fault) => Step::Close(fault),
+            Ok(_) if self.state == seen && !self.was_down => Step::Nothing,
+            Ok(device) => Step::Open(device),
+        };
+        self.state = seen;
+        self.was_down = false;
+        step
+    }
+
+    /// Its sockets could not be opened; that is tried at the next look. Returns whether it is the first time.
+    pub(crate) fn fail(&mut self) -> bool {
+        let is_first = !self.has_failed;
+        self.state = Err(DeviceFault::Socket);
+        self.has_failed = true;
+        is_first
+    }
+
+    /// Its sockets are open.
+    pub(crate) fn note_opened(&mut self) {
+        self.has_failed = false;
+    }
+
+    /// Takes the addresses that it has now for the speaker's configuration. Returns whether one is another. Those of a device that
+    /// can't be used stay as they are.
+    pub(crate) fn take_addresses(&mut self) -> bool {
+        let Ok(device) = self.state else {
+            return false;
+        };
+        let ipv4 = if self.settings.is_ipv4_fixed {
+            self.settings.ipv4
+        } else {
+            self.ipv4
+        };
+        let is_other = device.address != self.address || ipv4 != self.settings.ipv4;
+        self.address = device.address;
+        self.settings.ipv4 = ipv4;
+        is_other
+    }
+
+    fn note(&mut self, change: Change) {
+        match change {
+            Change::Down => self.was_down = true,
+            Change::Up(ipv4) => self.ipv4 = ipv4,
+        }
+    }
+}
+
+/// Takes what the launcher reports: lines `NAME down`, `NAME up` and `NAME up ADDRESS/LENGTH`. Other lines are passed over.
+pub(crate) fn hear(devices: &mut [Tracked<'_>], heard: &[u8]) {
+    let Ok(text) = str::from_utf8(heard) else {
+        return;
+    };
+    for line in text.lines() {
+        if let Some((name, change)) = report_of(line) {
+            note_of(devices, name, change);
+        }
+    }
+}
+
+fn note_of(devices: &mut [Tracked<'_>], name: &str, change: Change) {
+    for device in devices.iter_mut() {
+        if device.settings.name == name {
+            device.note(change);
+        }
+    }
+}
+
+fn report_of(line: &str) -> Option<(&str, Change)> {
+    let mut words = line.split_ascii_whitespace();
+    let name = words.next()?;
+    match words.next()? {
+        "down" => Some((name, Change::Down)),
+        "up" => Some((name, Change::Up(network_of(words.next())))),
+        _ => None,
+    }
+}
+
+fn network_of(word: Option<&str>) -> Option<Ipv4Network> {
+    match parse_network(word?)? {
+        (Addr::V4(octets), length) => Some((octets, length)),
+        _ => None,
+    }
+}

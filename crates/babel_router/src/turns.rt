@@ -1,0 +1,195 @@
+//! The turns of a speaker on real links, and what becomes of its devices meanwhile.
+
+ghost use Rattle.std.specs.Prelude.{◌≡◌};
+
+use crate::devices::Lists;
+use crate::links::LinkWire;
+use crate::printing::{Note, Printer};
+use crate::settings::{Settings, config_of};
+use crate::tracking::{Step, Tracked, hear};
+use crate::{DeviceFault, RunFault};
+use babel_durable::{DurableDriver, DurableReport, Keeper, drive_durable};
+use babel_snapshot_file::{LockFile, SnapshotFileFault};
+use babel_speaker::Speaker;
+use babel_text::LineFault;
+use babel_udp::{Counts, KeptWire};
+use babel_wire::Wire;
+use std::alloc::Global;
+use std::fs::Files;
+use std::io::{Read, Write};
+use std::net::Net;
+use std::os::fd::AsRawFd;
+use std::time::Clock;
+
+/// How many calls of the wire may fail: far more than in any run.
+const MAX_FAULTS: u64 = 1 << 62;
+
+/// The snapshot can't be kept in the first turn.
+const UNKEPT: RunFault = RunFault::SnapshotFile(SnapshotFileFault::Unwritable);
+
+/// A speaker on real links, with its devices.
+#[derive(Drop)]
+pub(crate) struct Router<'d, 'a> {
+    pub(crate) alloc: Global,
+    pub(crate) settings: Settings<'a>,
+    pub(crate) speaker: &'d mut Speaker,
+    pub(crate) driver: &'d mut DurableDriver,
+    /// By the numbers of the interfaces.
+    pub(crate) devices: &'d mut [Tracked<'a>],
+}
+
+impl Router<'_, '_> {
+    /// Takes the turns, and prints what changed and what was counted.
+    pub(crate) fn take_turns<'r, R: Net + Clock + Files, I: Read + AsRawFd, W: Write, E: Write>(
+        &mut self,
+        turns: u64,
+        wire: &mut KeptWire<'r, LinkWire<'r, R, I>, R>,
+        printer: &mut Printer<'_, '_, W, E>,
+    ) -> Result<(), RunFault>
+    where
+        R::File: LockFile,
+    {
+        let mut counts = Counts::default();
+        printer.begin()?;
+        let ended = self.take_all(turns, wire, printer, &mut counts);
+        if counts.turns == 0 {
+            ended?;
+        }
+        // The kernel's routes are taken away also if a change couldn't be written.
+        printer.end()?;
+        printer.write_counts(counts)?;
+        ended
+    }
+
+    /// Takes the turns until the input ends.
+    fn take_all<'r, R: Net + Clock + Files, I: Read + AsRawFd, W: Write, E: Write>(
+        &mut self,
+        turns: u64,
+        wire: &mut KeptWire<'r, LinkWire<'r, R, I>, R>,
+        printer: &mut Printer<'_, '_, W, E>,
+        counts: &mut Counts,
+    ) -> Result<(), RunFault>
+    where
+        R::File: LockFile,
+    {
+        for _ in 0..turns {
+            if wire.wire.has_ended() || printer.has_failed() {
+                return Ok(());
+            }
+            if wire.wire.has_to_look() {
+                self.look_at_devices(wire, printer)?;
+            }
+            let Some(turn) = self.take_turn(wire, printer) else {
+                return Ok(());
+            };
+            if turn.failed_keeps > 0 && counts.turns == 0 {
+                return Err(UNKEPT);
+            }
+            counts.add(turn);
+            printer.note_keeping(turn);
+        }
+        Ok(())
+    }
+
+    /// Takes a turn. `None`: the wire has failed too often.
+    fn take_turn<'r, R: Net + Clock + Files, I: Read + AsRawFd, W: Write, E: Write>(
+        &mut self,
+        wire: &mut KeptWire<'r, LinkWire<'r, R, I>, R>,
+        printer: &mut Printer<'_, '_, W, E>,
+    ) -> Option<DurableReport>
+    where
+        R::File: LockFile,
+    {
+        wire.wire.wait_until(self.speaker.next_due());
+        if wire.faults() > MAX_FAULTS {
+            return None;
+        }
+        Some(drive_durable(self.speaker, self.driver, wire, printer, 1))
+    }
+
+    /// Opens and closes the sockets of devices that have changed. If an address is another one, the speaker starts again.
+    fn look_at_devices<'r, R: Net + Clock + Files, I: Read + AsRawFd, W: Write, E: Write>(
+        &mut self,
+        wire: &mut KeptWire<'r, LinkWire<'r, R, I>, R>,
+        printer: &mut Printer<'_, '_, W, E>,
+    ) -> Result<(), RunFault>
+    where
+        R::File: LockFile,
+    {
+        hear(self.devices, wire.wire.heard());
+        // If the system's lists can't be read now, they are at the next look.
+        if let Ok(lists) = Lists::read(self.alloc, wire.wire.system()) {
+            for (number, device) in self.devices.iter_mut().enumerate() {
+                let step = device.look(&lists);
+                take_step(number, device, step, &mut wire.wire, printer);
+            }
+        }
+        wire.wire.note_look();
+        if self.take_addresses(printer) {
+            return self.restart(wire.now());
+        }
+        Ok(())
+    }
+
+    /// Takes the addresses that the devices have now. Returns whether one is another.
+    fn take_addresses<W: Write, E: Write>(&mut self, printer: &mut Printer<'_, '_, W, E>) -> bool {
+        let mut is_other = false;
+        for device in self.devices.iter_mut() {
+            if device.take_addresses() {
+                printer.note(device.settings.name, Note::Moved);
+                is_other = true;
+            }
+        }
+        is_other
+    }
+
+    /// The speaker is made again, of its own snapshot and the addresses that the devices have now.
+    fn restart(&mut self, moment: u64) -> Result<(), RunFault> {
+        match self.speaker.save() {
+            Ok(octets) => self.restore(moment, &octets),
+            Err(_) => Err(RunFault::Output(LineFault::Memory)),
+        }
+    }
+
+    fn restore(&mut self, moment: u64, octets: &[u8]) -> Result<(), RunFault> {
+        let config = config_of(self.alloc, self.settings, self.devices)?;
+        match Speaker::restore(self.alloc, config, moment, octets) {
+            Ok(speaker) => {
+                *self.speaker = speaker;
+                // It counts its changes from the beginning.
+                self.driver.keeper = Keeper::new();
+                Ok(())
+            }
+            Err(fault) => Err(RunFault::Restore(fault)),
+        }
+    }
+}
+
+/// Opens or closes the sockets of a device.
+fn take_step<R: Clock + Net, I: Read + AsRawFd, W: Write, E: Write>(
+    number: usize,
+    device: &mut Tracked<'_>,
+    step: Step,
+    wire: &mut LinkWire<'_, R, I>,
+    printer: &mut Printer<'_, '_, W, E>,
+) {
+    match step {
+        Step::Nothing => {}
+        Step::Close(fault) => {
+            wire.close_link(number);
+            printer.note(device.settings.name, Note::Lost(fault));
+        }
+        Step::Open(opened) => match wire.open_link(number, opened) {
+            Ok(()) => {
+                device.note_opened();
+                printer.note(device.settings.name, Note::Opened);
+                printer.forget(number);
+            }
+            Err(_) => {
+                if device.fail() {
+                    printer.note(device.settings.name, Note::Lost(DeviceFault::Socket));
+                }
+            }
+        },
+    }
+}

@@ -1,0 +1,95 @@
+//! The sentence about a file that is refused.
+
+use babel_config::FileFault;
+use babel_file_details::{FileKind, FileText, Part, Position, Step, explain_file, position_at};
+use babel_line_details::Excerpt;
+use babel_router_file::{Cause, DEVICE, DEVICE_KEYS, FILE_KEYS, Kind, Problem, first_problem};
+use std::alloc::{AllocError, Global};
+use std::fmt;
+use std::io::{self, Write};
+
+/// Writes why the file is refused: F1 to F3, and F4. If the cause isn't found, the sentence is that of the code.
+pub fn explain_router_file<W: Write>(
+    alloc: Global,
+    file: FileText<'_>,
+    fault: FileFault,
+    out: &mut W,
+) -> io::Result<()> {
+    match toml::table_from_slice(alloc, file.octets) {
+        Ok(table) => match first_problem(&table) {
+            Some(problem) => write_problem(alloc, file, &problem, out),
+            None => writeln!(out, "{}: {fault}", file.name),
+        },
+        Err(_) => explain_file(alloc, file, FileKind::Config, fault, out),
+    }
+}
+
+fn write_problem<W: Write>(
+    alloc: Global,
+    file: FileText<'_>,
+    problem: &Problem<'_>,
+    out: &mut W,
+) -> io::Result<()> {
+    let name = file.name;
+    match position_of(alloc, file.octets, problem) {
+        Some(position) => writeln!(out, "{name}:{position}: {}", Sentence(problem)),
+        None => writeln!(out, "{name}: {}", Sentence(problem)),
+    }
+}
+
+fn position_of(alloc: Global, octets: &[u8], problem: &Problem<'_>) -> Option<Position> {
+    let part = match problem.cause {
+        Cause::UnknownKey => Part::Key,
+        _ => Part::Value,
+    };
+    match steps_of(alloc, problem) {
+        Ok(steps) => position_at(alloc, octets, &steps, part),
+        Err(_) => None,
+    }
+}
+
+/// The steps from the table of the file to the value.
+fn steps_of<'a>(alloc: Global, problem: &Problem<'a>) -> Result<Vec<Step<'a>>, AllocError> {
+    let mut steps = Vec::new(alloc);
+    if let Some(device) = problem.device {
+        steps.push(Step::Key(DEVICE))?;
+        steps.push(Step::Key(device))?;
+    } else if is_device(problem.cause) {
+        steps.push(Step::Key(DEVICE))?;
+    }
+    steps.push(Step::Key(problem.key))?;
+    if let Some(index) = problem.index {
+        steps.push(Step::Index(index))?;
+    }
+    Ok(steps)
+}
+
+/// Whether the key is the name of a device.
+fn is_device(cause: Cause<'_>) -> bool {
+    cause == Cause::WrongKind(Kind::Device)
+}
+
+/// A problem, as it is written.
+#[derive(Clone, Copy, Debug)]
+struct Sentence<'a>(&'a Problem<'a>);
+
+impl fmt::Display for Sentence<'_> {
+    fn fmt<W: fmt::Write>(&self, f: &mut fmt::Formatter<W>) -> fmt::Result {
+        let key = self.0.key;
+        match (self.0.cause, self.0.device) {
+            (Cause::UnknownKey, Some(device)) => write!(
+                f,
+                "unknown key '{key}' of device {device}; the keys are {DEVICE_KEYS}"
+            ),
+            (Cause::UnknownKey, None) => {
+                write!(
+                    f,
+                    "unknown key '{key}' in the file; the keys are {FILE_KEYS}"
+                )
+            }
+            (Cause::WrongKind(kind), _) => write!(f, "'{key}' must be {kind}"),
+            (Cause::OutOfRange(number, kind), _) => write!(f, "{key} = {number} is not {kind}"),
+            (Cause::BadText(text, kind), _) => write!(f, "{key} {} is not {kind}", Excerpt(text)),
+        }
+    }
+}
