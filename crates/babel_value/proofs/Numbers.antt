@@ -1,5 +1,5 @@
 -- Octets are in the order of the numbers that they spell, the highest octet first.
-use Rattle.std.proofs.Common.{◌≡◌, ℕ, zero, suc, ◌<◌, ◌≤◌, ◌+◌, ◌*◌, ◌^◌, List, [], ◌∷◌, length, take, drop, get_or, refl, sym, ap, ◌∙◌, arith, length-drop, w32, w64}
+use Rattle.std.proofs.Common.{◌≡◌, ℕ, zero, suc, ◌<◌, ◌≤◌, ◌+◌, ◌*◌, ◌^◌, Bool, true, false, nat_eq, List, [], ◌∷◌, length, take, drop, get_or, refl, sym, ap, ◌∙◌, arith, length-drop, w32, w64}
 use Rattle.std.proofs.lemmas.List.{take_all, get_or-drop}
 use Rattle.std.specs.declared.cmp.Ordering.{Ordering}
 use Rattle.std.specs.declared.cmp.Ordering.TheVariants.{Less, Equal, Greater}
@@ -7,6 +7,10 @@ use Rattle.std.specs.Ordering.{nat_cmp, ordering_then, MatchOrdering}
 use Rattle.std.specs.Cmp.{ranks, nat_cmp_is}
 use Rattle.std.specs.Slice.Scan.{big_endian}
 use Rattle.std.specs.Int.{from_be_bytes}
+use Rattle.std.specs.Str.{bytes_eq}
+use Rattle.std.proofs.lemmas.Bool.{eqb-true, eq-eqb}
+use Rattle.std.proofs.lemmas.Nat.{be_bytes_8}
+use Rattle.std.proofs.lemmas.Slice.Eq.{bytes_eq-Decides}
 use Rattle.babel_value.specs.Orders.{octets_cmp}
 
 abbrev pub AreSmall : List ℕ → Type 0
@@ -94,3 +98,16 @@ cmp_parts (suc n) (x ∷ xs) [] xs_long ys_long = absurd (omega arith)
 cmp_parts (suc n) (x ∷ xs) (y ∷ ys) xs_long ys_long =
     then_then (nat_cmp x y) (octets_cmp (take n xs) (take n ys)) (octets_cmp (drop n xs) (drop n ys))
     ∙ ap (ordering_then (nat_cmp x y)) (cmp_parts n xs ys (omega arith) (omega arith))
+
+both_true : (a b : Bool) → (a ≡ true → b ≡ true) → (b ≡ true → a ≡ true) → a ≡ b
+both_true true b there back = sym (there refl)
+both_true false true there back = back refl
+both_true false false there back = refl
+
+-- Octets are the same if and only if the numbers that they spell are.
+pub equal_numbers8 : (xs ys : List ℕ) → length xs ≡ 8 → length ys ≡ 8 → AreSmall xs → AreSmall ys →
+    nat_eq (from_be_bytes w64 xs) (from_be_bytes w64 ys) ≡ bytes_eq xs ys
+equal_numbers8 xs ys xs_long ys_long xs_small ys_small =
+    both_true (nat_eq (from_be_bytes w64 xs) (from_be_bytes w64 ys)) (bytes_eq xs ys)
+    (λ same. (bytes_eq-Decides xs ys).1 (sym (be_bytes_8 xs (from_be_bytes w64 ys) xs_long xs_small (sym (eqb-true _ _ same))) ∙ be_bytes_8 ys (from_be_bytes w64 ys) ys_long ys_small refl))
+    (λ same. eq-eqb _ _ (ap (from_be_bytes w64) ((bytes_eq-Decides xs ys).0 same)))

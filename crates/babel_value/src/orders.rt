@@ -2,6 +2,7 @@
 
 ghost use Rattle.std.specs.Prelude.{◌≡◌, take, drop};
 ghost use Rattle.std.specs.Int.{from_be_bytes};
+ghost use Rattle.std.specs.Str.{bytes_eq};
 ghost use Rattle.babel_value.specs.Orders.{octets_cmp};
 
 use std::cmp::Ordering;
@@ -22,6 +23,15 @@ pub(crate) fn compare8(one: &[u8; 8], other: &[u8; 8]) -> Ordering
     ensures { result ≡ octets_cmp one.now other.now }
 {
     u64::from_be_bytes(*one).cmp(&u64::from_be_bytes(*other))
+}
+
+/// Whether 8 octets are the same.
+#[inline]
+#[tactic(auto, using(crate::proofs::Numbers::equal_numbers8))]
+pub(crate) fn are_equal8(one: &[u8; 8], other: &[u8; 8]) -> bool
+    ensures { result ≡ bytes_eq one.now other.now }
+{
+    u64::from_be_bytes(*one) == u64::from_be_bytes(*other)
 }
 
 /// How 16 octets compare.

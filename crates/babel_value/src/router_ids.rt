@@ -8,7 +8,7 @@ ghost use Rattle.babel_value.specs.Texts.{router_text};
 ghost use Rattle.babel_value.specs.OrderLaws.{octets_total, router_ties, router_partial_order};
 
 use crate::Line;
-use crate::orders::compare8;
+use crate::orders::{are_equal8, compare8};
 use std::cmp::Ordering;
 use std::fmt;
 use std::fmt::Display;
@@ -62,10 +62,11 @@ impl PartialOrd for RouterId {
 
 impl RouterId {
     /// The router-id of these octets, `None` exactly if they are one of the two reserved ones.
+    #[inline]
     pub fn new(octets: [u8; 8]) -> Option<RouterId>
         ensures { result ≡ router_id_of octets }
     {
-        if octets == [0x00; 8] || octets == [0xff; 8] {
+        if are_equal8(&octets, &[0x00; 8]) || are_equal8(&octets, &[0xff; 8]) {
             return None;
         }
         Some(RouterId { octets })
