@@ -4,14 +4,14 @@ use std::fmt;
 
 /// A line and a column, both from 1 on. A column counts characters.
 #[derive(Clone, Copy, Debug, PartialEq, Eq)]
-pub(crate) struct Position {
+pub struct Position {
     line: usize,
     column: usize,
 }
 
 impl Position {
     /// The position after so many octets of the text.
-    pub(crate) fn after(text: &[u8], count: usize) -> Position {
+    pub fn after(text: &[u8], count: usize) -> Position {
         let mut line = 1usize;
         let mut column = 1usize;
         for octet in text.iter().take(count) {
