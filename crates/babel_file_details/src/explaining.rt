@@ -3,16 +3,15 @@
 use crate::configs::{config_problem, ipv6_transport};
 use crate::events::refused_event;
 use crate::findings::Finding;
-use crate::locating::locate;
-use crate::locations::{Owner, Step};
+use crate::locations::Owner;
 use crate::networks::network_problem;
-use crate::positions::Position;
 use crate::problems::Problem;
 use crate::schema::Schema;
 use crate::warnings::warnings_of;
 use babel_config::{FileFault, read_config, read_scenario};
 use babel_machine::{NetFault, StepFault};
 use babel_state::ConfigFault;
+use babel_toml_places::{FileText, Position, Step, locate};
 use std::alloc::Global;
 use std::io::{self, Write};
 use toml::Value;
@@ -24,15 +23,6 @@ pub enum FileKind {
     Config,
     /// The nodes and the events of a network.
     Scenario,
-}
-
-/// A file: its name and its octets.
-#[derive(Clone, Copy, Debug)]
-pub struct FileText<'a> {
-    /// The name, as the user wrote it.
-    pub name: &'a str,
-    /// What is in it.
-    pub octets: &'a [u8],
 }
 
 /// Writes why a file is refused: F1 to F3 and F6, and F4. If the cause isn't found, the sentence

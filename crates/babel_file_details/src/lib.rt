@@ -4,7 +4,7 @@
 //! A code is for scripts; these sentences are for people. Each `explain_` call finds the cause of
 //! a fault whose code is known, and writes one line. `schema` finds the first fault of a file's
 //! keys, `configs`, `networks` and `events` that of what was read, and `warnings` what can't
-//! work. `locating` finds a key in the text again.
+//! work. `babel_toml_places` finds a key in the text again.
 #![tactic(auto)]
 
 mod configs;
@@ -13,21 +13,17 @@ mod events;
 mod explaining;
 mod findings;
 mod keys;
-mod locating;
 mod locations;
 mod nearest;
 mod networks;
-mod positions;
 mod problems;
 mod ranges;
 mod rules;
 mod schema;
-mod skipping;
 mod warnings;
 
+pub use babel_toml_places::FileText;
 pub use explaining::{
-    FileKind, FileText, Part, explain_config, explain_event, explain_file, explain_network,
+    FileKind, Part, explain_config, explain_event, explain_file, explain_network,
     explain_transport, position_at, write_warnings,
 };
-pub use locations::Step;
-pub use positions::Position;

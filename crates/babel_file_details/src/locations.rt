@@ -1,6 +1,7 @@
 //! Where a value is in the tables of a file.
 
 use crate::keys::Key;
+use babel_toml_places::Step;
 use std::alloc::{AllocError, Global};
 use std::fmt;
 
@@ -47,15 +48,6 @@ impl fmt::Display for Owner {
             (Some(node), Some(iface)) => write!(f, "interface {iface} of node {node}"),
         }
     }
-}
-
-/// A step from a table to a value at its key, or from a list to one of its elements.
-#[derive(Clone, Copy, Debug, PartialEq, Eq)]
-pub enum Step<'a> {
-    /// The value at the key.
-    Key(&'a str),
-    /// The element with this index.
-    Index(usize),
 }
 
 /// Where a value is.

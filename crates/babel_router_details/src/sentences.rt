@@ -1,9 +1,10 @@
 //! The sentence about a file that is refused.
 
 use babel_config::FileFault;
-use babel_file_details::{FileKind, FileText, Part, Position, Step, explain_file, position_at};
+use babel_file_details::{FileKind, Part, explain_file, position_at};
 use babel_line_details::Excerpt;
 use babel_router_file::{Cause, DEVICE, DEVICE_KEYS, FILE_KEYS, Kind, Problem, first_problem};
+use babel_toml_places::{FileText, Position, Step};
 use std::alloc::{AllocError, Global};
 use std::fmt;
 use std::io::{self, Write};

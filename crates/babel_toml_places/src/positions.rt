@@ -11,7 +11,7 @@ pub struct Position {
 
 impl Position {
     /// The position after so many octets of the text.
-    pub(crate) fn after(text: &[u8], count: usize) -> Position {
+    pub fn after(text: &[u8], count: usize) -> Position {
         let mut line = 1usize;
         let mut column = 1usize;
         for octet in text.iter().take(count) {

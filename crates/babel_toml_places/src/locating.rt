@@ -2,11 +2,19 @@
 //!
 //! The document was read already. Here it is read again, line by line, along one path.
 
-use crate::locations::Step;
 use crate::skipping::skip_value;
 use std::alloc::Global;
 use toml_parser::text::{skip_blank, skip_ws};
 use toml_parser::{Key, dotted_key};
+
+/// A step from a table to a value at its key, or from a list to one of its elements.
+#[derive(Clone, Copy, Debug, PartialEq, Eq)]
+pub enum Step<'a> {
+    /// The value at the key.
+    Key(&'a str),
+    /// The element with this index.
+    Index(usize),
+}
 
 /// The most steps of a path: a node, an interface, a key and an element.
 const MAX_STEPS: usize = 6;
@@ -14,13 +22,15 @@ const MAX_STEPS: usize = 6;
 /// Where a value is: the texts that begin with its key and with itself. For a table with a header
 /// both begin with the header, and for an element both with the element.
 #[derive(Clone, Copy, Debug)]
-pub(crate) struct Place<'t> {
-    pub(crate) key: &'t str,
-    pub(crate) value: &'t str,
+pub struct Place<'t> {
+    /// The text that begins with the key.
+    pub key: &'t str,
+    /// The text that begins with the value.
+    pub value: &'t str,
 }
 
 /// Finds the value at the end of the path. `None` if it isn't there, or if an allocation fails.
-pub(crate) fn locate<'t>(alloc: Global, text: &'t str, path: &[Step<'_>]) -> Option<Place<'t>> {
+pub fn locate<'t>(alloc: Global, text: &'t str, path: &[Step<'_>]) -> Option<Place<'t>> {
     let mut section = Section {
         depth: Some(0),
         counts: [0; MAX_STEPS],
