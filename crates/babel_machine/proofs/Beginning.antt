@@ -15,7 +15,7 @@ use Rattle.babel_state.specs.declared.configs.Config.{Config}
 use Rattle.babel_state.specs.declared.configs.Interface.{Interface}
 use Rattle.babel_state.specs.Addresses.{address_of, transport_of}
 use Rattle.babel_state.specs.Calls.{new_interface}
-use Rattle.babel_state.specs.Seen.{Seen, HeardValue, IsSelecting, IsNew}
+use Rattle.babel_state.specs.Seen.{Seen, HeardValue, IsSelecting, NamesOthers, IsNew}
 use Rattle.babel_state.specs.declared.selected.Selected.{Selected}
 use Rattle.babel_machine.specs.declared.machine.pick.Pick.{Pick}
 use Rattle.babel_machine.specs.Machine.{quiet, first_state}
@@ -94,6 +94,7 @@ Holds-first configs w apart first = record {
   announces = each_new (λ b x. (prefix : PrefixValue) → x.announces prefix ≡ true → Lists configs b prefix) configs w first (λ b c is new prefix on. (c, is, sym (new.announces prefix) ∙ on)) (λ b prefix on. absurd (false≢true on));
   heard = each_new (λ b x. (prefix : PrefixValue) (peer : Peer) (h : HeardValue) → x.heard_at prefix peer ≡ Some h → WasSent configs w.sent prefix peer h) configs w first (λ b c is new prefix peer h at. absurd (none-some h (sym (new.entries prefix peer) ∙ at))) (λ b prefix peer h at. absurd (none-some h at));
   selecting = each_new (λ b x. IsSelecting x) configs w first (λ b c is new. selecting_none (speaker_at w b) new.selected) (λ b. selecting_none nothing (λ prefix. refl));
+  others = each_new (λ b x. NamesOthers x) configs w first (λ b c is new prefix peer h at. absurd (none-some h (sym (new.entries prefix peer) ∙ at))) (λ b prefix peer h at. absurd (none-some h at));
   sources = subst (All (λ (d : SentDatagram). owner_of configs d.source ≡ Some d.node)) (sym first.sent) (All-nil (λ (d : SentDatagram). owner_of configs d.source ≡ Some d.node));
   updates = λ b u h. absurd (Contains-nil u (subst (λ us. Contains us u) (nothing_updates w.sent first.sent b) h));
 }

@@ -12,7 +12,7 @@ use Rattle.babel_value.specs.Addresses.{family_of}
 use Rattle.babel_value.specs.Prefixes.{PrefixValue}
 use Rattle.babel_state.specs.declared.configs.Config.{Config}
 use Rattle.babel_state.specs.declared.selected.Selected.{Selected}
-use Rattle.babel_state.specs.Seen.{UpdateValue, HeardValue, IsSelecting, Advertises, IsOwnUpdate, IsRouteUpdate, NamesOwnAddress, heard_of}
+use Rattle.babel_state.specs.Seen.{UpdateValue, HeardValue, IsSelecting, NamesOthers, Advertises, IsOwnUpdate, IsRouteUpdate, NamesOwnAddress, heard_of}
 use Rattle.babel_machine.specs.Owners.{owner_of, Lists}
 use Rattle.babel_machine.specs.Worlds.{World, SentDatagram, speaker_at, with_speaker, with_datagram, updates_if, updates_of}
 use Rattle.babel_machine.specs.Happenings.{Emits}
@@ -116,6 +116,7 @@ Holds-emitted is_heard now_heard is_known configs node old new e holds kept now_
   announces = each_speaker (λ b x. (prefix : PrefixValue) → x.announces prefix ≡ true → Lists configs b prefix) old node e.speaker e.inside (λ prefix is. holds.announces node prefix (sym (e.sends.announces prefix) ∙ is)) (λ b _. holds.announces b);
   heard = each_speaker (λ b x. (prefix : PrefixValue) (peer : Peer) (h : HeardValue) → x.heard_at prefix peer ≡ Some h → now_heard prefix peer h) old node e.speaker e.inside (λ prefix peer h is. kept prefix peer h (holds.heard node prefix peer h (sym (e.sends.entries prefix peer) ∙ is))) (λ b _ prefix peer h is. kept prefix peer h (holds.heard b prefix peer h is));
   selecting = each_speaker (λ b x. IsSelecting x) old node e.speaker e.inside e.sends.selecting (λ b _. holds.selecting b);
+  others = each_speaker (λ b x. NamesOthers x) old node e.speaker e.inside (λ prefix from h is named. holds.others node prefix from h (sym (e.sends.entries prefix from) ∙ is) (named ∙ e.sends.router)) (λ b _. holds.others b);
   sources = All-append (λ (d : SentDatagram). owner_of configs d.source ≡ Some d.node) old.sent (datagram_of node old new e ∷ []) holds.sources (All-cons (λ (d : SentDatagram). owner_of configs d.source ≡ Some d.node) (datagram_of node old new e) [] (holds.transports node e.iface e.source e.is_own) (All-nil (λ (d : SentDatagram). owner_of configs d.source ≡ Some d.node)));
   updates = λ b u h. known b u (updates-cases b old.sent (datagram_of node old new e) u h);
 }

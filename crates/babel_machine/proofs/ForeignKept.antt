@@ -1,6 +1,5 @@
 -- Among routers of others: what every event keeps, and the steps of the machine that it is.
-use Rattle.std.proofs.Common.{◌≡◌, ◌⊎◌, ◌<◌, ℕ, Bool, List, [], ◌∷◌, ◌++◌, length, All, refl, sym, ap, ◌∙◌, subst, inl, inr}
-use Rattle.std.proofs.lemmas.Option.{none-some}
+use Rattle.std.proofs.Common.{◌≡◌, ◌<◌, ℕ, Bool, List, [], ◌∷◌, ◌++◌, length, All, refl, sym, ap, ◌∙◌, subst, inl, inr}
 use Rattle.std.proofs.lemmas.List.Elements.{All-append, All-nil, Contains-append_left, Contains-append_right}
 use Rattle.babel_value.specs.declared.keys.Peer.{Peer}
 use Rattle.babel_value.specs.Prefixes.{PrefixValue}
@@ -11,7 +10,7 @@ use Rattle.babel_machine.specs.declared.events.Event.{Event}
 use Rattle.babel_machine.specs.declared.events.Event.TheVariants as events
 use Rattle.babel_machine.specs.declared.machine.step.Step.TheVariants.{Raise}
 use Rattle.babel_machine.specs.Machine.{first_state}
-use Rattle.babel_machine.specs.ForeignWorlds.{ForeignWorld, HearEvent, ForeignEvent, Hears, NamesOthers, HappensAmong, HappenAllAmong, last_foreign_world, IsFirstAmong, AreInHalf, source_among, pick_among, view_among}
+use Rattle.babel_machine.specs.ForeignWorlds.{ForeignWorld, HearEvent, ForeignEvent, Hears, HappensAmong, HappenAllAmong, last_foreign_world, IsFirstAmong, AreInHalf, source_among, pick_among, view_among}
 use Rattle.babel_machine.specs.ForeignLaws.{CameFrom, IsNamedByUs, HoldsForAmong, IsInvariantAmong, NetworksAmongAreSound, HappeningsAreRuns}
 use Rattle.babel_machine.specs.Owners.{owner_of, AreApart}
 use Rattle.babel_machine.specs.Worlds.{World, speaker_at, with_speaker}
@@ -19,13 +18,12 @@ use Rattle.babel_machine.specs.Happenings.{StepsAlone, Receives, Emits, Restarts
 use Rattle.babel_machine.specs.Views.{NetSource}
 use Rattle.babel_machine.specs.Invariants.{WasSent, IsKnown, HoldsWith, update_heard}
 use Rattle.babel_machine.proofs.MachineAmong.{IsSoundAmong-first_state, IsSoundAmong-run, no_cycle_among}
-use Rattle.babel_machine.proofs.Speakers.{speaker_now}
 use Rattle.babel_machine.proofs.Moving.{Moved, Holds-moved}
 use Rattle.babel_machine.proofs.MovingCalls.{AreListed, heard_from, moved_by_call}
 use Rattle.babel_machine.proofs.Emitting.{datagram_of, emitted, updates-kept, was_sent_kept, Holds-emitted}
 use Rattle.babel_machine.proofs.EventsKept.{nothing_heard, received_from, same_announced, also_announced, less_announced}
 use Rattle.babel_machine.proofs.Restarting.{moved_by_restart}
-use Rattle.babel_machine.proofs.Beginning.{each_new, Holds-first, picture_first, bounds_first}
+use Rattle.babel_machine.proofs.Beginning.{Holds-first, picture_first, bounds_first}
 use Rattle.babel_machine.proofs.ForeignRuns.{IsKept, RunAndHolds, named_now, moved_among, emitted_among}
 
 -- ---- what holds stays so if less is asked
@@ -41,6 +39,7 @@ Holds-weaker is_heard now_heard is_known now_known configs w holds heard known =
   announces = holds.announces;
   heard = λ node prefix peer h is. heard prefix peer h (holds.heard node prefix peer h is);
   selecting = holds.selecting;
+  others = holds.others;
   sources = holds.sources;
   updates = λ node u is. known node u (holds.updates node u is);
 }
@@ -63,15 +62,12 @@ kept_before : (configs : List Config) (w : ForeignWorld) → IsInvariantAmong co
 kept_before configs w inv = record { holds = inv.holds; seqnos = inv.seqnos }
 
 -- a step of one speaker that sends nothing
-kept_moved : (configs : List Config) (node : ℕ) (w : ForeignWorld) (new : ForeignWorld) (speaker : Seen) (m : Moved (CameFrom configs w) configs node w.ours speaker) → IsInvariantAmong configs w → new ≡ record { ours = with_speaker w.ours node speaker; heard = w.heard } → ((b : ℕ) → NamesOthers (speaker_at new.ours b)) → IsKeptAmong configs w new
-kept_moved configs node w new speaker m inv is others = subst (IsKeptAmong configs w) (sym is) (record {
+kept_moved : (configs : List Config) (node : ℕ) (w : ForeignWorld) (new : ForeignWorld) (speaker : Seen) (m : Moved (CameFrom configs w) configs node w.ours speaker) → IsInvariantAmong configs w → new ≡ record { ours = with_speaker w.ours node speaker; heard = w.heard } → IsKeptAmong configs w new
+kept_moved configs node w new speaker m inv is = subst (IsKeptAmong configs w) (sym is) (record {
   kept = record { holds = Holds-moved (CameFrom configs w) (IsNamedByUs configs) configs node w.ours speaker m inv.holds; seqnos = inv.seqnos };
-  run = λ prefix router start half. moved_among configs node w speaker m prefix router start (kept_before configs w inv) now (record { first = half.first; heard = half.heard; sent = half.sent }) (inv.in_half prefix router start (record { first = half.first; heard = half.heard; sent = half.sent }));
+  run = λ prefix router start half. moved_among configs node w speaker m prefix router start (kept_before configs w inv) (record { first = half.first; heard = half.heard; sent = half.sent }) (inv.in_half prefix router start (record { first = half.first; heard = half.heard; sent = half.sent }));
   before = λ prefix router start half. record { first = half.first; heard = half.heard; sent = half.sent };
 })
-  where
-    now : NamesOthers speaker
-    now = subst NamesOthers (ap (λ (v : ForeignWorld). speaker_at v.ours node) is ∙ speaker_now w.ours node speaker m.inside) (others node)
 
 kept_emitted : (configs : List Config) (node : ℕ) (w new : ForeignWorld) (e : Emits node w.ours new.ours) → AreApart configs → IsInvariantAmong configs w → new.heard ≡ w.heard → IsKeptAmong configs w new
 kept_emitted configs node w new e apart inv is = subst (IsKeptAmong configs w) (sym (same new (emitted node w.ours new.ours e) e.next is)) (record {
@@ -115,37 +111,37 @@ kept_same configs old new inv is = subst (IsKeptAmong configs old) (sym is) (rec
 same_world : (old new : ForeignWorld) (ours : World) → new.ours ≡ ours → new.heard ≡ old.heard → new ≡ record { ours = ours; heard = old.heard }
 same_world old new ours one other = ap (λ x. record new { ours = x }) one ∙ ap (λ x. record new { ours = ours; heard = x }) other
 
-alone : (configs : List Config) (node growths : ℕ) (announced : PrefixValue → Bool) (old new : ForeignWorld) → IsInvariantAmong configs old → AreListed configs node old.ours announced → ((b : ℕ) → NamesOthers (speaker_at new.ours b)) → new.heard ≡ old.heard → StepsAlone node growths announced old.ours new.ours → IsKeptAmong configs old new
-alone configs node growths announced old new inv listed others heard h =
-    kept_moved configs node old new h.speaker (moved_by_call (CameFrom configs old) (IsNamedByUs configs) configs node old.ours h.peer [] growths announced h.speaker inv.holds h.inside h.moves (nothing_heard (CameFrom configs old) h.peer) listed) inv (same_world old new (with_speaker old.ours node h.speaker) h.next heard) others
+alone : (configs : List Config) (node growths : ℕ) (announced : PrefixValue → Bool) (old new : ForeignWorld) → IsInvariantAmong configs old → AreListed configs node old.ours announced → new.heard ≡ old.heard → StepsAlone node growths announced old.ours new.ours → IsKeptAmong configs old new
+alone configs node growths announced old new inv listed heard h =
+    kept_moved configs node old new h.speaker (moved_by_call (CameFrom configs old) (IsNamedByUs configs) configs node old.ours h.peer [] growths announced h.speaker inv.holds h.inside h.moves (nothing_heard (CameFrom configs old) h.peer) listed) inv (same_world old new (with_speaker old.ours node h.speaker) h.next heard)
 
-received : (configs : List Config) (number node iface : ℕ) (old new : ForeignWorld) → IsInvariantAmong configs old → ((b : ℕ) → NamesOthers (speaker_at new.ours b)) → new.heard ≡ old.heard → Receives number node iface old.ours new.ours → IsKeptAmong configs old new
-received configs number node iface old new inv others heard h =
-    kept_moved configs node old new h.speaker (moved_by_call (CameFrom configs old) (IsNamedByUs configs) configs node old.ours peer h.datagram.updates h.growths (speaker_at old.ours node).announces h.speaker inv.holds h.inside h.moves (λ prefix from x is. inl (heard_from (CameFrom configs old) (IsNamedByUs configs) configs old.ours peer h.datagram.updates inv.holds (λ n u known. known.next_hop) (received_from (CameFrom configs old) (IsNamedByUs configs) configs number node iface old.ours new.ours inv.holds h) prefix from x is)) (λ p is. inl is)) inv (same_world old new (with_speaker old.ours node h.speaker) h.next heard) others
+received : (configs : List Config) (number node iface : ℕ) (old new : ForeignWorld) → IsInvariantAmong configs old → new.heard ≡ old.heard → Receives number node iface old.ours new.ours → IsKeptAmong configs old new
+received configs number node iface old new inv heard h =
+    kept_moved configs node old new h.speaker (moved_by_call (CameFrom configs old) (IsNamedByUs configs) configs node old.ours peer h.datagram.updates h.growths (speaker_at old.ours node).announces h.speaker inv.holds h.inside h.moves (λ prefix from x is. inl (heard_from (CameFrom configs old) (IsNamedByUs configs) configs old.ours peer h.datagram.updates inv.holds (λ n u known. known.next_hop) (received_from (CameFrom configs old) (IsNamedByUs configs) configs number node iface old.ours new.ours inv.holds h) prefix from x is)) (λ p is. inl is)) inv (same_world old new (with_speaker old.ours node h.speaker) h.next heard)
   where
     peer : Peer
     peer = record { iface = iface; addr = h.datagram.source }
 
-restarted : (configs : List Config) (node : ℕ) (old new : ForeignWorld) → AreApart configs → IsInvariantAmong configs old → ((b : ℕ) → NamesOthers (speaker_at new.ours b)) → new.heard ≡ old.heard → Restarts configs node old.ours new.ours → IsKeptAmong configs old new
-restarted configs node old new apart inv others heard h =
-    kept_moved configs node old new h.speaker (moved_by_restart (CameFrom configs old) (IsNamedByUs configs) configs node old.ours new.ours apart inv.holds h) inv (same_world old new (with_speaker old.ours node h.speaker) h.next heard) others
+restarted : (configs : List Config) (node : ℕ) (old new : ForeignWorld) → AreApart configs → IsInvariantAmong configs old → new.heard ≡ old.heard → Restarts configs node old.ours new.ours → IsKeptAmong configs old new
+restarted configs node old new apart inv heard h =
+    kept_moved configs node old new h.speaker (moved_by_restart (CameFrom configs old) (IsNamedByUs configs) configs node old.ours new.ours apart inv.holds h) inv (same_world old new (with_speaker old.ours node h.speaker) h.next heard)
 
-kept_event : (configs : List Config) (event : Event) (old new : ForeignWorld) → AreApart configs → IsInvariantAmong configs old → ((b : ℕ) → NamesOthers (speaker_at new.ours b)) → new.heard ≡ old.heard → Happens configs event old.ours new.ours → IsKeptAmong configs old new
-kept_event configs (events.Tick node now) old new apart inv others heard h = alone configs node 0 _ old new inv (same_announced configs node old.ours) others heard h
-kept_event configs (events.Emit node now) old new apart inv others heard (inl h) = kept_emitted configs node old new h apart inv heard
-kept_event configs (events.Emit node now) old new apart inv others heard (inr h) = alone configs node 0 _ old new inv (same_announced configs node old.ours) others heard h
-kept_event configs (events.Deliver number node iface now) old new apart inv others heard (inl h) = received configs number node iface old new inv others heard h
-kept_event configs (events.Deliver number node iface now) old new apart inv others heard (inr h) = kept_same configs old new inv (same_world old new old.ours h heard)
-kept_event configs (events.SetCost node iface cost) old new apart inv others heard h = alone configs node 0 _ old new inv (same_announced configs node old.ours) others heard h
-kept_event configs (events.Raise node) old new apart inv others heard h = alone configs node 1 _ old new inv (same_announced configs node old.ours) others heard h
-kept_event configs (events.Announce node prefix) old new apart inv others heard h = alone configs node 0 _ old new inv (also_announced configs node old.ours prefix h.0) others heard h.1
-kept_event configs (events.Withdraw node prefix) old new apart inv others heard h = alone configs node 0 _ old new inv (less_announced configs node old.ours prefix) others heard h
-kept_event configs (events.Restart node now) old new apart inv others heard h = restarted configs node old new apart inv others heard h
+kept_event : (configs : List Config) (event : Event) (old new : ForeignWorld) → AreApart configs → IsInvariantAmong configs old → new.heard ≡ old.heard → Happens configs event old.ours new.ours → IsKeptAmong configs old new
+kept_event configs (events.Tick node now) old new apart inv heard h = alone configs node 0 _ old new inv (same_announced configs node old.ours) heard h
+kept_event configs (events.Emit node now) old new apart inv heard (inl h) = kept_emitted configs node old new h apart inv heard
+kept_event configs (events.Emit node now) old new apart inv heard (inr h) = alone configs node 0 _ old new inv (same_announced configs node old.ours) heard h
+kept_event configs (events.Deliver number node iface now) old new apart inv heard (inl h) = received configs number node iface old new inv heard h
+kept_event configs (events.Deliver number node iface now) old new apart inv heard (inr h) = kept_same configs old new inv (same_world old new old.ours h heard)
+kept_event configs (events.SetCost node iface cost) old new apart inv heard h = alone configs node 0 _ old new inv (same_announced configs node old.ours) heard h
+kept_event configs (events.Raise node) old new apart inv heard h = alone configs node 1 _ old new inv (same_announced configs node old.ours) heard h
+kept_event configs (events.Announce node prefix) old new apart inv heard h = alone configs node 0 _ old new inv (also_announced configs node old.ours prefix h.0) heard h.1
+kept_event configs (events.Withdraw node prefix) old new apart inv heard h = alone configs node 0 _ old new inv (less_announced configs node old.ours prefix) heard h
+kept_event configs (events.Restart node now) old new apart inv heard h = restarted configs node old new apart inv heard h
 
 -- ---- a datagram of others
 
-hears : (configs : List Config) (event : HearEvent) (old new : ForeignWorld) → IsInvariantAmong configs old → ((b : ℕ) → NamesOthers (speaker_at new.ours b)) → Hears configs event old new → IsKeptAmong configs old new
-hears configs event old new inv others h = record { kept = moved.kept; run = moved.run; before = half_before }
+hears : (configs : List Config) (event : HearEvent) (old new : ForeignWorld) → IsInvariantAmong configs old → Hears configs event old new → IsKeptAmong configs old new
+hears configs event old new inv h = record { kept = moved.kept; run = moved.run; before = half_before }
   where
     -- as if the node's speaker knew what it hears now, before it hears it
     mid : ForeignWorld
@@ -164,7 +160,6 @@ hears configs event old new inv others h = record { kept = moved.kept; run = mov
     inv_mid : IsInvariantAmong configs mid
     inv_mid = record {
       holds = holds;
-      others = inv.others;
       seqnos = All-append (λ (u : UpdateValue). u.distance.seqno < 65536) old.heard h.updates inv.seqnos h.seqnos;
       in_half = λ prefix router start half. inv.in_half prefix router start (fewer prefix router start half);
     }
@@ -176,25 +171,21 @@ hears configs event old new inv others h = record { kept = moved.kept; run = mov
     })
 
     moved : IsKeptAmong configs mid new
-    moved = kept_moved configs event.node mid new h.speaker (moved_by_call (CameFrom configs mid) (IsNamedByUs configs) configs event.node old.ours (record { iface = event.iface; addr = event.source }) h.updates h.growths (speaker_at old.ours event.node).announces h.speaker holds h.inside h.moves came (λ p is. inl is)) inv_mid h.next others
+    moved = kept_moved configs event.node mid new h.speaker (moved_by_call (CameFrom configs mid) (IsNamedByUs configs) configs event.node old.ours (record { iface = event.iface; addr = event.source }) h.updates h.growths (speaker_at old.ours event.node).announces h.speaker holds h.inside h.moves came (λ p is. inl is)) inv_mid h.next
 
     half_before : (prefix : PrefixValue) (router : List ℕ) (start : ℕ) → AreInHalf prefix router start new → AreInHalf prefix router start old
     half_before prefix router start half = fewer prefix router start (moved.before prefix router start half)
 
 kept_occurs : (configs : List Config) (event : ForeignEvent) (old new : ForeignWorld) → AreApart configs → IsInvariantAmong configs old → HappensAmong configs event old new → IsKeptAmong configs old new
-kept_occurs configs (inl event) old new apart inv h = kept_event configs event old new apart inv h.others h.occurs.1 h.occurs.0
-kept_occurs configs (inr event) old new apart inv h = by h.occurs
-  where
-    by : (Hears configs event old new ⊎ (new ≡ old)) → IsKeptAmong configs old new
-    by (inl heard) = hears configs event old new inv h.others heard
-    by (inr same) = kept_same configs old new inv same
+kept_occurs configs (inl event) old new apart inv h = kept_event configs event old new apart inv h.1 h.0
+kept_occurs configs (inr event) old new apart inv (inl heard) = hears configs event old new inv heard
+kept_occurs configs (inr event) old new apart inv (inr same) = kept_same configs old new inv same
 
 pub invariant_next : (configs : List Config) (event : ForeignEvent) (old new : ForeignWorld) → AreApart configs → IsInvariantAmong configs old → HappensAmong configs event old new → IsInvariantAmong configs new
 invariant_next configs event old new apart inv h =
     let kept = kept_occurs configs event old new apart inv h in
     record {
       holds = kept.kept.holds;
-      others = h.others;
       seqnos = kept.kept.seqnos;
       in_half = λ prefix router start half. (kept.run prefix router start half).holds;
     }
@@ -213,7 +204,6 @@ happening_runs configs event old new prefix router start apart inv h half =
 pub invariant_first : (configs : List Config) (w : ForeignWorld) → AreApart configs → IsFirstAmong configs w → IsInvariantAmong configs w
 invariant_first configs w apart first = record {
   holds = Holds-weaker (WasSent configs w.ours.sent) (CameFrom configs w) (IsKnown configs) (IsNamedByUs configs) configs w.ours (Holds-first configs w.ours apart first.ours) (λ prefix peer h was. inl was) (λ node u known. record { next_hop = known.next_hop; seqno = known.seqno });
-  others = each_new (λ b x. NamesOthers x) configs w.ours first.ours (λ b c is new prefix r selected. absurd (none-some r (sym (new.selected prefix) ∙ selected))) (λ b prefix r selected. absurd (none-some r selected));
   seqnos = subst (All (λ (u : UpdateValue). u.distance.seqno < 65536)) (sym first.heard) (All-nil (λ (u : UpdateValue). u.distance.seqno < 65536));
   in_half = λ prefix router start half. holds_for (source_among configs prefix router start);
 }

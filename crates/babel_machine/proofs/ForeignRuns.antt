@@ -17,7 +17,7 @@ use Rattle.babel_machine.specs.declared.machine.step.Step.{Step}
 use Rattle.babel_machine.specs.declared.machine.step.Step.TheVariants.{Raise, Announce, Choose, Drop}
 use Rattle.babel_machine.specs.Machine.{SourceState, NodeState, node_at, with_sent, with_pick, HasSent, MaySend, beginning, IsBetterPair}
 use Rattle.babel_machine.specs.ForeignMachine.{MayPickAmong, StepsAmong, RunAmong}
-use Rattle.babel_machine.specs.ForeignWorlds.{ForeignWorld, NamesOthers, AreInHalf, sender_of, node_named, source_among, pick_among, view_among}
+use Rattle.babel_machine.specs.ForeignWorlds.{ForeignWorld, AreInHalf, sender_of, node_named, source_among, pick_among, view_among}
 use Rattle.babel_machine.specs.ForeignLaws.{CameFrom, IsNamedByUs, HoldsForAmong}
 use Rattle.babel_machine.specs.Owners.{owner_of, AreApart}
 use Rattle.babel_machine.specs.Worlds.{World, speaker_at, with_speaker, updates_of}
@@ -123,11 +123,11 @@ came_reached configs w prefix router start kept half peer h same (inr was) = rec
 }
 
 -- the node's selected route may be picked, whatever the count is
-may_pick_among : (configs : List Config) (node : ℕ) (w : ForeignWorld) (speaker : Seen) (m : Moved (CameFrom configs w) configs node w.ours speaker) (prefix : PrefixValue) (router : List ℕ) (start n : ℕ) (k : Pick) → IsKept configs w → NamesOthers speaker → AreInHalf prefix router start w → HoldsForAmong configs (source_among configs prefix router start) w.ours → pick_among configs (source_among configs prefix router start) (speaker.selected_at prefix) ≡ Some k → MayPickAmong (picture (pick_among configs (source_among configs prefix router start)) (source_among configs prefix router start) n w.ours) node k.from k.pair
-may_pick_among configs node w speaker m prefix router start n k kept others half for_s is = record {
+may_pick_among : (configs : List Config) (node : ℕ) (w : ForeignWorld) (speaker : Seen) (m : Moved (CameFrom configs w) configs node w.ours speaker) (prefix : PrefixValue) (router : List ℕ) (start n : ℕ) (k : Pick) → IsKept configs w → AreInHalf prefix router start w → HoldsForAmong configs (source_among configs prefix router start) w.ours → pick_among configs (source_among configs prefix router start) (speaker.selected_at prefix) ≡ Some k → MayPickAmong (picture (pick_among configs (source_among configs prefix router start)) (source_among configs prefix router start) n w.ours) node k.from k.pair
+may_pick_among configs node w speaker m prefix router start n k kept half for_s is = record {
   sent = λ within. by (omega (arith, within, length-picture (pick_among configs s) s n w.ours)) came;
   better = subst (λ (x : NodeState). All (λ own. IsBetterPair k.pair own) x.sent) (sym (node_at-picture (pick_among configs s) s n w.ours node m.inside)) (subst (λ (q : Pair). All (λ own. IsBetterPair q own) (sent_by s w.ours.sent node)) p.pair better);
-  other = λ owner. others prefix p.route p.is (p.router ∙ sym (own_router owner));
+  other = λ owner. m.others prefix p.route.peer (heard_of p.route) (m.selecting.entry prefix p.route p.is) (p.router ∙ sym (own_router owner));
 }
   where
     s : NetSource
@@ -164,8 +164,8 @@ pub record RunAndHolds (configs : List Config) (s : NetSource) (old new : World)
   pub run : RunAmong (view_among configs s old) steps (view_among configs s new)
   pub holds : HoldsForAmong configs s new
 
-pub moved_among : (configs : List Config) (node : ℕ) (w : ForeignWorld) (speaker : Seen) (m : Moved (CameFrom configs w) configs node w.ours speaker) (prefix : PrefixValue) (router : List ℕ) (start : ℕ) → IsKept configs w → NamesOthers speaker → AreInHalf prefix router start w → HoldsForAmong configs (source_among configs prefix router start) w.ours → RunAndHolds configs (source_among configs prefix router start) w.ours (with_speaker w.ours node speaker)
-moved_among configs node w speaker m prefix router start kept others half for_s = record {
+pub moved_among : (configs : List Config) (node : ℕ) (w : ForeignWorld) (speaker : Seen) (m : Moved (CameFrom configs w) configs node w.ours speaker) (prefix : PrefixValue) (router : List ℕ) (start : ℕ) → IsKept configs w → AreInHalf prefix router start w → HoldsForAmong configs (source_among configs prefix router start) w.ours → RunAndHolds configs (source_among configs prefix router start) w.ours (with_speaker w.ours node speaker)
+moved_among configs node w speaker m prefix router start kept half for_s = record {
   steps = Raise ∷ step.0 ∷ [];
   run = run;
   holds = record {
@@ -186,7 +186,7 @@ moved_among configs node w speaker m prefix router start kept others half for_s 
     step_now : (pick : Option Pick) → pick_among configs s (speaker.selected_at prefix) ≡ pick → (step : Step) × StepsAmong counted step (with_pick counted node pick)
     step_now None is = (Drop node, (rw (length-picture (pick_among configs s) s n w.ours) m.inside, refl))
     step_now (Some k) is =
-        (Choose node k.from k.pair, (rw (length-picture (pick_among configs s) s n w.ours) m.inside, may_pick_among configs node w speaker m prefix router start n k kept others half for_s is, refl))
+        (Choose node k.from k.pair, (rw (length-picture (pick_among configs s) s n w.ours) m.inside, may_pick_among configs node w speaker m prefix router start n k kept half for_s is, refl))
 
     step : (step : Step) × StepsAmong counted step (with_pick counted node (pick_among configs s (speaker.selected_at prefix)))
     step = step_now (pick_among configs s (speaker.selected_at prefix)) refl

@@ -8,7 +8,7 @@ use Rattle.babel_value.specs.declared.keys.Peer.{Peer}
 use Rattle.babel_value.specs.Prefixes.{PrefixValue}
 use Rattle.babel_sources.specs.Distances.{is_feasible}
 use Rattle.babel_state.specs.declared.configs.Config.{Config}
-use Rattle.babel_state.specs.Seen.{Seen, UpdateValue, HeardValue, IsSelecting, heard_of}
+use Rattle.babel_state.specs.Seen.{Seen, UpdateValue, HeardValue, IsSelecting, NamesOthers, heard_of}
 use Rattle.babel_state.specs.declared.selected.Selected.{Selected}
 use Rattle.babel_machine.specs.declared.machine.pair.Pair.{Pair}
 use Rattle.babel_machine.specs.declared.machine.pick.Pick.{Pick}
@@ -37,6 +37,7 @@ pub record Moved (is_heard : PrefixValue → Peer → HeardValue → Type 0) (co
   pub sources : (prefix : PrefixValue) (router : List ℕ) → speaker.source_at prefix router ≡ (speaker_at old node).source_at prefix router
   pub heard : (prefix : PrefixValue) (peer : Peer) (h : HeardValue) → speaker.heard_at prefix peer ≡ Some h → is_heard prefix peer h
   pub selecting : IsSelecting speaker
+  pub others : NamesOthers speaker
 
 pub Holds-moved : (is_heard : PrefixValue → Peer → HeardValue → Type 0) (is_known : ℕ → UpdateValue → Type 0) (configs : List Config) (node : ℕ) (old : World) (speaker : Seen) (m : Moved is_heard configs node old speaker) → HoldsWith is_heard is_known configs old → HoldsWith is_heard is_known configs (with_speaker old node speaker)
 Holds-moved is_heard is_known configs node old speaker m holds = record {
@@ -49,6 +50,7 @@ Holds-moved is_heard is_known configs node old speaker m holds = record {
   announces = each_speaker (λ b x. (prefix : PrefixValue) → x.announces prefix ≡ true → Lists configs b prefix) old node speaker m.inside m.announces (λ b _. holds.announces b);
   heard = each_speaker (λ b x. (prefix : PrefixValue) (peer : Peer) (h : HeardValue) → x.heard_at prefix peer ≡ Some h → is_heard prefix peer h) old node speaker m.inside m.heard (λ b _. holds.heard b);
   selecting = each_speaker (λ b x. IsSelecting x) old node speaker m.inside m.selecting (λ b _. holds.selecting b);
+  others = each_speaker (λ b x. NamesOthers x) old node speaker m.inside m.others (λ b _. holds.others b);
   sources = holds.sources;
   updates = holds.updates;
 }

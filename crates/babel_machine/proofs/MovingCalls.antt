@@ -43,6 +43,7 @@ moved_by_call is_heard is_known configs node old peer updates growths announced 
   sources = moves.sources (holds.collects node);
   heard = λ prefix from h is. heard prefix from h (moves.entries prefix from h is);
   selecting = moves.selecting;
+  others = moves.others (holds.others node);
 }
   where
     below : speaker.raises ≤ 32767 → speaker.raises ≡ (speaker_at old node).raises + growths

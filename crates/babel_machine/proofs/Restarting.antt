@@ -35,6 +35,7 @@ moved_by_restart is_heard is_known configs node old new apart holds h = record {
   sources = h.restarted.sources;
   heard = λ prefix peer heard is. absurd (none-some heard (sym (h.restarted.entries prefix peer) ∙ is));
   selecting = selecting_none h.speaker h.restarted.selected;
+  others = λ prefix peer heard is. absurd (none-some heard (sym (h.restarted.entries prefix peer) ∙ is));
 }
 
 -- no router-id was raised

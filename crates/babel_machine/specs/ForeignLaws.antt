@@ -12,7 +12,7 @@ use Rattle.babel_machine.specs.Worlds.{World, speaker_at, NoLoopNaming}
 use Rattle.babel_machine.specs.Views.{NetSource, max_raises, sent_by}
 use Rattle.babel_machine.specs.Invariants.{WasSent, HoldsWith, Bounds, update_heard}
 use Rattle.babel_machine.specs.ForeignMachine.{IsSoundAmong}
-use Rattle.babel_machine.specs.ForeignWorlds.{ForeignWorld, ForeignEvent, HappensAmong, HappenAllAmong, last_foreign_world, IsFirstAmong, NamesOthers, AreInHalf, NamesNoNode, source_among, view_among, IsRunAmong, NoForwardingLoop}
+use Rattle.babel_machine.specs.ForeignWorlds.{ForeignWorld, ForeignEvent, HappensAmong, HappenAllAmong, last_foreign_world, IsFirstAmong, AreInHalf, NamesNoNode, source_among, view_among, IsRunAmong, NoForwardingLoop}
 
 -- ---- what every event keeps
 
@@ -37,7 +37,6 @@ pub record HoldsForAmong (configs : List Config) (s : NetSource) (w : World) : T
 
 pub record IsInvariantAmong (configs : List Config) (w : ForeignWorld) : Type 0 where
   pub holds : HoldsWith (CameFrom configs w) (IsNamedByUs configs) configs w.ours
-  pub others : (node : ℕ) → NamesOthers (speaker_at w.ours node)
   pub seqnos : All (λ (u : UpdateValue). u.distance.seqno < seqno_modulus) w.heard
   pub in_half : (prefix : PrefixValue) (router : List ℕ) (start : ℕ) → AreInHalf prefix router start w →
       HoldsForAmong configs (source_among configs prefix router start) w.ours

@@ -49,23 +49,14 @@ pub record Hears (configs : List Config) (event : HearEvent) (old new : ForeignW
       Moves (record { iface = event.iface; addr = event.source }) updates growths (speaker_at old.ours event.node).announces (speaker_at old.ours event.node) speaker
   pub next : new ≡ record { ours = with_speaker old.ours event.node speaker; heard = old.heard ++ updates }
 
--- No selected route names the own router-id: a speaker stores no such update (profile).
-abbrev pub NamesOthers : Seen → Type 0
-NamesOthers s = (prefix : PrefixValue) (c : Selected) → s.selected_at prefix ≡ Some c → ¬ (c.router ≡ s.router)
-
 -- What happens among routers of others: an event of ours, or a node hears them.
 abbrev pub ForeignEvent : Type 0
 ForeignEvent = Event ⊎ HearEvent
 
-abbrev pub Occurs : List Config → ForeignEvent → ForeignWorld → ForeignWorld → Type 0
-Occurs configs (inl event) old new = Happens configs event old.ours new.ours × (new.heard ≡ old.heard)
+abbrev pub HappensAmong : List Config → ForeignEvent → ForeignWorld → ForeignWorld → Type 0
+HappensAmong configs (inl event) old new = Happens configs event old.ours new.ours × (new.heard ≡ old.heard)
 -- a datagram that is refused changes nothing
-Occurs configs (inr event) old new = Hears configs event old new ⊎ (new ≡ old)
-
--- It leads from one world to another, in which no speaker selects a route with its own router-id.
-pub record HappensAmong (configs : List Config) (event : ForeignEvent) (old new : ForeignWorld) : Type 0 where
-  pub occurs : Occurs configs event old new
-  pub others : (node : ℕ) → NamesOthers (speaker_at new.ours node)
+HappensAmong configs (inr event) old new = Hears configs event old new ⊎ (new ≡ old)
 
 -- The events happen one after the other, and these are the worlds after each of them.
 abbrev pub HappenAllAmong : List Config → List ForeignEvent → ForeignWorld → List ForeignWorld → Type 0

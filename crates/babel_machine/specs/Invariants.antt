@@ -7,7 +7,7 @@ use Rattle.babel_value.specs.declared.keys.Peer.{Peer}
 use Rattle.babel_value.specs.Prefixes.{PrefixValue}
 use Rattle.babel_value.specs.Seqnos.{seqno_modulus, lift}
 use Rattle.babel_state.specs.declared.configs.Config.{Config}
-use Rattle.babel_state.specs.Seen.{UpdateValue, HeardValue, IsSelecting}
+use Rattle.babel_state.specs.Seen.{UpdateValue, HeardValue, IsSelecting, NamesOthers}
 use Rattle.babel_machine.specs.declared.machine.pair.Pair.{Pair}
 use Rattle.babel_machine.specs.Machine.{IsBetterPair}
 use Rattle.babel_machine.specs.Sound.{IsSound}
@@ -52,6 +52,8 @@ pub record HoldsWith (is_heard : PrefixValue → Peer → HeardValue → Type 0)
   -- each of its finite routes came about so
   pub heard : (node : ℕ) (prefix : PrefixValue) (peer : Peer) (h : HeardValue) → (speaker_at w node).heard_at prefix peer ≡ Some h → is_heard prefix peer h
   pub selecting : (node : ℕ) → IsSelecting (speaker_at w node)
+  -- and none of them names the speaker's own router-id
+  pub others : (node : ℕ) → NamesOthers (speaker_at w node)
   -- each datagram was sent from an address of its node, and so were its next hops
   pub sources : All (λ (d : SentDatagram). owner_of configs d.source ≡ Some d.node) w.sent
   pub updates : (node : ℕ) (u : UpdateValue) → Contains (updates_of node w.sent) u → is_known node u

@@ -163,6 +163,7 @@ unmoved n node s peer net is = record {
   announces = λ prefix. refl;
   sources = λ _ prefix router. refl;
   entries = λ prefix from h at. inl at;
+  others = λ before. before;
   selecting = subst IsSelecting (speaker_seen n node s is) (net.sound.holds.selecting node);
 }
 

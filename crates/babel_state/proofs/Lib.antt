@@ -14,6 +14,7 @@ pub mod SelectableTicks
 pub mod SendingTables
 pub mod NewState
 pub mod WellFormed
+pub mod OwnRouters
 pub mod Moving
 pub mod DatagramsSent
 pub mod Meanings

@@ -33,12 +33,13 @@ use Rattle.babel_state.specs.SeqnoRequests.{raised}
 use Rattle.babel_state.specs.Messages.{handle_message, handle_content, after_places}
 use Rattle.babel_state.specs.Ticks.{requests_ticked, interfaces_ticked, sources_ticked, routes_selected, ticked}
 use Rattle.babel_state.specs.Calls.{cost_set, announced_also, withdrawn, select_and_advertise}
-use Rattle.babel_state.specs.Seen.{UpdateValue, HeardValue, update_of, updates_among, heard_at, seen, IsSelecting, IsHeardFrom, Moves}
+use Rattle.babel_state.specs.Seen.{UpdateValue, HeardValue, update_of, updates_among, heard_at, seen, IsSelecting, IsHeardFrom, NamesOthers, Moves}
 use Rattle.babel_state.specs.StepLaws.{settings_of, settings_in, OwnValue, own_of, KeepsOwn, GrowsOnce}
 use Rattle.babel_state.specs.Invariants.{IsWellFormed}
 use Rattle.babel_state.specs.SeenLaws.{AreEncodable, PlacesMove, TicksMove, CostsMove, AnnouncingMoves, WithdrawingMoves, RaisingMoves}
 use Rattle.babel_state.proofs.Keeping.{message_own, before_sources, raised_own}
 use Rattle.babel_state.proofs.Hearing.{messages_heard, ticks_heard}
+use Rattle.babel_state.proofs.OwnRouters.{message_others, none_heard}
 use Rattle.babel_state.proofs.SeeingLaws.{well_selecting}
 use Rattle.babel_state.proofs.WellFormed.{message_well, tick_well, cost_well, announced_well, withdrawn_well, raised_well}
 
@@ -80,9 +81,9 @@ record IsOwnMove (growths : ℕ) (announced : PrefixValue → Bool) (old new : S
 
 moves_from : (peer : Peer) (updates : List UpdateValue) (growths : ℕ) (announced : PrefixValue → Bool) (old new : State) → IsOwnMove growths announced old new →
     ((prefix : PrefixValue) (from : Peer) (h : HeardValue) → heard_at prefix from new ≡ Some h → (heard_at prefix from old ≡ Some h) ⊎ IsHeardFrom peer updates prefix from h) →
-    IsSelecting (seen new) → Moves peer updates growths announced (seen old) (seen new)
+    (NamesOthers (seen old) → NamesOthers (seen new)) → IsSelecting (seen new) → Moves peer updates growths announced (seen old) (seen new)
 unfolding seen
-moves_from peer updates growths announced old new own entries selecting = record {
+moves_from peer updates growths announced old new own entries others selecting = record {
   router = own.router;
   collects = own.collects;
   transports = own.transports;
@@ -92,8 +93,16 @@ moves_from peer updates growths announced old new own entries selecting = record
   announces = own.announces;
   sources = own.sources;
   entries = entries;
+  others = others;
   selecting = selecting;
 }
+
+-- with nothing heard
+moves_alone : (peer : Peer) (growths : ℕ) (announced : PrefixValue → Bool) (old new : State) → IsOwnMove growths announced old new →
+    ((prefix : PrefixValue) (from : Peer) (h : HeardValue) → heard_at prefix from new ≡ Some h → (heard_at prefix from old ≡ Some h) ⊎ IsHeardFrom peer [] prefix from h) →
+    IsSelecting (seen new) → Moves peer [] growths announced (seen old) (seen new)
+moves_alone peer growths announced old new own entries selecting =
+    moves_from peer [] growths announced old new own entries (none_heard peer old new own.router entries) selecting
 
 abbrev own_with : State → ℕ → ℕ → PrefixSet → OwnValue
 own_with s seqno raises announced = record {
@@ -155,15 +164,18 @@ message_moves now peer message s encodable well = by (message_own now peer messa
     heard : (prefix : PrefixValue) (from : Peer) (h : HeardValue) → heard_at prefix from new ≡ Some h → (heard_at prefix from s ≡ Some h) ⊎ IsHeardFrom peer (update_of message) prefix from h
     heard = (messages_heard now peer message s well.tables.routes.entries_in_order).1
 
+    others : NamesOthers (seen s) → NamesOthers (seen new)
+    others = message_others now peer message s well.tables.routes.entries_in_order
+
     selecting : IsSelecting (seen new)
     selecting = well_selecting new (message_well now peer message s encodable well)
 
     by : KeepsOwn s new ⊎ GrowsOnce s new → MovesBy peer (update_of message) s new
-    by (inl same) = (0, moves_from peer (update_of message) 0 (announced_in s) s new (kept_move s new well same) heard selecting)
-    by (inr same) = (1, moves_from peer (update_of message) 1 (announced_in s) s new (grown_move s new same) heard selecting)
+    by (inl same) = (0, moves_from peer (update_of message) 0 (announced_in s) s new (kept_move s new well same) heard others selecting)
+    by (inr same) = (1, moves_from peer (update_of message) 1 (announced_in s) s new (grown_move s new same) heard others selecting)
 
 stays : (peer : Peer) (s : State) → IsWellFormed s → MovesBy peer [] s s
-stays peer s well = (0, moves_from peer [] 0 (announced_in s) s s (kept_move s s well refl) (λ prefix from h is. inl is) (well_selecting s well))
+stays peer s well = (0, moves_alone peer 0 (announced_in s) s s (kept_move s s well refl) (λ prefix from h is. inl is) (well_selecting s well))
 
 seqno_twice : (n a b : ℕ) → ((n + a) % 65536 + b) % 65536 ≡ (n + (a + b)) % 65536
 seqno_twice n a b = omega arith
@@ -187,6 +199,7 @@ moves_then peer us vs r s t first second =
         announces = λ prefix. b.announces prefix ∙ a.announces prefix;
         sources = λ off prefix router. b.sources (a.collects ∙ off) prefix router ∙ a.sources off prefix router;
         entries = λ prefix from h is. heard prefix from h (b.entries prefix from h is) (λ there. a.entries prefix from h there);
+        others = λ before. b.others (a.others before);
         selecting = b.selecting;
       },
     )
@@ -224,7 +237,7 @@ places_move now peer (x ∷ xs) s encodable well = by x.content encodable (λ t 
 pub tick_moves : TicksMove
 unfolding ticked sources_ticked seen
 tick_moves now s well peer =
-    moves_from peer [] 0 (announced_in s) s (ticked now s) (by t.collects refl)
+    moves_alone peer 0 (announced_in s) s (ticked now s) (by t.collects refl)
     (λ prefix from h is. inl ((ticks_heard now s well.tables.routes.entries_in_order).1 prefix from h is)) (well_selecting (ticked now s) (tick_well now s well))
   where
     t : State
@@ -285,7 +298,7 @@ cost_moves iface cost s free well peer = by (cost_well iface cost s free well)
 
     by : IsWellFormed (cost_set iface cost s) → Moves peer [] 0 (announced_in s) (seen s) (seen (cost_set iface cost s))
     by after =
-        moves_from peer [] 0 (announced_in s) s (cost_set iface cost s) (own (interface_at iface s) refl) (heard (interface_at iface s)) (well_selecting (cost_set iface cost s) after)
+        moves_alone peer 0 (announced_in s) s (cost_set iface cost s) (own (interface_at iface s) refl) (heard (interface_at iface s)) (well_selecting (cost_set iface cost s) after)
 
 advertised_move : (prefix : PrefixValue) (announced : PrefixSet) (is : PrefixValue → Bool) (s : State) → IsWellFormed s → ((q : PrefixValue) → is_some (find prefix_cmp q announced) ≡ is q) →
     IsOwnMove 0 is s (select_and_advertise prefix (record s { announced = announced }))
@@ -337,7 +350,7 @@ announced_moves prefix s room well peer = by (announced_well prefix s room well)
 
     by : IsWellFormed (announced_also prefix s) → Moves peer [] 0 also (seen s) (seen (announced_also prefix s))
     by after =
-        moves_from peer [] 0 also s (announced_also prefix s) (there (announces prefix s) refl) (heard (announces prefix s)) (well_selecting (announced_also prefix s) after)
+        moves_alone peer 0 also s (announced_also prefix s) (there (announces prefix s) refl) (heard (announces prefix s)) (well_selecting (announced_also prefix s) after)
 
 pub withdrawn_moves : WithdrawingMoves
 unfolding withdrawn seen
@@ -352,7 +365,7 @@ withdrawn_moves prefix s well peer = by (withdrawn_well prefix s well)
 
     by : IsWellFormed (withdrawn prefix s) → Moves peer [] 0 less (seen s) (seen (withdrawn prefix s))
     by after =
-        moves_from peer [] 0 less s (withdrawn prefix s)
+        moves_alone peer 0 less s (withdrawn prefix s)
         (advertised_move prefix (without prefix_cmp prefix s.announced) less s well
         (λ q. ap is_some (find_with_value prefix_cmp prefix_total prefix_exact q prefix None s.announced) ∙ gone (eq_by_cmp prefix_cmp q prefix) (find prefix_cmp q s.announced)))
         (λ p from h is. inl is) (well_selecting (withdrawn prefix s) after)
@@ -360,4 +373,4 @@ withdrawn_moves prefix s well peer = by (withdrawn_well prefix s well)
 pub raised_moves : RaisingMoves
 unfolding seen
 raised_moves s well peer =
-    moves_from peer [] 1 (announced_in s) s (raised s) (grown_move s (raised s) (raised_own s)) (λ p from h is. inl is) (well_selecting (raised s) (raised_well s well))
+    moves_alone peer 1 (announced_in s) s (raised s) (grown_move s (raised s) (raised_own s)) (λ p from h is. inl is) (well_selecting (raised s) (raised_well s well))

@@ -29,7 +29,7 @@ use Rattle.babel_state.proofs.CurrentLaws.{timers_current, requests_current}
 
 -- ---- nothing to reselect
 
-same_router : (r : List ℕ) → eq_by_cmp octets_cmp r r ≡ true
+pub same_router : (r : List ℕ) → eq_by_cmp octets_cmp r r ≡ true
 same_router r = ap is_eq (tied_itself octets_total r)
 
 -- Nothing follows where the selection is the old one.

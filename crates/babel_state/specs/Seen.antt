@@ -101,6 +101,10 @@ pub record IsSelecting (s : Seen) : Type 0 where
   pub feasible : (prefix : PrefixValue) (c : Selected) → s.selected_at prefix ≡ Some c → is_feasible (s.source_at prefix c.router) c.distance ≡ true
   pub above : (prefix : PrefixValue) (c : Selected) → s.selected_at prefix ≡ Some c → (c.distance.metric < c.metric) × (c.metric < infinity)
 
+-- No finite route names the own router-id. The speaker's own updates come back to it, and it stores none of them (profile).
+abbrev pub NamesOthers : Seen → Type 0
+NamesOthers s = (prefix : PrefixValue) (from : Peer) (h : HeardValue) → s.heard_at prefix from ≡ Some h → ¬ (h.router ≡ s.router)
+
 -- ---- every call but `next_datagram`
 
 -- A route that is new was heard from the peer.
@@ -127,6 +131,8 @@ pub record Moves (peer : Peer) (updates : List UpdateValue) (growths : ℕ) (ann
   pub sources : old.collects ≡ false → (prefix : PrefixValue) (router : List ℕ) → new.source_at prefix router ≡ old.source_at prefix router
   pub entries : (prefix : PrefixValue) (from : Peer) (h : HeardValue) → new.heard_at prefix from ≡ Some h →
       (old.heard_at prefix from ≡ Some h) ⊎ IsHeardFrom peer updates prefix from h
+  -- no route with the own router-id comes in, whatever was heard
+  pub others : NamesOthers old → NamesOthers new
   pub selecting : IsSelecting new
 
 -- ---- `next_datagram`
