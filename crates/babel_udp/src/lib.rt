@@ -13,5 +13,7 @@ mod sockets;
 mod speaking;
 
 pub use errors::{SpeakCode, SpeakFault};
+pub use links::Links;
 pub use selections::{RouteLines, Selections};
+pub use sockets::UdpWire;
 pub use speaking::{SpeakOptions, speak, write_report};
