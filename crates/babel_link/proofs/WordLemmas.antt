@@ -1,5 +1,5 @@
 -- Marks in a word of bits: what shifts, masks and counts do to them.
-use Rattle.std.proofs.Common.{◌≡◌, ℕ, zero, suc, ◌+◌, ◌*◌, ◌/◌, ◌%◌, ◌^◌, ◌<◌, ◌≤◌, eqb, not, Bool, true, false, cond, List, ◌∷◌, take, refl, sym, ap, ◌∙◌, arith, add-one, bit_and, bit_or, lit<, lit≤}
+use Rattle.std.proofs.Common.{◌≡◌, ℕ, zero, suc, ◌+◌, ◌*◌, ◌/◌, ◌%◌, ◌^◌, ◌<◌, ◌≤◌, eqb, not, Bool, true, false, cond, List, ◌∷◌, take, length, refl, sym, ap, ◌∙◌, arith, add-one, bit_and, bit_or, lit<, lit≤}
 use Rattle.std.specs.Int.{from_bool}
 use Rattle.std.specs.Int.RustNames.{count_ones}
 use lib.Count.{ones_step}
@@ -9,8 +9,8 @@ use Rattle.std.proofs.lemmas.List.{take_all, take-take}
 use Rattle.std.proofs.lemmas.Bool.Decides.{nat_tests}
 use Rattle.std.proofs.lemmas.Nat.{or_shifted, and_mask, mod-pow-add, ones_le_self}
 use Rattle.babel_link.specs.Histories.{newest}
-use Rattle.babel_link.specs.Words.{marks_of}
-use Rattle.babel_link.specs.WordLaws.{length-marks_of, halved_fits}
+use Rattle.babel_link.specs.Words.{marks_of, word_of}
+use Rattle.babel_link.specs.WordLaws.{length-marks_of, halved_fits, word_of-marks_of}
 
 -- The first marks of a word are those of its lowest bits.
 pub take-marks_of : (k count bits : ℕ) → k ≤ count → take k (marks_of count bits) ≡ marks_of k bits
@@ -95,3 +95,10 @@ pushed_fits bits mark = omega (arith, shifted-or bits mark, from_bool_below mark
 -- Marks that were cut are cut again with the next one.
 pub newest_newest : (mark : Bool) (marks : List Bool) → newest (mark ∷ newest marks) ≡ newest (mark ∷ marks)
 newest_newest mark marks = ap (λ rest. mark ∷ rest) (take-take 15 16 marks (lit≤ tt))
+
+-- There are as many marks as are counted, and their word is the word.
+pub count_of_marks : (count bits : ℕ) → length (marks_of count bits) ≡ count
+count_of_marks count bits = length-marks_of count bits
+
+pub word_of_marks : (count bits : ℕ) → bits < 2 ^ count → word_of (marks_of count bits) ≡ bits
+word_of_marks count bits fits = word_of-marks_of count bits fits

@@ -1,7 +1,8 @@
 //! Hello histories (RFC 8966, appendix A.1).
 
-ghost use Rattle.std.specs.Prelude.{◌≡◌};
-ghost use Rattle.babel_link.specs.Histories.{first_marks, heard_marks, heard_verdict, missed_marks, is_up, has_received};
+ghost use Rattle.std.specs.Prelude.{◌≡◌, ◌≤◌, length};
+ghost use Rattle.babel_link.specs.Histories.{max_marks, first_marks, heard_marks, heard_verdict, missed_marks, is_up, has_received};
+ghost use Rattle.babel_link.specs.Words.{word_of};
 
 use crate::words::{NEAR, Word};
 use babel_value::Seqno;
@@ -79,6 +80,28 @@ impl Marks {
         ensures { result ≡ is_up self.now.marks }
     {
         self.word.is_up()
+    }
+
+    /// How many Hellos are remembered: each came or was missed.
+    pub fn count(&self) -> u8
+        ensures count { result ≡ length self.now.marks }
+        ensures few { result ≤ max_marks }
+    {
+        self.word.count()
+    }
+
+    /// Which of them came, as a word of bits: the lowest bit is the newest Hello, and a 1 is one that came.
+    pub fn bits(&self) -> u16
+        ensures { result ≡ word_of self.now.marks }
+    {
+        self.word.bits()
+    }
+
+    /// The sequence number of the Hello that is expected next.
+    pub fn expected(&self) -> Seqno
+        ensures { result ≡ self.now.expected }
+    {
+        self.expected
     }
 
     /// Whether one of the Hellos came.

@@ -1,7 +1,8 @@
 //! Marks as a word of bits.
 
-ghost use Rattle.std.specs.Prelude.{◌≡◌, ◌++◌, true, false, [], ◌∷◌, drop, replicate, nat_le, if◌then◌else◌};
-ghost use Rattle.babel_link.specs.Histories.{max_gap, newest, is_up, has_received};
+ghost use Rattle.std.specs.Prelude.{◌≡◌, ◌≤◌, ◌++◌, true, false, [], ◌∷◌, drop, length, replicate, nat_le, if◌then◌else◌};
+ghost use Rattle.babel_link.specs.Histories.{max_gap, max_marks, newest, is_up, has_received};
+ghost use Rattle.babel_link.specs.Words.{word_of};
 
 use std::marker::Model;
 
@@ -101,6 +102,23 @@ impl Word {
         ensures { result ≡ is_up self.now }
     {
         (self.bits & 0b111).count_ones() >= 2
+    }
+
+    /// How many marks there are.
+    #[tactic(auto, using(crate::proofs::WordLemmas::count_of_marks))]
+    pub(crate) fn count(&self) -> u8
+        ensures count { result ≡ length self.now }
+        ensures few { result ≤ max_marks }
+    {
+        self.count
+    }
+
+    /// The marks as a word: the lowest bit is the newest one.
+    #[tactic(auto, using(crate::proofs::WordLemmas::word_of_marks))]
+    pub(crate) fn bits(&self) -> u16
+        ensures { result ≡ word_of self.now }
+    {
+        self.bits
     }
 
     /// Whether one of them came.

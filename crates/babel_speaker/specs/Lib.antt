@@ -2,6 +2,7 @@ pub mod PendingItems
 pub mod Sending
 pub mod Versions
 pub mod Decodings
+pub mod Inspecting
 pub use Rattle.babel_calls.specs.Making
 pub use Rattle.babel_calls.specs.Deadlines
 pub use Rattle.babel_calls.specs.SentMessages

@@ -3,6 +3,7 @@
 #![tactic(auto)]
 
 mod decoded;
+mod inspecting;
 pub mod laws;
 mod messages;
 mod receiving;
@@ -17,5 +18,6 @@ pub use babel_parts::{
     Scratch,
 };
 pub use decoded::Decoded;
+pub use inspecting::Neighbour;
 pub use settled::SettledCore;
 pub use speaker::Speaker;

@@ -60,7 +60,7 @@ use std::marker::Model;
 #[derive(Drop)]
 pub struct Speaker {
     alloc: Global,
-    core: SettledCore,
+    pub(crate) core: SettledCore,
     scratch: Scratch,
     trail: Trail,
     // Each datagram is built here, so that its room isn't moved.

@@ -20,5 +20,7 @@ pub use counting::{Counts, LastKeep};
 pub use errors::{SpeakCode, SpeakFault};
 pub use keeping::{KeptWire, StartFault, open_kept};
 pub use kept_speaking::{KeptOptions, speak_kept};
+pub use links::Links;
 pub use selections::{RouteLines, Selections};
+pub use sockets::UdpWire;
 pub use speaking::{SpeakOptions, speak};

@@ -11,9 +11,9 @@ pub(crate) struct Link {
     pub(crate) peers: Vec<Addr>,
 }
 
-/// The interfaces, by their numbers.
+/// What the sockets need of the interfaces of a configuration, by their numbers.
 #[derive(Debug, Drop)]
-pub(crate) struct Links {
+pub struct Links {
     pub(crate) links: Vec<Link>,
 }
 
@@ -30,7 +30,11 @@ impl Link {
 
 impl Links {
     /// The links of the configuration's interfaces.
-    pub(crate) fn of(alloc: Global, config: &Config) -> Result<Links, AllocError> {
+    ///
+    /// # Errors
+    ///
+    /// An allocation failed.
+    pub fn of(alloc: Global, config: &Config) -> Result<Links, AllocError> {
         let mut links = Vec::new(alloc);
         for interface in &config.interfaces {
             links.push(Link::of(alloc, interface)?)?;

@@ -24,9 +24,11 @@ struct Port {
     peers: Vec<Addr>,
 }
 
-/// The sockets of a speaker, and its clock, which begins at 0.
+/// The sockets of a speaker, and its clock, which begins at 0. There is a socket for each interface, over UDP and IPv4.
+///
+/// It counts the calls that failed, up to 2^63: a speaker is driven over it as long as there were fewer.
 #[derive(Drop)]
-pub(crate) struct UdpWire<'a, R: Clock> {
+pub struct UdpWire<'a, R: Clock> {
     clock: &'a R,
     start: Instant,
     /// The moment that was returned last.
@@ -35,7 +37,8 @@ pub(crate) struct UdpWire<'a, R: Clock> {
     ports: Vec<Port>,
     /// The number of the socket that is asked first in the next turn, or one past the last.
     first: u8,
-    pub(crate) faults: u64,
+    /// How many calls of `recv` and `send` failed.
+    pub faults: u64,
 }
 
 impl<'a, R: Clock + Net> UdpWire<'a, R> {
@@ -44,7 +47,7 @@ impl<'a, R: Clock + Net> UdpWire<'a, R> {
     /// # Errors
     ///
     /// W1 if an interface has IPv6 transport, W2 if a socket can't be made, or L8.
-    pub(crate) fn bind(
+    pub fn bind(
         alloc: Global,
         rt: &'a R,
         links: Links,
@@ -102,8 +105,8 @@ fn centiseconds(time: Duration) -> u64 {
 }
 
 impl<R: Clock> UdpWire<'_, R> {
-    /// The moment that was asked last.
-    pub(crate) fn moment(&self) -> u64 {
+    /// The moment that was asked last, in centiseconds since the wire was made.
+    pub fn moment(&self) -> u64 {
         self.moment
     }
 

@@ -1,0 +1,29 @@
+//! Raibenku: a speaker of the Babel routing protocol (RFC 8966) for programs that embed one.
+//!
+//! This crate passes on what such a program needs, so that it has one dependency:
+//!
+//! - `Config` and `Interface` are the configuration, `read_config` reads it from TOML;
+//! - `Speaker` is the speaker: datagrams and moments in, datagrams and selected routes out;
+//! - `drive` gives it its turns over a `Wire`, and `drive_durable` keeps its snapshot as well;
+//! - `UdpWire` is a wire over UDP sockets;
+//! - `Addr`, `Prefix`, `Metric` and the others are the values that the calls take and return.
+#![tactic(auto)]
+
+pub use babel_choice::{Entry, Selection};
+pub use babel_config::{FileFault, read_config};
+pub use babel_durable::{
+    DurableDriver, DurableReport, DurableWire, Keeper, Observer, StoreFault, drive_durable,
+};
+pub use babel_link::{History, Link, Marks, Timer};
+pub use babel_speaker::{Neighbour, Speaker};
+pub use babel_state::{
+    Config, ConfigFault, Interface, InterfaceEntry, NotAnnounced, Note, PendingRequest, RecvFault,
+    Resend, RestoreFault, Selected, SetCostFault, Target, TooManyPrefixes, Verdict,
+};
+pub use babel_text::{parse_network, parse_prefix, parse_router_id};
+pub use babel_tlv::DATAGRAM_LEN;
+pub use babel_udp::UdpWire;
+pub use babel_value::{
+    Addr, Distance, Family, Memory, Metric, Peer, Prefix, RouterId, Seqno, Source,
+};
+pub use babel_wire::{Arrival, Report, Wire, WireFault, drive};
