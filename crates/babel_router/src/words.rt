@@ -107,7 +107,7 @@ where
         collect: file.collect,
     };
     let options = RunOptions {
-        devices,
+        devices: &*devices,
         settings,
         port: words.port,
         turns: words.turns,
@@ -115,7 +115,8 @@ where
         routes: words.routes,
         commands: words.commands,
     };
-    match run(rt, options, streams.input, streams.out, streams.err) {
+    let Streams { input, out, err } = streams;
+    match run(rt, options, input, out, err) {
         Ok(()) => Ok(()),
         Err(fault) => Err(WordsFault::Run(fault)),
     }
