@@ -106,12 +106,13 @@ where
         prefixes: &prefixes,
         collect: file.collect,
     };
+    let keep = words.keep;
     let options = RunOptions {
         devices: &*devices,
         settings,
         port: words.port,
         turns: words.turns,
-        keep: words.keep,
+        keep,
         routes: words.routes,
         commands: words.commands,
     };
