@@ -140,7 +140,7 @@ fn file_of<'a, R: AllocGlobal + Files>(
 
 fn read_path<R: AllocGlobal + Files>(rt: &R, path: &str) -> Result<RouterFile, FileFault> {
     let alloc = rt.alloc();
-    let file = fs::open(rt, path).map_err(FileFault::from)?;
+    let file = fs::open(rt, path)?;
     let octets = read_file(alloc, file)?;
     read_router_file(alloc, &octets)
 }
