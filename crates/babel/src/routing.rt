@@ -123,6 +123,7 @@ fn explain_run<E: Write>(
 
 /// The words of the arguments.
 fn words_of<'m>(arguments: &'m ArgMatches<'_>) -> RunWords<'m> {
+    let keep = kept(arguments);
     RunWords {
         devices: arguments.get_strs("device").unwrap_or(&[]),
         router_id: arguments.get_str("router-id"),
@@ -133,7 +134,7 @@ fn words_of<'m>(arguments: &'m ArgMatches<'_>) -> RunWords<'m> {
         config: arguments.get_str("config"),
         port: arguments.get_one::<u16>("port").unwrap_or(DEFAULT_PORT),
         turns: arguments.get_one::<u64>("turns").unwrap_or(u64::MAX),
-        keep: kept(arguments),
+        keep,
         routes: printed(arguments, "routes"),
         commands: printed(arguments, "ip"),
     }

@@ -75,9 +75,16 @@ where
     R::File: LockFile,
 {
     let mut devices = find_devices(rt.alloc(), rt, options.devices)?;
-    let mut options = options;
     // It stays if the device's address changes later.
-    options.settings.router_id = Some(options.settings.router_id_on(&devices));
+    let router_id = Some(options.settings.router_id_on(&devices));
+    let settings = Settings {
+        router_id,
+        ..options.settings
+    };
+    let options = RunOptions {
+        settings,
+        ..options
+    };
     let outputs = Outputs { out, err };
     run_on(rt, options, &mut devices, input, outputs)
 }
@@ -131,10 +138,15 @@ fn open_and_run<'a, 'r, R: Net + Clock + Files, I: Read + AsRawFd, W: Write, E: 
 where
     R::File: LockFile,
 {
-    open_links(&mut wire.wire, started.devices)?;
+    let Started { speaker, devices } = started;
+    let Outputs { out, err } = outputs;
+    open_links(&mut wire.wire, devices)?;
     let names = names_of(alloc, options.devices)?;
-    match Printer::new(alloc, options, &names, outputs.out, outputs.err) {
-        Ok(mut printer) => run_printed(alloc, options, started, wire, &mut printer),
+    match Printer::new(alloc, options, &names, out, err) {
+        Ok(mut printer) => {
+            let started = Started { speaker, devices };
+            run_printed(alloc, options, started, wire, &mut printer)
+        }
         Err(error) => Err(RunFault::from(error)),
     }
 }
@@ -149,13 +161,14 @@ fn run_printed<'a, 'r, R: Net + Clock + Files, I: Read + AsRawFd, W: Write, E: W
 where
     R::File: LockFile,
 {
+    let Started { speaker, devices } = started;
     let mut driver = DurableDriver::new(alloc, MAX_DATAGRAM_LEN)?;
     let mut router = Router {
         alloc,
         settings: options.settings,
-        speaker: started.speaker,
+        speaker,
         driver: &mut driver,
-        devices: started.devices,
+        devices,
     };
     router.take_turns(options.turns, wire, printer)
 }

@@ -49,9 +49,10 @@ enum Change {
 impl<'a> Tracked<'a> {
     /// A device that can be used.
     pub(crate) fn of(settings: DeviceSettings<'a>, device: Device) -> Tracked<'a> {
+        let address = device.address;
         Tracked {
             settings,
-            address: device.address,
+            address,
             state: Ok(device),
             was_down: false,
             has_failed: false,

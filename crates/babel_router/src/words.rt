@@ -106,16 +106,18 @@ where
         prefixes: &prefixes,
         collect: file.collect,
     };
+    let keep = words.keep;
     let options = RunOptions {
-        devices,
+        devices: &*devices,
         settings,
         port: words.port,
         turns: words.turns,
-        keep: words.keep,
+        keep,
         routes: words.routes,
         commands: words.commands,
     };
-    match run(rt, options, streams.input, streams.out, streams.err) {
+    let Streams { input, out, err } = streams;
+    match run(rt, options, input, out, err) {
         Ok(()) => Ok(()),
         Err(fault) => Err(WordsFault::Run(fault)),
     }
@@ -138,7 +140,7 @@ fn file_of<'a, R: AllocGlobal + Files>(
 
 fn read_path<R: AllocGlobal + Files>(rt: &R, path: &str) -> Result<RouterFile, FileFault> {
     let alloc = rt.alloc();
-    let file = fs::open(rt, path).map_err(FileFault::from)?;
+    let file = fs::open(rt, path)?;
     let octets = read_file(alloc, file)?;
     read_router_file(alloc, &octets)
 }

@@ -83,7 +83,7 @@ fn router_of(alloc: Global, file: &Table) -> Result<RouterFile, FileFault> {
         read_prefixes(items.as_slice(), &mut prefixes)?;
     }
     Ok(RouterFile {
-        router_id: text_at(file, "router-id").and_then(parse_router_id),
+        router_id: router_id_at(file, "router-id"),
         collect: matches!(file.get("collect"), Some(Value::Boolean(true))),
         prefixes,
         devices,
@@ -131,6 +131,10 @@ fn text_at<'t>(table: &'t Table, key: &str) -> Option<&'t str> {
         Some(value) => value.as_str(),
         None => None,
     }
+}
+
+fn router_id_at(table: &Table, key: &str) -> Option<[u8; 8]> {
+    parse_router_id(text_at(table, key)?)
 }
 
 fn number_at(table: &Table, key: &str) -> Option<u16> {
