@@ -11,32 +11,36 @@ _babel() {
         case "$last" in
         --source) compopt +o default 2>/dev/null; return ;;
         esac
-        if [[ $word == -* ]]; then COMPREPLY=($(compgen -W "--source --stdin --header --keep-going --details -h --help" -- "$word")); return; fi
+        if [[ $word == -* ]]; then COMPREPLY=($(compgen -W "--source --stdin --header --keep-going --short --json --details -h --help" -- "$word")); return; fi
         compopt +o default 2>/dev/null
         ;;
     check)
         case "$last" in
         --restore) COMPREPLY=(); return ;;
         esac
-        if [[ $word == -* ]]; then COMPREPLY=($(compgen -W "--restore --details -h --help" -- "$word")); return; fi
+        if [[ $word == -* ]]; then COMPREPLY=($(compgen -W "--restore --json --details -h --help" -- "$word")); return; fi
         COMPREPLY=()
         ;;
     replay)
         case "$last" in
+        --prefix) compopt +o default 2>/dev/null; return ;;
+        --until) compopt +o default 2>/dev/null; return ;;
+        --only) COMPREPLY=($(compgen -W "select out table refused ignored state ack-request ack hello ihu update retract retract-all route-request dump-request seqno-request V1 V2 V3 V4 V5 V6 V7 V8 V9 I1 I2 I3 I4 I5 I6 I7 I8 I9 I10 I11 I12 I13 S1 S2 S3 E1 E2 P1 P2 P3 P4 P5 P6" -- "$word")); return ;;
         esac
-        if [[ $word == -* ]]; then COMPREPLY=($(compgen -W "--details -h --help" -- "$word")); return; fi
+        if [[ $word == -* ]]; then COMPREPLY=($(compgen -W "--prefix --until --only --short --json --details -h --help" -- "$word")); return; fi
         COMPREPLY=()
         ;;
     explain)
         case "$last" in
+        --until) compopt +o default 2>/dev/null; return ;;
         esac
-        if [[ $word == -* ]]; then COMPREPLY=($(compgen -W "--details -h --help" -- "$word")); return; fi
+        if [[ $word == -* ]]; then COMPREPLY=($(compgen -W "--until --short --json --details -h --help" -- "$word")); return; fi
         COMPREPLY=()
         ;;
     net)
         case "$last" in
         esac
-        if [[ $word == -* ]]; then COMPREPLY=($(compgen -W "--details -h --help" -- "$word")); return; fi
+        if [[ $word == -* ]]; then COMPREPLY=($(compgen -W "--json --details -h --help" -- "$word")); return; fi
         COMPREPLY=()
         ;;
     speak)
