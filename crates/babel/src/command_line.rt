@@ -2,6 +2,10 @@
 
 use crate::arguments::{details_arg, flag, option, positional};
 use crate::details::{details_of, explain_absence, explain_fault, explain_output, warn};
+use crate::forms::{
+    Output, fault_form, files_of, form_of, json_arg, of_prefix_arg, only_arg, prefix_of,
+    report_details, short_arg, until_arg, until_of,
+};
 use crate::help;
 use crate::noting::NotingWriter;
 use crate::opening::{open_config_and_snapshot, restore_arg};
@@ -9,10 +13,11 @@ use crate::routing::run_router;
 use crate::routing_arguments::run_command as router_command;
 use crate::speaking::{run_speak, speak_command};
 use babel_commands::{
-    BadLines, Details, Fault, LineOptions, NamedLog, Status, report_fault, show_lines, try_check,
-    try_explain, try_net, try_replay, try_replay_explained, try_show, try_show_explained,
+    BadLines, Details, Fault, LineOptions, Log, SelectedLog, Status, report_fault, show_lines,
+    try_check, try_explain, try_net, try_replay, try_replay_selected, try_show, try_show_explained,
 };
 use babel_config::FileFault;
+use babel_json::{FaultWriter, FormWriter, LineFilter};
 use babel_snapshot_file::LockFile;
 use babel_text::LineFault;
 use clap::error::ErrorKind;
@@ -97,7 +102,7 @@ where
     F: AllocGlobal + Files + Net + Clock,
     F::File: LockFile,
 {
-    let out = NotingWriter::new(out);
+    let out = NotingWriter::new(FormWriter::new(rt.alloc(), out));
     let mut out = BufWriter::with_capacity(rt.alloc(), WRITE_LEN, out).map_err(
         LineFault::of_writing,
     )?;
@@ -108,7 +113,7 @@ fn run_command<'a, F, R: Read + AsRawFd + Drop, W: Write + Drop, E: Write + IsTe
     rt: &F,
     arguments: &'a [String],
     input: R,
-    out: &mut BufWriter<NotingWriter<W>>,
+    out: &mut Output<W>,
     err: &mut E,
 ) -> Result<Status, LineFault>
 where
@@ -117,7 +122,7 @@ where
 {
     let command: Command<'a> = command(rt.alloc())?;
     match command.try_get_matches_from(arguments) {
-        Ok(matches) => Ok(dispatch(rt, &matches, input, out, err)),
+        Ok(matches) => Ok(dispatch_in_form(rt, &matches, input, out, err)),
         Err(error) => write_usage(&error, out, err),
     }
 }
@@ -138,6 +143,33 @@ fn write_usage<W: Write, E: Write>(
     write!(out, "{error}").map_err(LineFault::of_writing)?;
     out.flush().map_err(LineFault::of_writing)?;
     Ok(Status::Done)
+}
+
+/// Runs the command in the form that its options ask for.
+fn dispatch_in_form<F, R: Read + AsRawFd + Drop, W: Write + Drop, E: Write + IsTerminal>(
+    rt: &F,
+    matches: &ArgMatches<'_>,
+    input: R,
+    out: &mut Output<W>,
+    err: &mut E,
+) -> Status
+where
+    F: AllocGlobal + Files + Net + Clock,
+    F::File: LockFile,
+{
+    let Some((command, arguments)) = matches.subcommand() else {
+        return Status::Usage;
+    };
+    out.get_mut()
+        .inner_mut()
+        .set_form(form_of(command, arguments));
+    let form = fault_form(command, arguments);
+    let files = files_of(arguments);
+    let mut err = FaultWriter::new(rt.alloc(), err, form, &files);
+    let status = dispatch(rt, matches, input, out, &mut err);
+    // If writing the object fails, the status still reports the fault.
+    let _ = err.finish();
+    status
 }
 
 /// Runs the command, and writes its fault. If people read it, a sentence follows.
@@ -262,7 +294,8 @@ fn show_input<R: Read + Drop, W: Write + Drop, E: Write + IsTerminal>(
     };
     let options = LineOptions {
         source: source_of(arguments),
-        header: arguments.get_flag("header"),
+        // The objects of a datagram name its line and its source.
+        header: arguments.get_flag("header") || arguments.get_flag("json"),
         bad_lines,
         details,
     };
@@ -289,14 +322,20 @@ fn run_replay<F: AllocGlobal + Files, W: Write, E: Write + IsTerminal>(
     out: &mut W,
     err: &mut E,
 ) -> Result<(), Fault> {
+    let prefix = prefix_of(arguments)?;
+    let filter = LineFilter::new(prefix, arguments.get_strs("only").unwrap_or(&[]));
+    let details = report_details(arguments, err);
     let (config, log) = open_config_and_log(rt, arguments)?;
-    match details_of(arguments, err) {
-        Details::Shown => {
-            let name = arguments.get_str("log").unwrap_or("");
-            try_replay_explained(rt.alloc(), config, NamedLog { name, log }, out, err)
-        }
-        Details::Hidden => try_replay(rt.alloc(), config, log, out),
+    if details == Details::Hidden && filter.keeps_all() {
+        return try_replay(rt.alloc(), config, log, out);
     }
+    let log = SelectedLog {
+        name: arguments.get_str("log").unwrap_or(""),
+        log,
+        filter: &filter,
+        details,
+    };
+    try_replay_selected(rt.alloc(), config, log, out, err)
 }
 
 fn run_explain<F: AllocGlobal + Files, W: Write>(
@@ -310,13 +349,24 @@ fn run_explain<F: AllocGlobal + Files, W: Write>(
 }
 
 /// Opens the files of `replay` and `explain`, in the order of the arguments.
-fn open_config_and_log<F: Files>(
+fn open_config_and_log<F: AllocGlobal + Files>(
     rt: &F,
     arguments: &ArgMatches<'_>,
-) -> Result<(F::File, F::File), FileFault> {
-    let config = fs::open(rt, arguments.get_str("config").unwrap_or(""))?;
-    let log = fs::open(rt, arguments.get_str("log").unwrap_or(""))?;
-    Ok((config, log))
+) -> Result<(F::File, Log<F::File>), Fault> {
+    let path = arguments.get_str("config").unwrap_or("");
+    let config = fs::open(rt, path).map_err(FileFault::from)?;
+    Ok((config, open_log(rt, arguments)?))
+}
+
+/// Opens the log, which may end early.
+fn open_log<F: AllocGlobal + Files>(
+    rt: &F,
+    arguments: &ArgMatches<'_>,
+) -> Result<Log<F::File>, Fault> {
+    let path = arguments.get_str("log").unwrap_or("");
+    let log = fs::open(rt, path).map_err(FileFault::from)?;
+    let log = Log::new(rt.alloc(), log, until_of(arguments)).map_err(LineFault::of_reading)?;
+    Ok(log)
 }
 
 fn run_net<F: AllocGlobal + Files, W: Write>(
@@ -399,6 +449,8 @@ fn show_command<'a>(alloc: Global) -> Result<Command<'a>, AllocError> {
         .arg(stdin_arg(alloc))?
         .arg(header_arg(alloc)?)?
         .arg(keep_going_arg(alloc)?)?
+        .arg(short_arg(alloc))?
+        .arg(json_arg(alloc))?
         .arg(details_arg(alloc))?
         .arg(hex_arg(alloc)?)
 }
@@ -431,6 +483,7 @@ fn check_command<'a>(alloc: Global) -> Result<Command<'a>, AllocError> {
         .after_help(help::CHECK)
         .arg(config_arg(alloc))?
         .arg(restore_arg(alloc))?
+        .arg(json_arg(alloc))?
         .arg(details_arg(alloc))
 }
 
@@ -440,6 +493,11 @@ fn replay_command<'a>(alloc: Global) -> Result<Command<'a>, AllocError> {
         .after_help(help::REPLAY)
         .arg(config_arg(alloc))?
         .arg(log_arg(alloc))?
+        .arg(of_prefix_arg(alloc))?
+        .arg(until_arg(alloc))?
+        .arg(only_arg(alloc))?
+        .arg(short_arg(alloc))?
+        .arg(json_arg(alloc))?
         .arg(details_arg(alloc))
 }
 
@@ -460,6 +518,9 @@ fn explain_command<'a>(alloc: Global) -> Result<Command<'a>, AllocError> {
         .arg(config_arg(alloc))?
         .arg(log_arg(alloc))?
         .arg(prefix_arg(alloc))?
+        .arg(until_arg(alloc))?
+        .arg(short_arg(alloc))?
+        .arg(json_arg(alloc))?
         .arg(details_arg(alloc))
 }
 
@@ -477,5 +538,6 @@ fn net_command<'a>(alloc: Global) -> Result<Command<'a>, AllocError> {
         .about("Runs a network of speakers, and shows its next hops")
         .after_help(help::NET)
         .arg(scenario_arg(alloc))?
+        .arg(json_arg(alloc))?
         .arg(details_arg(alloc))
 }

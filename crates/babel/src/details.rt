@@ -1,7 +1,8 @@
 //! The line with a sentence after the code of a fault.
 
 use crate::files::{FileFailure, MAX_TEXT_LEN, failure_of, log_line, octets_of, open_again};
-use babel_commands::{Absence, Details, Fault, absence_of};
+use crate::forms::until_of;
+use babel_commands::{Absence, Details, Fault, Log, absence_of};
 use babel_config::FileFault;
 use babel_file_details::{
     FileKind, FileText, explain_config, explain_event, explain_file, explain_network,
@@ -62,6 +63,9 @@ pub(crate) fn explain_absence<F: AllocGlobal + Files, E: Write>(
     let Some(log) = open_again(rt, name) else {
         return Ok(());
     };
+    let Ok(log) = Log::new(rt.alloc(), log, until_of(arguments)) else {
+        return Ok(());
+    };
     match absence_of(rt.alloc(), log, &prefix) {
         Ok(Absence::NeverNamed) => writeln!(err, "{name}: no Update names {prefix}"),
         Ok(Absence::OnlyIgnored(line, reason, count)) => {
@@ -95,11 +99,15 @@ pub(crate) fn explain_fault<F: AllocGlobal + Files, E: Write>(
 ) -> io::Result<()> {
     match fault {
         Fault::File(FileFault::Unreadable) => explain_unreadable(rt, command, arguments, err),
-        Fault::File(FileFault::Text) if command == "explain" && !has_prefix(arguments) => {
+        Fault::File(FileFault::Text) if has_bad_prefix(arguments) => {
+            let name = match command {
+                "replay" => "--prefix",
+                _ => "PREFIX",
+            };
             let prefix = babel_line_details::Excerpt(argument(arguments, "prefix"));
             writeln!(
                 err,
-                "PREFIX {prefix} is not a prefix, as 10.0.0.0/8 or 2001:db8::/32"
+                "{name} {prefix} is not a prefix, as 10.0.0.0/8 or 2001:db8::/32"
             )
         }
         Fault::SnapshotFile(fault) => explain_snapshot_file(rt, arguments, fault, err),
@@ -122,8 +130,12 @@ fn argument<'m>(arguments: &'m ArgMatches<'_>, id: &str) -> &'m str {
     }
 }
 
-fn has_prefix(arguments: &ArgMatches<'_>) -> bool {
-    parse_prefix(argument(arguments, "prefix")).is_some()
+/// Whether a prefix is given that isn't one.
+fn has_bad_prefix(arguments: &ArgMatches<'_>) -> bool {
+    match arguments.get_str("prefix") {
+        Some(text) => parse_prefix(text).is_none(),
+        None => false,
+    }
 }
 
 /// The argument that names the file of a configuration or a scenario.

@@ -20,8 +20,8 @@ Exit status:
   3  the script ./babel could not build the program";
 
 /// The usage of `show`: octets are an argument, or lines of the standard input.
-pub(crate) const SHOW_USAGE: &str = "babel show [--source ADDR] [--details] HEX
-       babel show [--source ADDR] [--details] --stdin [--header] [--keep-going]";
+pub(crate) const SHOW_USAGE: &str = "babel show [--source ADDR] [--short] [--json] [--details] HEX
+       babel show [OPTIONS] --stdin [--header] [--keep-going]";
 
 /// After the help of `show`.
 pub(crate) const SHOW: &str =
@@ -39,12 +39,17 @@ On a terminal, or with --details, a sentence for each code is on standard error,
 once: what it means, where it was first, and what to do. Standard output is the
 same.
 
+With --json each line is an object, and so is a fault on standard error, with
+its sentence. With --stdin each datagram has an object before its TLVs.
+docs/JSON.md has the keys.
+
 Examples:
   babel show 2a0200080406000000010190
     4 hello multicast seqno 1 interval 400
   babel show --source 192.168.0.1 2a02000d080b0100180206400005006002
     4 ignored I7
   tail -f datagrams.txt | babel show --stdin --header
+  babel show --json 2a0200080406000000010190 | jq .interval
 
 Units:
   Intervals are in centiseconds: interval 400 is 4 seconds. Metrics and rxcosts
@@ -85,8 +90,8 @@ pub(crate) const CHECK: &str =
     "Prints ok if a speaker can be made of the configuration. Else the first code
 that applies is on standard error. On a terminal, or with --details, a sentence
 follows it. It says where the fault is, and what is allowed. For a configuration
-that is ok there are warnings of what cannot work.
-
+that is ok there are warnings of what cannot work. With --json what is printed
+is an object, and each fault and warning too, with file, line and column.
 
 With --restore, a speaker is restored from the snapshot too, and ok is followed
 by what it restored:
@@ -196,6 +201,12 @@ On a terminal, or with --details, a sentence for each code is on standard error,
 once: the log and the line that has it first, what it means, and what to do.
 Standard output is the same.
 
+For long logs: --prefix and --only select lines of the report. A WORD is select,
+out, table, refused, ignored or state, the name of a message as update, or a
+code. Several are separated by commas. With both options a line must fit both.
+--until ends the log early, so the table is that of the moment. With --json each
+line is an object, and so is a fault on standard error (docs/JSON.md).
+
 Units:
   Times and intervals are in centiseconds: 100 is a second. Metrics and costs
   have no unit, and 65535 is infinity. Interfaces are numbered from 0, as the
@@ -208,6 +219,8 @@ Example, a file router.log (router.toml is that of babel check --help):
   babel replay router.toml router.log
     0 out 0 all 2
     10 4 hello multicast seqno 1 interval 400 V1
+  babel replay router.toml router.log --only out --until 9
+    0 out 0 all 2
 
 Exit status:
   0  the report is whole, also if it has refused datagrams
@@ -243,7 +256,7 @@ Codes of a refused line of the report:
   S3  an own address
 
 Codes of a fault, on standard error. F1 to F5 and C1 to C7: see babel check
---help.
+--help. F3 is also a --prefix that is none.
   L1  a line of another form, or    L5  a line of more than 131200 octets
       not UTF-8                     L6  reading failed
   L2  not a number, or too large    L7  writing failed
@@ -269,6 +282,9 @@ The verdict is the first of these that applies:
   unreachable   the metric is infinite, since the link is down
   selected      the route is used
   candidate     the route could be used, and another one is better
+
+With --until the log ends before the first line that is later. With --json each
+line is an object, and so is a fault on standard error (docs/JSON.md).
 
 Units:
   Metrics and costs have no unit, and 65535 is infinity.
@@ -351,7 +367,8 @@ datagrams:
   <event> hop <node> <prefix> -> none
   end <n> events <n> datagrams
 An event that is refused is the last line: <event> refused <code>. Nodes, events
-and datagrams count from 0. Moments are in centiseconds.
+and datagrams count from 0. Moments are in centiseconds. With --json each line
+is an object, and so is a fault on standard error (docs/JSON.md).
 
 Keys of the file, which is TOML of at most 1048576 octets:
   events      a list of texts [default: none]

@@ -8,6 +8,7 @@ mod arguments;
 mod command_line;
 mod details;
 mod files;
+mod forms;
 mod help;
 mod noting;
 mod opening;

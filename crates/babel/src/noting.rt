@@ -19,6 +19,11 @@ impl<W: Write + Drop> NotingWriter<W> {
         }
     }
 
+    /// The writer that it writes to.
+    pub(crate) fn inner_mut(&mut self) -> &mut W {
+        &mut self.inner
+    }
+
     /// Whether it took an octet.
     pub(crate) fn is_written(&self) -> bool {
         self.is_written

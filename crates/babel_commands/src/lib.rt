@@ -20,7 +20,8 @@ pub use checking::{check, try_check};
 pub use faults::{Fault, end, report_fault};
 pub use hops::{net, try_net};
 pub use reporting::{
-    Absence, NamedLog, absence_of, explain, replay, try_explain, try_replay, try_replay_explained,
+    Absence, Log, LogUntil, SelectedLog, absence_of, explain, replay, try_explain, try_replay,
+    try_replay_selected,
 };
 pub use showing::{
     BadLines, Details, LineCode, LineOptions, READ_LEN, Status, read_line, refuse, report, show,

@@ -3,10 +3,12 @@
 mod absence;
 mod explaining;
 mod log_places;
+mod log_until;
 mod replaying;
 mod sentences;
 mod sightings;
 
 pub use absence::{Absence, absence_of};
 pub use explaining::{explain, try_explain};
-pub use replaying::{NamedLog, replay, try_replay, try_replay_explained};
+pub use log_until::{Log, LogUntil};
+pub use replaying::{SelectedLog, replay, try_replay, try_replay_selected};

@@ -1,0 +1,72 @@
+# Made by tools/man-page from the help of the commands. Change that, not this file.
+_babel() {
+    local word=${COMP_WORDS[COMP_CWORD]} last=${COMP_WORDS[COMP_CWORD-1]}
+    COMPREPLY=()
+    if [ "$COMP_CWORD" -eq 1 ]; then
+        COMPREPLY=($(compgen -W "show check replay explain net speak run -h --help -V --version" -- "$word"))
+        return
+    fi
+    case "${COMP_WORDS[1]}" in
+    show)
+        case "$last" in
+        --source) compopt +o default 2>/dev/null; return ;;
+        esac
+        if [[ $word == -* ]]; then COMPREPLY=($(compgen -W "--source --stdin --header --keep-going --short --json --details -h --help" -- "$word")); return; fi
+        compopt +o default 2>/dev/null
+        ;;
+    check)
+        case "$last" in
+        --restore) COMPREPLY=(); return ;;
+        esac
+        if [[ $word == -* ]]; then COMPREPLY=($(compgen -W "--restore --json --details -h --help" -- "$word")); return; fi
+        COMPREPLY=()
+        ;;
+    replay)
+        case "$last" in
+        --prefix) compopt +o default 2>/dev/null; return ;;
+        --until) compopt +o default 2>/dev/null; return ;;
+        --only) COMPREPLY=($(compgen -W "select out table refused ignored state ack-request ack hello ihu update retract retract-all route-request dump-request seqno-request V1 V2 V3 V4 V5 V6 V7 V8 V9 I1 I2 I3 I4 I5 I6 I7 I8 I9 I10 I11 I12 I13 S1 S2 S3 E1 E2 P1 P2 P3 P4 P5 P6" -- "$word")); return ;;
+        esac
+        if [[ $word == -* ]]; then COMPREPLY=($(compgen -W "--prefix --until --only --short --json --details -h --help" -- "$word")); return; fi
+        COMPREPLY=()
+        ;;
+    explain)
+        case "$last" in
+        --until) compopt +o default 2>/dev/null; return ;;
+        esac
+        if [[ $word == -* ]]; then COMPREPLY=($(compgen -W "--until --short --json --details -h --help" -- "$word")); return; fi
+        COMPREPLY=()
+        ;;
+    net)
+        case "$last" in
+        esac
+        if [[ $word == -* ]]; then COMPREPLY=($(compgen -W "--json --details -h --help" -- "$word")); return; fi
+        COMPREPLY=()
+        ;;
+    speak)
+        case "$last" in
+        --turns) compopt +o default 2>/dev/null; return ;;
+        --port) compopt +o default 2>/dev/null; return ;;
+        --restore) COMPREPLY=(); return ;;
+        --save) COMPREPLY=(); return ;;
+        esac
+        if [[ $word == -* ]]; then COMPREPLY=($(compgen -W "--turns --port --routes --restore --save --details -h --help" -- "$word")); return; fi
+        COMPREPLY=()
+        ;;
+    run)
+        case "$last" in
+        --router-id) compopt +o default 2>/dev/null; return ;;
+        --announce) compopt +o default 2>/dev/null; return ;;
+        --ipv4) compopt +o default 2>/dev/null; return ;;
+        --cost) compopt +o default 2>/dev/null; return ;;
+        --hello) compopt +o default 2>/dev/null; return ;;
+        --port) compopt +o default 2>/dev/null; return ;;
+        --turns) compopt +o default 2>/dev/null; return ;;
+        --keep) COMPREPLY=(); return ;;
+        esac
+        if [[ $word == -* ]]; then COMPREPLY=($(compgen -W "--router-id --announce --ipv4 --cost --hello --port --turns --keep --new --routes --ip --details -h --help" -- "$word")); return; fi
+        COMPREPLY=($(compgen -W "$(ls /sys/class/net)" -- "$word"))
+        ;;
+    esac
+}
+complete -o default -F _babel babel

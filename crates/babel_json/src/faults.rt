@@ -1,0 +1,175 @@
+//! The writer through which the standard error goes.
+
+use crate::objects::Object;
+use crate::places::{Sentence, file_len};
+use crate::words::Words;
+use crate::writers::text_in;
+use std::alloc::Global;
+use std::io::{self, IsTerminal, Write};
+
+/// What a line with a code begins with.
+const NAME: &str = "babel: ";
+
+/// The form of what is written.
+#[derive(Clone, Copy, Debug, PartialEq, Eq)]
+pub enum FaultForm {
+    /// The text as it is.
+    AsWritten,
+    /// An object for each fault, with its sentence. Sentences without a fault are left out.
+    Faults,
+    /// The same, and an object for each sentence without a fault.
+    FaultsAndSentences,
+}
+
+/// A writer that takes codes with their sentences, and writes an object for each.
+#[derive(Drop)]
+pub struct FaultWriter<'a, 'b, E: Write + IsTerminal> {
+    alloc: Global,
+    inner: &'a mut E,
+    form: FaultForm,
+    /// The files that a sentence may begin with.
+    files: &'b [&'b str],
+    /// The part of a line that came.
+    line: Vec<u8>,
+    /// The code whose sentence has not come yet; empty if there is none.
+    code: Vec<u8>,
+}
+
+impl<'a, 'b, E: Write + IsTerminal> FaultWriter<'a, 'b, E> {
+    /// A writer in a form, with the files that a sentence may begin with.
+    pub fn new(
+        alloc: Global,
+        inner: &'a mut E,
+        form: FaultForm,
+        files: &'b [&'b str],
+    ) -> FaultWriter<'a, 'b, E> {
+        FaultWriter {
+            alloc,
+            inner,
+            form,
+            files,
+            line: Vec::new(alloc),
+            code: Vec::new(alloc),
+        }
+    }
+
+    /// Writes the object of a code that has no sentence.
+    pub fn finish(&mut self) -> io::Result<()> {
+        if self.code.is_empty() {
+            return Ok(());
+        }
+        let code = self.code.as_slice();
+        let made = fault_line(self.alloc, code, &code[..0], 0);
+        self.code.clear();
+        self.write_made(made)
+    }
+
+    fn take(&mut self, text: &[u8]) -> io::Result<()> {
+        let mut parts = text.split(|octet| *octet == b'\n');
+        if let Some(front) = parts.next() {
+            self.line.extend_from_slice(front)?;
+        }
+        for part in parts {
+            self.end_line()?;
+            self.line.clear();
+            self.line.extend_from_slice(part)?;
+        }
+        Ok(())
+    }
+
+    fn end_line(&mut self) -> io::Result<()> {
+        if self.line.starts_with(NAME.as_bytes()) {
+            self.finish()?;
+            return Ok(self.code.extend_from_slice(self.line.as_slice())?);
+        }
+        if self.code.is_empty() && self.form == FaultForm::Faults {
+            return Ok(());
+        }
+        let len = file_len(self.line.as_slice(), self.files);
+        let code = self.code.as_slice();
+        let made = fault_line(self.alloc, code, self.line.as_slice(), len);
+        self.code.clear();
+        self.write_made(made)
+    }
+
+    fn write_made(&mut self, made: io::Result<Vec<u8>>) -> io::Result<()> {
+        match made {
+            Ok(made) => self.inner.write_all(made.as_slice()),
+            Err(error) => Err(error),
+        }
+    }
+}
+
+/// The object of a code with its sentence, either of which may be empty. The sentence begins with the
+/// name of a file of so many octets.
+fn fault_line<'x>(
+    alloc: Global,
+    code: &'x [u8],
+    sentence: &'x [u8],
+    file_len: usize,
+) -> io::Result<Vec<u8>> {
+    let code = text_in(code)?;
+    let sentence = Sentence::read(text_in(sentence)?, file_len);
+    let object = match code.strip_prefix(NAME) {
+        Some(code) => fault_object(code, &sentence),
+        None => sentence_object(&sentence),
+    };
+    let mut line = Vec::new(alloc);
+    object.push_to(alloc, &mut line)?;
+    Ok(line)
+}
+
+/// The object of a code, which may have a line before it, and a number and a further code after it.
+fn fault_object<'a>(code: &'a str, sentence: &Sentence<'a>) -> Object<'a> {
+    let mut words = Words::new(code);
+    let line = if words.skip("line") {
+        words.optional_number()
+    } else {
+        None
+    };
+    let mut object = Object::new("error");
+    object.text("code", words.word().unwrap_or(""));
+    object.number_or_null("number", words.optional_number());
+    object.text_or_null("cause", words.word());
+    put_sentence(&mut object, sentence, line);
+    object
+}
+
+/// The object of a sentence without a code.
+fn sentence_object<'a>(sentence: &Sentence<'a>) -> Object<'a> {
+    let mut object = Object::new("detail");
+    put_sentence(&mut object, sentence, None);
+    object
+}
+
+fn put_sentence<'a>(object: &mut Object<'a>, sentence: &Sentence<'a>, line: Option<u64>) {
+    object.text_or_null("file", sentence.file);
+    object.number_or_null("line", sentence.line.or(line));
+    object.number_or_null("column", sentence.column);
+    if sentence.message.is_empty() {
+        object.null("message");
+    } else {
+        object.text("message", sentence.message);
+    }
+}
+
+impl<E: Write + IsTerminal> Write for FaultWriter<'_, '_, E> {
+    fn write(&mut self, buf: &[u8]) -> io::Result<usize> {
+        if self.form == FaultForm::AsWritten {
+            return self.inner.write(buf);
+        }
+        self.take(buf)?;
+        Ok(buf.len())
+    }
+
+    fn flush(&mut self) -> io::Result<()> {
+        self.inner.flush()
+    }
+}
+
+/// Sentences are wanted for objects as at a terminal.
+impl<E: Write + IsTerminal> IsTerminal for FaultWriter<'_, '_, E> {
+    fn is_terminal(&self) -> bool {
+        self.form != FaultForm::AsWritten || self.inner.is_terminal()
+    }
+}
