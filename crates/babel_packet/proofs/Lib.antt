@@ -12,3 +12,4 @@ pub mod CompressedSizes
 pub mod Octets
 pub mod Sendable
 pub mod FirstReasons
+pub mod Spreading

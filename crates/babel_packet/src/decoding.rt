@@ -5,7 +5,7 @@
 //! function: a value that goes through memory comes back wider than it was written, which stalls the
 //! processor (docs/PERFORMANCE.md).
 
-ghost use Rattle.std.specs.Prelude.{◌≡◌, ◌<◌, ◌+◌, ◌^◌, length, IfOk, IfErr, MatchOption, vec_len, vec_capacity};
+ghost use Rattle.std.specs.Prelude.{◌≡◌, ◌<◌, ◌+◌, ◌^◌, length, IfOk, IfErr, OnOk, OnErr, MatchOption, [], vec_len, vec_capacity};
 ghost use Rattle.babel_tlv.specs.Split.{places_of, fault_of};
 ghost use Rattle.babel_message.specs.Layout.{datagram_header_len};
 ghost use Rattle.babel_packet.specs.Contents.{put};
@@ -43,7 +43,30 @@ pub fn decode(alloc: Global, bytes: &[u8], source: Addr) -> Result<Vec<Placed>, 
     ensures refused { IfErr result (λ refusal. Refuses refusal (meaning bytes.now source)) }
 {
     let body = read_header(bytes)?;
-    read_body(alloc, body, source)
+    let Ok(mut placed) = Vec::with_capacity(alloc, body.len() / USUAL_TLV_LEN + 1) else {
+        return Err(out_of_memory(body));
+    };
+    read_body(body, source, &mut placed)?;
+    Ok(placed)
+}
+
+/// The same as [`decode`], into a list that the caller keeps. What was in the list before is gone; it is
+/// empty if the datagram is refused.
+///
+/// The list keeps its capacity, so that mostly no memory is allocated.
+#[tactic(auto, unfolding(crate::specs::Meaning::meaning))]
+pub fn decode_into(bytes: &[u8], source: Addr, placed: &mut Vec<Placed>) -> Result<(), Refusal>
+    ensures ok { OnOk result (meaning bytes.now source ≡ Ok placed.new.items) }
+    ensures refused { IfErr result (λ refusal. Refuses refusal (meaning bytes.now source)) }
+    ensures emptied { OnErr result (placed.new.items ≡ []) }
+{
+    placed.clear();
+    let body = read_header(bytes)?;
+    let read = read_body(body, source, placed);
+    if read.is_err() {
+        placed.clear();
+    }
+    read
 }
 
 /// The body of the datagram. The trailer, which follows it, isn't read.
@@ -68,26 +91,24 @@ fn read_header(bytes: &[u8]) -> Result<&[u8], Refusal>
     Ok(&bytes[header::LEN..end])
 }
 
-/// The places of the body, in one pass over it.
-fn read_body(alloc: Global, body: &[u8], source: Addr) -> Result<Vec<Placed>, Refusal>
-    requires { length body.now < 2 ^ 16 }
-    ensures ok { IfOk result (λ placed. body_meaning source (fault_of body.now) (places_of body.now) ≡ Ok placed.items) }
+/// Appends the places of the body to the empty list, in one pass over it.
+fn read_body(body: &[u8], source: Addr, placed: &mut Vec<Placed>) -> Result<(), Refusal>
+    requires small { length body.now < 2 ^ 16 }
+    requires empty { placed.old.items ≡ [] }
+    ensures ok { OnOk result (body_meaning source (fault_of body.now) (places_of body.now) ≡ Ok placed.new.items) }
     ensures refused { IfErr result (λ refusal. Refuses refusal (body_meaning source (fault_of body.now) (places_of body.now))) }
 {
     let mut state = ParserState::new(source);
     let mut tlvs = walk(body);
-    let Ok(mut placed) = Vec::with_capacity(alloc, body.len() / USUAL_TLV_LEN + 1) else {
-        return Err(out_of_memory(body));
-    };
     while let Some(tlv) = tlvs.next() {
         if placed.reserve(1).is_err() {
             return Err(out_of_memory(body));
         }
-        read_place(tlv, &mut state, &mut placed);
+        read_place(tlv, &mut state, placed);
     }
     match tlvs.fault() {
         Some(fault) => Err(Refusal::Tlv(header::LEN + fault.offset)),
-        None => Ok(placed),
+        None => Ok(()),
     }
 }
 

@@ -1,4 +1,5 @@
-//! What a Babel datagram means (RFC 8966, section 4), as one call: [`decode`].
+//! What a Babel datagram means (RFC 8966, section 4), as one call: [`decode`], or
+//! [`decode_into`] with a list that the caller keeps.
 //!
 //! Each module reads one kind of TLV and has its own definition in `specs/`. `decoding` walks over the
 //! datagram, and `parser_state` keeps what earlier TLVs set for later ones. The messages, the reasons and the
@@ -22,5 +23,5 @@ mod router_ids;
 mod tails;
 mod updates;
 
-pub use decoding::decode;
+pub use decoding::{decode, decode_into};
 pub use parser_state::ParserState;

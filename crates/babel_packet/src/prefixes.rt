@@ -1,6 +1,6 @@
 //! Prefixes in a payload (RFC 8966, sections 4.1.5 and 4.6.9).
 
-ghost use Rattle.std.specs.Prelude.{◌≡◌, ◌≤◌, ◌<◌, ◌+◌, ◌-◌, ◌*◌, ◌/◌, ◌%◌, ◌^◌, ℕ, length, map, slice_index, IsTrue};
+ghost use Rattle.std.specs.Prelude.{◌≡◌, ◌≤◌, ◌<◌, ◌+◌, ◌-◌, ◌*◌, ◌/◌, ◌%◌, ◌^◌, ◌++◌, ℕ, length, map, take, drop, slice_index, IsTrue};
 ghost use Rattle.std.specs.List.{range_with_len};
 ghost use Rattle.babel_value.specs.Prefixes.{cleared};
 ghost use Rattle.babel_message.specs.Layout as layout;
@@ -68,18 +68,45 @@ fn spread<const N: usize>(
     ensures zeros { (j : ℕ) → octets_of bits ≤ j → slice_index result j ≡ 0 }
 {
     let full = octets_of(bits);
-    let omitted = omitted as usize;
+    let kept = (omitted as usize).min(full);
+    let written = &payload[at..at + (full - kept)];
     let mut octets = [0; N];
-    for j in 0..N {
-        if j < full {
-            octets[j] = if j < omitted {
-                default[j]
-            } else {
-                payload[at + j - omitted]
-            };
-        }
-    }
+    put(&mut octets[..], &default[..], kept, written);
     octets
+}
+
+/// Writes the first `kept` octets of the default prefix, and then those that are written in the payload.
+#[inline(always)]
+fn put(octets: &mut [u8], default: &[u8], kept: usize, written: &[u8])
+    requires default { kept ≤ length default.now }
+    requires room { kept + length written.now ≤ length octets.old }
+    ensures octets { octets.new ≡ take kept default.now ++ (written.now ++ drop (kept + length written.now) octets.old) }
+    ensures default { kept ≤ length default.now }
+{
+    copy(&mut octets[..kept], &default[..kept]);
+    copy(&mut octets[kept..kept + written.len()], written);
+}
+
+/// Copies octets. The usual numbers of octets are known to the compiler in their arms, so that it makes a move
+/// of each and no call.
+#[inline(always)]
+fn copy(to: &mut [u8], from: &[u8])
+    requires { length to.old ≡ length from.now }
+    ensures { to.new ≡ from.now }
+{
+    match from.len() {
+        0 => {}
+        1 => to.copy_from_slice(from),
+        2 => to.copy_from_slice(from),
+        3 => to.copy_from_slice(from),
+        4 => to.copy_from_slice(from),
+        5 => to.copy_from_slice(from),
+        6 => to.copy_from_slice(from),
+        7 => to.copy_from_slice(from),
+        8 => to.copy_from_slice(from),
+        16 => to.copy_from_slice(from),
+        _ => to.copy_from_slice(from),
+    }
 }
 
 /// Clears the bits past the length, which are in one octet alone.

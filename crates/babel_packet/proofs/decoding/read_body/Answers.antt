@@ -7,7 +7,7 @@ use Rattle.babel_packet.proofs.decoding.read_body.Goals as goal
 
 pub returns-in-None-clause-ok : goal.returns-in-None-clause-ok
 returns-in-None-clause-ok c =
-    let last = c.in_default-next.ensures.steps in
+    let last = c.in_default.ensures.steps in
     let placed_of = rw last.gives.0 at c.loop-tlv.invariant.placed_of in
     let ended : fault_reached c.next.new.self ≡ None = sym c.in-None.ensures.value in
     let reached : c.next.new.self.fault ≡ None = rw last.gives.1 at ended in
