@@ -1,5 +1,5 @@
 -- What an event makes of a network (profile).
-use Rattle.std.specs.Prelude.{◌≡◌, ◌<◌, ℕ, List, slice_get, Option, Some, None, Ok}
+use Rattle.std.specs.Prelude.{◌≡◌, ℕ, List, slice_get, Option, Some, None, Ok}
 use Rattle.babel_packet.specs.BodyMeanings.{Means}
 use Rattle.babel_packet.specs.Meaning.{meaning}
 use Rattle.babel_message.specs.declared.placements.Placed.{Placed}
@@ -36,10 +36,6 @@ pub record MakesCall (node : ℕ) (event : Event) (old new : NetworkState) : Typ
   pub is : slice_get old.speakers node ≡ Some speaker
   pub next : new ≡ with_speaker_state old node (step_of event speaker)
 
--- Until the moment a tick changes nothing of the speaker.
-abbrev pub IsIdleBefore : ℕ → State → Type 0
-IsIdleBefore due s = (now : ℕ) → now < due → ticked now s ≡ s
-
 -- ---- a datagram that is sent
 
 -- The node's next datagram.
@@ -73,10 +69,6 @@ pub record MakesEmit (node now : ℕ) (old new : NetworkState) : Type 0 where
   pub sent : Option SentOctets
   pub is_sent : IsSent node speaker (next_of now speaker) (next_of now speaker).target sent
   pub next : new ≡ recorded (with_speaker_state old node (next_of now speaker).state) sent
-
--- Where the datagram goes that the node sends at the moment. None: it has nothing to send.
-abbrev pub IsTargetOf : ℕ → ℕ → NetworkState → Option Target → Type 0
-IsTargetOf node now n target = (speaker : State) → slice_get n.speakers node ≡ Some speaker → target ≡ (next_of now speaker).target
 
 -- ---- a datagram that is delivered
 

@@ -18,7 +18,7 @@ use crate::sent::Sent;
 use arrayvec::ArrayVec;
 use babel_machine::{Event, StepFault};
 use babel_state::laws::{datagrams_send, items_mean_messages};
-use babel_state::{Config, ConfigFault, RecvFault, RestoreFault, SetCostFault, Target};
+use babel_state::{Config, ConfigFault, RecvFault, RestoreFault, SetCostFault};
 use babel_tlv::DATAGRAM_LEN;
 use babel_value::{Addr, Prefix};
 use std::alloc::Global;
@@ -126,24 +126,23 @@ fn withdraw(speaker: &mut NodeSpeaker, config: &Config, prefix: Prefix) -> Resul
     }
 }
 
-/// The target and the source address of the next datagram of a node's speaker, if there is one. Its octets are
-/// written to `octets`, in place of what was there.
+/// The source address of the next datagram of a node's speaker, if there is one. Its octets are written to
+/// `octets`, in place of what was there.
 pub(crate) fn send(
     speaker: &mut NodeSpeaker,
     node: usize,
     now: u64,
     octets: &mut ArrayVec<u8, DATAGRAM_LEN>,
-) -> Option<(Target, Addr)>
+) -> Option<Addr>
     requires { IsWellFormed speaker.old }
     ensures state { speaker.new ≡ (next_of now speaker.old).state }
-    ensures target { option_map (λ sent. sent.0) result ≡ (next_of now speaker.old).target }
-    ensures sent { IsSent node speaker.old (next_of now speaker.old) (next_of now speaker.old).target (option_map (λ sent. record { node = node; source = sent.1; octets = octets.new.items }) result) }
+    ensures sent { IsSent node speaker.old (next_of now speaker.old) (next_of now speaker.old).target (option_map (λ source. record { node = node; source = source; octets = octets.new.items }) result) }
 {
     datagrams_send();
     items_mean_messages();
     let target = speaker.next_datagram(now, octets)?;
     match speaker.transport(target.iface) {
-        Some(source) => Some((target, source)),
+        Some(source) => Some(source),
         None => unreachable!(),
     }
 }

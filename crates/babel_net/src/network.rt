@@ -21,7 +21,7 @@ use babel_machine::laws::{
     events_are_machine_runs, next_hops_are_picks, sound_networks_have_no_loop,
 };
 use babel_machine::{Event, NetFault, StepFault};
-use babel_state::{Config, Selected, Target};
+use babel_state::{Config, Selected};
 use babel_value::{Addr, Memory, Prefix, RouterId};
 use std::alloc::Global;
 use std::marker::Model;
@@ -55,8 +55,7 @@ impl Network {
     ghost use Rattle.babel_net.specs.Making.{IsMakingFault};
     ghost use Rattle.babel_net.specs.Networks.{world_of};
     ghost use Rattle.babel_net.specs.Promises.{first_network, HasNoLoop, HasNoLoopWithOneOrigin, Runs, IsNextHop, Ran, StopsAt};
-    ghost use Rattle.babel_net.specs.Steps.{Makes, IsTargetOf, IsIdleBefore};
-    ghost use Rattle.babel_machine.specs.declared.events.Event.TheVariants as Event;
+    ghost use Rattle.babel_net.specs.Steps.{Makes};
 
     /// A network of new speakers, one for each configuration in order.
     ///
@@ -113,31 +112,6 @@ impl Network {
         events_are_machine_runs();
         sound_networks_have_no_loop();
         self.nodes.step(event)
-    }
-
-    /// Makes the step of `Event::Emit`, as [`Network::step`] does, and returns the target of the datagram that it
-    /// recorded: the number of the sender's interface, and the one address that it is for, if it isn't for all on the
-    /// link. `None`: the node has nothing to send, and nothing is recorded.
-    ///
-    /// # Errors
-    ///
-    /// N1; or N6 if an allocation fails.
-    pub fn emit(&mut self, node: usize, now: u64) -> Result<Option<Target>, StepFault>
-        ensures event { OnOk result (Makes (Event.Emit node now) self.old self.new) }
-        // the target is that of the speaker's next datagram
-        ensures target { IfOk result (IsTargetOf node now self.old) }
-        ensures accepted { OnOk result (step_fault (Event.Emit node now) self.old ≡ None) }
-        ensures refused { IfErr result (IsStepFault (step_fault (Event.Emit node now) self.old) (Event.Emit node now) self.old) }
-        ensures err { OnErr result (self.new ≡ self.old) }
-        ensures invariant { IsNetwork self.new }
-        ensures run { OnOk result (Runs self.old self.new) }
-        ensures no_loop { HasNoLoop self.new }
-        ensures one_origin { HasNoLoopWithOneOrigin self.new }
-    {
-        networks_go_on();
-        events_are_machine_runs();
-        sound_networks_have_no_loop();
-        self.nodes.emit(node, now)
     }
 
     /// Makes the steps of some events, up to the first that is refused.
@@ -204,16 +178,6 @@ impl Network {
         ensures { result ≡ option_map (λ (s : State). s.raises) (slice_get self.now.speakers node) }
     {
         self.nodes.raises(node)
-    }
-
-    /// The moment before which a tick of the node changes nothing, as
-    /// [`Speaker::next_due`](babel_speaker::Speaker::next_due): 0 if it has something to send, `u64::MAX` if nothing is due.
-    /// `None` if there is no such node.
-    pub fn next_due(&self, node: usize) -> Option<u64>
-        ensures some { is_some result ≡ is_some (slice_get self.now.speakers node) }
-        ensures idle { IfSome result (λ due. IfSome (slice_get self.now.speakers node) (IsIdleBefore due)) }
-    {
-        self.nodes.next_due(node)
     }
 
     /// A count of the node's speaker, which grows whenever a selected route of the node may be reported otherwise, as

@@ -1,6 +1,6 @@
 //! The speaker of a node, of which a network sees the state.
 
-ghost use Rattle.std.specs.Prelude.{◌≡◌, ◌<◌, ◌↔◌, true, false, Some, slice_get, IsOk, IsErr, IsNone, IfOk, IfErr, IfSome, OnOk, OnErr};
+ghost use Rattle.std.specs.Prelude.{◌≡◌, ◌↔◌, true, false, Some, slice_get, IsOk, IsErr, IsNone, IfOk, IfErr, IfSome, OnOk, OnErr};
 ghost use Rattle.babel_packet.specs.Meaning.{meaning};
 ghost use Rattle.babel_state.specs.Addresses.{source_fault, transport_at};
 ghost use Rattle.babel_state.specs.Calls.{set_cost_fault, cost_set, first_state, is_prefix_too_many, announced_also, withdrawn, selected_route};
@@ -166,12 +166,6 @@ impl NodeSpeaker {
         ensures { result ≡ self.now.raises }
     {
         self.speaker.raises()
-    }
-
-    pub(crate) fn next_due(&self) -> u64
-        ensures { (now : ℕ) → now < result → ticked now self.now ≡ self.now }
-    {
-        self.speaker.next_due()
     }
 
     pub(crate) fn routes_version(&self) -> u64 {

@@ -11,15 +11,14 @@ ghost use Rattle.babel_net.specs.EventRefusals.{deliver_fault, step_fault, IsFau
 ghost use Rattle.babel_net.specs.Invariants.{IsNetwork};
 ghost use Rattle.babel_net.specs.Making.{IsOutOfMemory};
 ghost use Rattle.babel_net.specs.Promises.{first_network};
-ghost use Rattle.babel_net.specs.Steps.{Makes, MakesEmit, MakesDeliver, MakesRestart, IsTargetOf, IsIdleBefore};
-ghost use Rattle.babel_machine.specs.declared.events.Event.TheVariants as Event;
+ghost use Rattle.babel_net.specs.Steps.{Makes, MakesEmit, MakesDeliver, MakesRestart};
 
 use crate::calls::{call, node_of, receive, restart};
 use crate::node_speakers::NodeSpeaker;
 use crate::sent::Record;
 use babel_choice::Selection;
 use babel_machine::{Event, NetFault, StepFault};
-use babel_state::{Config, Selected, Target};
+use babel_state::{Config, Selected};
 use babel_value::{Addr, Memory, Prefix};
 use std::alloc::Global;
 use std::marker::Model;
@@ -82,7 +81,7 @@ impl Nodes {
             return Err(StepFault::NoNode);
         }
         match *event {
-            Event::Emit { now, .. } => self.record(node, now),
+            Event::Emit { now, .. } => self.emit(node, now),
             Event::Deliver {
                 datagram,
                 iface,
@@ -94,46 +93,18 @@ impl Nodes {
         }
     }
 
-    /// Makes the step of `Event::Emit`, and returns the target of the datagram, if there is one.
-    #[tactic(auto, unfolding(crate::specs::EventRefusals::step_fault))]
-    pub fn emit(&mut self, node: usize, now: u64) -> Result<Option<Target>, StepFault>
-        requires { IsNetwork self.old }
-        ensures ok { OnOk result (MakesEmit node now self.old self.new) }
-        ensures target { IfOk result (IsTargetOf node now self.old) }
-        ensures accepted { OnOk result (step_fault (Event.Emit node now) self.old ≡ None) }
-        ensures refused { IfErr result (IsStepFault (step_fault (Event.Emit node now) self.old) (Event.Emit node now) self.old) }
-        ensures err { OnErr result (self.new ≡ self.old) }
-    {
-        if node >= self.speakers.len() {
-            return Err(StepFault::NoNode);
-        }
-        self.record_next(node, now)
-    }
-
     /// The node's next datagram is recorded, if there is one.
-    fn record(&mut self, node: usize, now: u64) -> Result<(), StepFault>
+    fn emit(&mut self, node: usize, now: u64) -> Result<(), StepFault>
         requires inside { node < length self.old.speakers }
         requires sound { IsNetwork self.old }
         ensures ok { OnOk result (MakesEmit node now self.old self.new) }
         ensures refused { IfErr result (λ fault. fault ≡ StepFault.Memory) }
         ensures err { OnErr result (self.new ≡ self.old) }
     {
-        match self.record_next(node, now) {
-            Ok(_) => Ok(()),
+        match self.sent.record_next(&mut self.speakers[node], node, now) {
+            Ok(()) => Ok(()),
             Err(fault) => Err(fault),
         }
-    }
-
-    /// The node's next datagram is recorded, if there is one. Its target is returned.
-    fn record_next(&mut self, node: usize, now: u64) -> Result<Option<Target>, StepFault>
-        requires inside { node < length self.old.speakers }
-        requires sound { IsNetwork self.old }
-        ensures ok { OnOk result (MakesEmit node now self.old self.new) }
-        ensures target { IfOk result (IsTargetOf node now self.old) }
-        ensures refused { IfErr result (λ fault. fault ≡ StepFault.Memory) }
-        ensures err { OnErr result (self.new ≡ self.old) }
-    {
-        self.sent.record_next(&mut self.speakers[node], node, now)
     }
 
     /// The node receives the recorded datagram.
@@ -197,17 +168,6 @@ impl Nodes {
     {
         match self.speakers.get(node) {
             Some(speaker) => Some(speaker.raises()),
-            None => None,
-        }
-    }
-
-    /// The moment before which a tick of the node changes nothing; `None` if there is no such node.
-    pub fn next_due(&self, node: usize) -> Option<u64>
-        ensures some { is_some result ≡ is_some (slice_get self.now.speakers node) }
-        ensures idle { IfSome result (λ due. IfSome (slice_get self.now.speakers node) (IsIdleBefore due)) }
-    {
-        match self.speakers.get(node) {
-            Some(speaker) => Some(speaker.next_due()),
             None => None,
         }
     }

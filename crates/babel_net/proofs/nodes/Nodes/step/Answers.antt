@@ -23,7 +23,7 @@ returns-in-Emit-clause-accepted c =
     let n = c.args.self.now in
     let here : node_of c.args.event.now < length c.self.inside.speakers.items = omega (arith, c.self.inside.speakers.ok.0) in
     let inside : node_of c.args.event.now < length n.speakers = subst (λ (m : NetworkState). node_of c.args.event.now < length m.speakers) c.self.view_is here in
-    emit_accepted c.record.result c.args.event.now c.in-Emit.node c.in-Emit.now n c.requires c.in-Emit.is inside
+    emit_accepted c.emit.result c.args.event.now c.in-Emit.node c.in-Emit.now n c.requires c.in-Emit.is inside
 
 pub returns-in-Restart-clause-accepted : goal.returns-in-Restart-clause-accepted
 returns-in-Restart-clause-accepted c =
