@@ -24,6 +24,8 @@ pub(crate) struct Tracked<'a> {
     has_failed: bool,
     /// The IPv4 address that the launcher reported last.
     ipv4: Option<Ipv4Network>,
+    /// Whether the launcher reported anything since that was asked last.
+    has_report: bool,
 }
 
 /// What has to be done for a device that was looked at.
@@ -57,7 +59,15 @@ impl<'a> Tracked<'a> {
             was_down: false,
             has_failed: false,
             ipv4: settings.ipv4,
+            has_report: false,
         }
+    }
+
+    /// Whether the launcher reported anything of it since this was asked last.
+    pub(crate) fn take_report(&mut self) -> bool {
+        let has_report = self.has_report;
+        self.has_report = false;
+        has_report
     }
 
     /// The device, if it could be used when it was seen last.
@@ -110,6 +120,7 @@ impl<'a> Tracked<'a> {
     }
 
     fn note(&mut self, change: Change) {
+        self.has_report = true;
         match change {
             Change::Down => self.was_down = true,
             Change::Up(ipv4) => self.ipv4 = ipv4,

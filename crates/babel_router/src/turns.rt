@@ -122,6 +122,9 @@ impl Router<'_, '_> {
             for (number, device) in self.devices.iter_mut().enumerate() {
                 let step = device.look(&lists);
                 take_step(number, device, step, &mut wire.wire, printer);
+                if device.take_report() {
+                    printer.forget(number);
+                }
             }
         }
         wire.wire.note_look();
