@@ -40,7 +40,8 @@ def find_program():
 
 def output_of(program, *words):
     """What the program prints, on standard output or else on standard error."""
-    ran = subprocess.run([program, *words], stdout=subprocess.PIPE, stderr=subprocess.PIPE, stdin=subprocess.DEVNULL, text=True)
+    # The usage has the name by which the program is called.
+    ran = subprocess.run(["babel", *words], executable=program, stdout=subprocess.PIPE, stderr=subprocess.PIPE, stdin=subprocess.DEVNULL, text=True)
     return ran.stdout or ran.stderr
 
 

@@ -78,8 +78,7 @@ impl<L: Read + Drop> LogUntil<L> {
         if self.state == State::End {
             return Ok(());
         }
-        let mut front = Read::take(&mut self.log, PART_LEN);
-        front.read_until(b'\n', &mut self.part)?;
+        read_front(&mut self.log, &mut self.part)?;
         if self.state == State::Line && is_later(self.part.as_slice(), self.until) {
             self.part.clear();
             self.state = State::End;
@@ -91,6 +90,13 @@ impl<L: Read + Drop> LogUntil<L> {
         };
         Ok(())
     }
+}
+
+/// Reads the front of a line with its line feed, which is at most so long.
+fn read_front<R: BufRead>(log: &mut R, part: &mut Vec<u8>) -> io::Result<()> {
+    let mut front = Read::take(&mut *log, PART_LEN);
+    front.read_until(b'\n', part)?;
+    Ok(())
 }
 
 /// Whether the line's time is later.
