@@ -328,12 +328,23 @@ def make_snapshot(chance, router):
 
 # The costliest datagrams, for a speaker with two neighbours, 128 prefixes and 256 routes.
 COSTLY_PREFIXES = [bytes([10, number // 100, number % 100]) for number in range(128)]
+ALL_PREFIXES = [bytes([10, number // 100, number % 100]) for number in range(256)]
 COSTLY_CONFIG = """router-id = "0000000000000002"
 
 [[interface]]
 transport = "ipv4"
 ipv4 = "192.168.0.2/24"
 """ + "".join(f'\n[[interface]]\ntransport = "ipv4"\nipv4 = "10.9.{number}.2/24"\n' for number in range(7))
+
+
+RETRACT_ALL_TLV = b"\x08\x0a\0\0\0\0\x06\x40\0\0\xff\xff"
+
+
+def router_tlv(number):
+    return b"\x06\x0a\0\0" + bytes(7) + bytes([number])
+
+
+ROUTER_TLV = router_tlv(1)
 
 
 def hello_tlv(seqno):
@@ -350,24 +361,45 @@ def update_tlv(prefix, seqno, metric):
 
 def costly_log():
     """Both neighbours with a route to each prefix."""
-    router = b"\x06\x0a\0\0" + bytes(7) + b"\x01"
-    routes = router + b"".join(update_tlv(prefix, 0, 0) for prefix in COSTLY_PREFIXES)
-    bodies = [hello_tlv(0) + hello_tlv(1) + ihu_tlv(96), routes]
-    return "".join(f"0 in 0 192.168.0.{host} {with_header(body).hex()}\n" for body in bodies for host in (1, 3))
+    routes = ROUTER_TLV + b"".join(update_tlv(prefix, 0, 0) for prefix in COSTLY_PREFIXES)
+    return costly_lines((1, 3), [hello_tlv(0) + hello_tlv(1) + ihu_tlv(96), routes])
+
+
+def costly_log_of_one():
+    """One neighbour with a route to each of 256 prefixes: without its link there is none."""
+    hellos = hello_tlv(0) + hello_tlv(1) + ihu_tlv(96)
+    return costly_lines((1,), [hellos, *(ROUTER_TLV + b"".join(update_tlv(prefix, 0, 0) for prefix in part) for part in (ALL_PREFIXES[:128], ALL_PREFIXES[128:]))])
+
+
+def costly_lines(hosts, bodies):
+    return "".join(f"0 in 0 192.168.0.{host} {with_header(body).hex()}\n" for body in bodies for host in hosts)
 
 
 def costly_datagrams():
-    """Datagrams of 64 KiB by what is in them."""
-    router = b"\x06\x0a\0\0" + bytes(7) + b"\x01"
+    """Datagrams of 64 KiB by what is in them, for a speaker with two neighbours."""
     return {
         "no TLV": b"",
         "8,191 Hellos": b"".join(hello_tlv(number + 2) for number in range(8_191)),
         "8,191 Hellos that flush": b"".join(hello_tlv(1_000 * number) for number in range(8_191)),
         "8,191 IHUs that change the cost": b"".join(ihu_tlv(96 + number % 2) for number in range(8_191)),
-        "5,460 retractions of all routes": b"\x08\x0a\0\0\0\0\x06\x40\0\0\xff\xff" * 5_460,
-        "4,360 Updates": router + b"".join(update_tlv(COSTLY_PREFIXES[number % 128], number, 0) for number in range(4_360)),
-        "4,360 unfeasible Updates": router + b"".join(update_tlv(COSTLY_PREFIXES[number % 128], 0, 200 + number % 9) for number in range(4_360)),
+        "5,460 retractions of all routes": RETRACT_ALL_TLV * 5_460,
+        "4,360 Updates": ROUTER_TLV + b"".join(update_tlv(COSTLY_PREFIXES[number % 128], number, 0) for number in range(4_360)),
+        "4,360 unfeasible Updates": ROUTER_TLV + b"".join(update_tlv(COSTLY_PREFIXES[number % 128], 0, 200 + number % 9) for number in range(4_360)),
+        "4,360 Updates that the full table refuses": ROUTER_TLV + b"".join(update_tlv(bytes([11, number // 256, number % 256]), 0, 0) for number in range(4_360)),
         "16,382 dump requests": b"\x09\x02\0\0" * 16_382,
         "3,449 Seqno Requests": b"".join(b"\x0a\x11\x01\x18" + number.to_bytes(2, "big") + b"\x40" + bytes(8) + b"\x01" + COSTLY_PREFIXES[number % 128] for number in range(3_449)),
         "65,531 Pad1": bytes(65_531),
+    }
+
+
+def costly_datagrams_of_one():
+    """The same for a speaker with one neighbour: each route is lost and selected again."""
+    turns = []
+    for turn in range(16):
+        turns.append(router_tlv(3 + turn % 2) + b"".join(update_tlv(prefix, 0, 0) for prefix in ALL_PREFIXES))
+    storm = b"".join(RETRACT_ALL_TLV + update_tlv(ALL_PREFIXES[number % 256], 0, 0) for number in range(2_416))
+    return {
+        "8,191 IHUs that flip the link between 96 and infinity": b"".join(ihu_tlv(96 if number % 2 else 65_535) for number in range(8_191)),
+        "4,096 Updates, each with another router-id": b"".join(turns),
+        "2,416 retractions of all routes, each followed by an Update": ROUTER_TLV + storm,
     }
