@@ -22,5 +22,6 @@ mod router_ids;
 mod tails;
 mod updates;
 
+pub use babel_message::{Content, Message, Placed, Reason, Refusal};
 pub use decoding::decode;
 pub use parser_state::ParserState;
