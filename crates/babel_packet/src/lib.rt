@@ -23,5 +23,6 @@ mod router_ids;
 mod tails;
 mod updates;
 
+pub use babel_message::{Content, Message, Placed, Reason, Refusal};
 pub use decoding::{decode, decode_into};
 pub use parser_state::ParserState;

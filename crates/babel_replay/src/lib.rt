@@ -15,6 +15,7 @@ mod replaying;
 mod seen;
 mod stepping;
 
+pub use babel_config::{FileFault, Scenario, read_config, read_scenario};
 pub use babel_text::{LineFault, MAX_LINE_LEN};
 pub use errors::ReplayFault;
 pub use explaining::explain;

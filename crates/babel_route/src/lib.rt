@@ -13,6 +13,9 @@ pub mod laws;
 mod routes;
 mod trail;
 
+pub use babel_choice::{Costs, Entry};
+pub use babel_sources::Sources;
+pub use babel_table::{Full, Memory, Steps, Table};
 pub use routes::{
     PREFIX_PLACES, PrefixWalk, ROUTE_PLACES, RouteTable, Routes, RoutesOver, SelectionTable,
 };

@@ -17,6 +17,10 @@ pub use babel_parts::{
     Announced, Interfaces, LinkChange, LinkCosts, PendingItems, Prefixes, Reachable, RequestTable,
     Scratch,
 };
+pub use babel_state::{
+    Config, ConfigFault, Interface, NotAnnounced, Note, RecvFault, RestoreFault, Selected,
+    SetCostFault, Target, TooManyPrefixes, Verdict,
+};
 pub use decoded::Decoded;
 pub use inspecting::Neighbour;
 pub use settled::SettledCore;
