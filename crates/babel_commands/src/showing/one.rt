@@ -6,7 +6,7 @@ use babel_line_details::SeenCodes;
 use babel_message::{Placed, Refusal};
 use babel_packet::decode;
 use babel_text::LineFault;
-use babel_value::{Addr, Line};
+use babel_value::Addr;
 use std::alloc::Global;
 use std::io::Write;
 
@@ -94,31 +94,19 @@ fn read_octets(alloc: Global, text: &str) -> Result<Vec<u8>, LineFault> {
 }
 
 /// Writes the lines of a datagram.
-fn write_meaning<W: Write>(
+pub(crate) fn write_meaning<W: Write>(
     meaning: &Result<Vec<Placed>, Refusal>,
     out: &mut W,
 ) -> Result<(), LineFault> {
     match meaning {
-        Ok(placed) => write_places(placed.as_slice(), out),
-        Err(refusal) => write_refusal(*refusal, out),
-    }
-}
-
-/// Writes a line for each place, by one call each. A text would be tested for UTF-8 first; the octets of a
-/// `Line` are not.
-pub(crate) fn write_places<W: Write>(placed: &[Placed], out: &mut W) -> Result<(), LineFault> {
-    let mut line = Line::new();
-    for place in placed {
-        line.truncate(0);
-        place.push_to(&mut line);
-        line.push_str("\n");
-        out.write_all(line.octets())
-            .map_err(LineFault::of_writing)?;
+        Ok(placed) => {
+            for place in placed.as_slice() {
+                writeln!(out, "{place}").map_err(LineFault::of_writing)?;
+            }
+        }
+        Err(refusal) => {
+            writeln!(out, "refused {}", refusal.code()).map_err(LineFault::of_writing)?;
+        }
     }
     Ok(())
-}
-
-/// Writes the line of a refused datagram.
-pub(crate) fn write_refusal<W: Write>(refusal: Refusal, out: &mut W) -> Result<(), LineFault> {
-    writeln!(out, "refused {}", refusal.code()).map_err(LineFault::of_writing)
 }
