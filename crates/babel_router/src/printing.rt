@@ -84,14 +84,17 @@ impl<'s, 'a, W: Write, E: Write> Printer<'s, 'a, W, E> {
         }
     }
 
-    /// The kernel may have lost the routes over the device of this number: they are given to it again. `ip` keeps the numbers of
-    /// devices that it has seen, and `link show` lets it read them again.
+    /// The kernel may have lost the routes over the device of this number: they are given to it again.
     pub(crate) fn forget(&mut self, number: usize) {
         if let (Some(commands), Ok(iface)) = (&mut self.commands, u8::try_from(number)) {
             commands.forget(iface);
-            if self.written.is_ok() {
-                self.written = writeln!(self.out, "link show").map_err(LineFault::of_writing);
-            }
+        }
+    }
+
+    /// A device may have another number. `ip` keeps the numbers that it has seen; this command lets it read them again.
+    pub(crate) fn list_devices(&mut self) {
+        if self.commands.is_some() && self.written.is_ok() {
+            self.written = writeln!(self.out, "link show").map_err(LineFault::of_writing);
         }
     }
 

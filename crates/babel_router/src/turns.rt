@@ -186,6 +186,7 @@ fn take_step<R: Clock + Net, I: Read + AsRawFd, W: Write, E: Write>(
             Ok(()) => {
                 device.note_opened();
                 printer.note(device.settings.name, Note::Opened);
+                printer.list_devices();
                 printer.forget(number);
             }
             Err(_) => {
