@@ -49,8 +49,9 @@ _babel() {
         --port) compopt +o default 2>/dev/null; return ;;
         --restore) COMPREPLY=(); return ;;
         --save) COMPREPLY=(); return ;;
+        --keep) COMPREPLY=(); return ;;
         esac
-        if [[ $word == -* ]]; then COMPREPLY=($(compgen -W "--turns --port --routes --restore --save --details -h --help" -- "$word")); return; fi
+        if [[ $word == -* ]]; then COMPREPLY=($(compgen -W "--turns --port --routes --restore --save --keep --new --details -h --help" -- "$word")); return; fi
         COMPREPLY=()
         ;;
     run)
@@ -60,11 +61,12 @@ _babel() {
         --ipv4) compopt +o default 2>/dev/null; return ;;
         --cost) compopt +o default 2>/dev/null; return ;;
         --hello) compopt +o default 2>/dev/null; return ;;
+        --config) COMPREPLY=(); return ;;
         --port) compopt +o default 2>/dev/null; return ;;
         --turns) compopt +o default 2>/dev/null; return ;;
         --keep) COMPREPLY=(); return ;;
         esac
-        if [[ $word == -* ]]; then COMPREPLY=($(compgen -W "--router-id --announce --ipv4 --cost --hello --port --turns --keep --new --routes --ip --details -h --help" -- "$word")); return; fi
+        if [[ $word == -* ]]; then COMPREPLY=($(compgen -W "--router-id --announce --ipv4 --cost --hello --config --port --turns --keep --new --routes --ip --details -h --help" -- "$word")); return; fi
         COMPREPLY=($(compgen -W "$(ls /sys/class/net)" -- "$word"))
         ;;
     esac

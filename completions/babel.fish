@@ -44,6 +44,8 @@ complete -c babel -n '__fish_seen_subcommand_from speak' -l port -x -d 'The UDP 
 complete -c babel -n '__fish_seen_subcommand_from speak' -l routes -d 'Prints each change of a selected route, and all of them at the end'
 complete -c babel -n '__fish_seen_subcommand_from speak' -l restore -r -F -d 'The snapshot that the speaker is restored from'
 complete -c babel -n '__fish_seen_subcommand_from speak' -l save -r -F -d 'The file to which the speaker is saved after its last turn'
+complete -c babel -n '__fish_seen_subcommand_from speak' -l keep -r -F -d 'The file of the snapshot: the speaker is restored from it, and keeps it'
+complete -c babel -n '__fish_seen_subcommand_from speak' -l new -d 'With --keep, begins with a new speaker; FILE must not be there'
 complete -c babel -n '__fish_seen_subcommand_from speak' -l details -d 'Writes what is wrong after a code, as to a terminal'
 complete -c babel -n '__fish_seen_subcommand_from speak' -s h -l help -d 'Print help'
 complete -c babel -n '__fish_seen_subcommand_from speak' -F
@@ -53,6 +55,7 @@ complete -c babel -n '__fish_seen_subcommand_from run' -l announce -x -d 'A pref
 complete -c babel -n '__fish_seen_subcommand_from run' -l ipv4 -x -d 'The IPv4 address of a device; ./babel run finds it'
 complete -c babel -n '__fish_seen_subcommand_from run' -l cost -x -d 'The nominal cost of receiving over each device, 1 to 65534 [default: 96]'
 complete -c babel -n '__fish_seen_subcommand_from run' -l hello -x -d 'The interval between two Hellos in centiseconds, 1 to 4000 [default: 400]'
+complete -c babel -n '__fish_seen_subcommand_from run' -l config -r -F -d 'Settings by device, router-id and prefixes, a TOML file'
 complete -c babel -n '__fish_seen_subcommand_from run' -l port -x -d 'The UDP port of all speakers, 1 to 65535 [default: 6696]'
 complete -c babel -n '__fish_seen_subcommand_from run' -l turns -x -d 'Ends after so many turns [default: when the input ends]'
 complete -c babel -n '__fish_seen_subcommand_from run' -l keep -r -F -d 'The file of the snapshot: the speaker is restored from it, and keeps it'
