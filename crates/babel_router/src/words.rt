@@ -106,20 +106,29 @@ where
         prefixes: &prefixes,
         collect: file.collect,
     };
+    let options = options_of(&words, &*devices, settings);
+    let Streams { input, out, err } = streams;
+    match run(rt, options, input, out, err) {
+        Ok(()) => Ok(()),
+        Err(fault) => Err(WordsFault::Run(fault)),
+    }
+}
+
+/// The options of a run.
+fn options_of<'x>(
+    words: &RunWords<'x>,
+    devices: &'x [DeviceSettings<'x>],
+    settings: Settings<'x>,
+) -> RunOptions<'x> {
     let keep = words.keep;
-    let options = RunOptions {
-        devices: &*devices,
+    RunOptions {
+        devices,
         settings,
         port: words.port,
         turns: words.turns,
         keep,
         routes: words.routes,
         commands: words.commands,
-    };
-    let Streams { input, out, err } = streams;
-    match run(rt, options, input, out, err) {
-        Ok(()) => Ok(()),
-        Err(fault) => Err(WordsFault::Run(fault)),
     }
 }
 
