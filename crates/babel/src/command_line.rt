@@ -382,7 +382,7 @@ fn run_net<F: AllocGlobal + Files, W: Write>(
 /// The commands and their arguments.
 fn command<'a>(alloc: Global) -> Result<Command<'a>, AllocError> {
     Command::new(alloc, "babel")
-        .version("0.2.0")
+        .version("0.3.0")
         .about("Shows what Babel (RFC 8966) datagrams mean, and what a speaker makes of them")
         .after_help(help::PROGRAM)
         .subcommand_required(true)
