@@ -123,7 +123,8 @@ pub(crate) fn explain_fault<F: AllocGlobal + Files, E: Write>(
     }
 }
 
-fn argument<'m>(arguments: &'m ArgMatches<'_>, id: &str) -> &'m str {
+/// An argument, or an empty text.
+pub(crate) fn argument<'m>(arguments: &'m ArgMatches<'_>, id: &str) -> &'m str {
     match arguments.get_str(id) {
         Some(text) => text,
         None => "",

@@ -1,7 +1,7 @@
 //! The form of what a command writes: text or JSON objects, and which lines of a report.
 
 use crate::arguments::{flag, option};
-use crate::details::details_of;
+use crate::details::{argument, details_of};
 use crate::noting::NotingWriter;
 use babel_commands::{Details, Fault};
 use babel_config::FileFault;
@@ -63,13 +63,11 @@ pub(crate) fn report_details<E: IsTerminal>(arguments: &ArgMatches<'_>, err: &E)
 
 /// The files that a sentence may begin with.
 pub(crate) fn files_of<'m>(arguments: &'m ArgMatches<'_>) -> [&'m str; 5] {
-    [
-        arguments.get_str("config").unwrap_or(""),
-        arguments.get_str("log").unwrap_or(""),
-        arguments.get_str("scenario").unwrap_or(""),
-        arguments.get_str("restore").unwrap_or(""),
-        "standard input",
-    ]
+    let config = argument(arguments, "config");
+    let log = argument(arguments, "log");
+    let scenario = argument(arguments, "scenario");
+    let restore = argument(arguments, "restore");
+    [config, log, scenario, restore, "standard input"]
 }
 
 /// The prefix of an option or an argument, if it is there.
