@@ -146,7 +146,8 @@ fn save_arg<'a>(alloc: Global) -> Arg<'a> {
 
 /// The argument `--keep`. What is kept all the time is neither restored from another file nor saved at the end.
 fn only_keep_arg<'a>(alloc: Global) -> Result<Arg<'a>, AllocError> {
-    keep_arg(alloc).conflicts_with_all(&["restore", "save"])
+    let keep = keep_arg(alloc).conflicts_with("restore")?;
+    keep.conflicts_with("save")
 }
 
 /// The arguments with which a speaker begins and ends.
