@@ -15,7 +15,7 @@ const MAX_FAULTS: u64 = 1 << 62;
 #[derive(Drop)]
 pub(crate) struct MemoryWire {
     alloc: Global,
-    now: u64,
+    moment: u64,
     faults: u64,
     /// The address of the other end.
     peer: Addr,
@@ -30,7 +30,7 @@ impl MemoryWire {
     {
         MemoryWire {
             alloc,
-            now: 0,
+            moment: 0,
             faults: 0,
             peer,
             sent: Vec::new(alloc),
@@ -50,19 +50,26 @@ impl MemoryWire {
         ensures own { self.new.faults ≡ self.old.faults }
         ensures other { other.new.faults ≡ other.old.faults }
     {
-        while let Some(datagram) = self.sent.pop() {
-            other.came.push(datagram)?;
-        }
-        Ok(())
+        pass(&mut self.sent, &mut other.came)
     }
+}
+
+/// Moves all of the datagrams, the last one first.
+fn pass(sent: &mut Vec<Vec<u8>>, came: &mut Vec<Vec<u8>>) -> Result<(), AllocError> {
+    for _ in 0..sent.len() {
+        if let Some(datagram) = sent.pop() {
+            came.push(datagram)?;
+        }
+    }
+    Ok(())
 }
 
 impl Wire for MemoryWire {
     ghost fault_count = { λ w. w.faults };
 
     fn now(&mut self) -> u64 {
-        self.now = self.now.saturating_add(TURN);
-        self.now
+        self.moment = self.moment.saturating_add(TURN);
+        self.moment
     }
 
     fn recv(&mut self, buf: &mut [u8]) -> Result<Option<Arrival>, WireFault> {
