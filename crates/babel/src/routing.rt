@@ -32,7 +32,7 @@ where
     F: AllocGlobal + Files + Net + Clock,
     F::File: LockFile,
 {
-    let refused = match run_words(rt, words_of(&*arguments), input, out, err) {
+    let refused = match run_words(rt, words_of(arguments), input, out, err) {
         Ok(()) => return Status::Done,
         Err(refused) => refused,
     };
@@ -122,7 +122,7 @@ fn explain_run<E: Write>(
 }
 
 /// The words of the arguments.
-fn words_of<'a>(arguments: &'a ArgMatches<'a>) -> RunWords<'a> {
+fn words_of<'m>(arguments: &'m ArgMatches<'_>) -> RunWords<'m> {
     let keep = kept(arguments);
     RunWords {
         devices: arguments.get_strs("device").unwrap_or(&[]),
