@@ -1,6 +1,5 @@
 //! Each allocation fails: of the machine, of the readers of files, of a speaker, of a network, and of the reports of logs.
-//! `tests/refused-memory` lets them fail in turn. And calls
-//! that take no memory.
+//! `tests/refused-memory` lets them fail in turn.
 #![tactic(auto)]
 
 #[cfg(test)]
@@ -15,8 +14,6 @@ mod machine_memory;
 mod machines;
 #[cfg(test)]
 mod network_memory;
-#[cfg(test)]
-mod no_memory;
 #[cfg(test)]
 mod replay_memory;
 #[cfg(test)]

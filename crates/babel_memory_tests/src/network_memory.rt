@@ -93,17 +93,6 @@ fn network(alloc: Global) -> Result<Network, NetFault> {
     }
 }
 
-/// The network after all events but the last.
-pub(crate) fn routers(alloc: Global) -> Option<Network> {
-    let mut network = network(alloc).ok()?;
-    let events = EVENTS.get(..13)?;
-    if network.run(events).is_ok() {
-        Some(network)
-    } else {
-        None
-    }
-}
-
 /// The network; if an allocation fails, it is made again.
 fn made(alloc: Global) -> Option<Network> {
     match network(alloc) {

@@ -9,13 +9,13 @@ use babel_value::{Addr, Family, Memory, Metric, Prefix};
 use std::alloc::{AllocError, Global};
 use std::process::Abort;
 
-pub(crate) const NEIGHBOUR: Addr = Addr::V4([192, 168, 0, 1]);
+const NEIGHBOUR: Addr = Addr::V4([192, 168, 0, 1]);
 
 /// A Hello.
-pub(crate) const HELLO: [u8; 12] = [0x2a, 2, 0, 8, 4, 6, 0, 0, 0, 0, 1, 0x90];
+const HELLO: [u8; 12] = [0x2a, 2, 0, 8, 4, 6, 0, 0, 0, 0, 1, 0x90];
 
 /// A Hello, a cost of 96, and a route of router 1 to 10.0.0.0/8 with metric 7.
-pub(crate) const ROUTE: [u8; 49] = [
+const ROUTE: [u8; 49] = [
     0x2a, 2, 0, 45, 4, 6, 0, 0, 0, 1, 1, 0x90, 5, 10, 1, 0, 0, 96, 4, 0xb0, 192, 168, 0, 2, 6, 10,
     0, 0, 0, 0, 0, 0, 0, 0, 0, 1, 8, 11, 1, 0, 8, 0, 6, 0x40, 0, 5, 0, 7, 10,
 ];
@@ -27,7 +27,7 @@ const SNAPSHOT: [u8; 54] = [
 ];
 
 /// 10.0.0.0/8.
-pub(crate) fn prefix() -> Prefix {
+fn prefix() -> Prefix {
     Prefix::new_unchecked(Addr::V4([10, 0, 0, 0]), 8)
 }
 
@@ -73,7 +73,7 @@ fn making_always_out_of_memory(rt: HostRuntime) {
 }
 
 /// A speaker, if no allocation fails.
-pub(crate) fn made_once(alloc: Global) -> Option<Speaker> {
+fn made_once(alloc: Global) -> Option<Speaker> {
     let config = config(alloc).ok()?;
     Speaker::new(alloc, config).ok()
 }
@@ -94,7 +94,7 @@ fn is_untouched(speaker: &mut Speaker) -> bool {
 }
 
 /// Receives from the neighbour, and returns how many notes there are.
-pub(crate) fn received(speaker: &mut Speaker, octets: &[u8]) -> Result<usize, RecvFault> {
+fn received(speaker: &mut Speaker, octets: &[u8]) -> Result<usize, RecvFault> {
     match speaker.receive(0, 0, NEIGHBOUR, octets) {
         Ok(notes) => Ok(notes.len()),
         Err(fault) => Err(fault),
@@ -115,7 +115,7 @@ fn received_at_last(rt: &impl Abort, speaker: &mut Speaker, octets: &[u8]) -> us
 }
 
 /// A sum of the octets that the speaker sends.
-pub(crate) fn sum_of_sent(speaker: &mut Speaker) -> u64 {
+fn sum_of_sent(speaker: &mut Speaker) -> u64 {
     let mut octets = ArrayVec::<u8, DATAGRAM_LEN>::new();
     let mut sum = 0u64;
     for _ in 0..9 {
