@@ -1,0 +1,99 @@
+"""The Hellos that come over a link, with the kernel's times of arrival, and how long this machine stalls meanwhile.
+
+A peer that counts a Hello as missed doesn't tell whether it wasn't sent, or came late since the machine was busy. On the wire both
+can be seen: a Hello that wasn't sent is a seqno that is missing, and a late one has its time.
+"""
+import contextlib
+import os
+import socket
+import struct
+import subprocess
+import sys
+import threading
+import time
+
+PORT = 6696
+IPV6, UDP = 0x86DD, 17
+# The kernel's time of arrival (SO_TIMESTAMPNS): the option, and the kind of its control message.
+TIMESTAMPS = 35
+HELLO = 4
+PERIOD = 0.02
+
+
+class Listener(threading.Thread):
+    """Takes each Hello that comes to a node's interface from an address."""
+
+    def __init__(self, lab, node, iface, address):
+        super().__init__(daemon=True)
+        self.address = socket.inet_pton(socket.AF_INET6, address)
+        # Of each Hello: the time in seconds, the seqno, and the interval in seconds.
+        self.hellos = []
+        self.ended = threading.Event()
+        with lab.inside(node):
+            self.socket = socket.socket(socket.AF_PACKET, socket.SOCK_DGRAM, socket.htons(IPV6))
+            self.socket.bind((iface, IPV6))
+        self.socket.setsockopt(socket.SOL_SOCKET, TIMESTAMPS, 1)
+        self.socket.setsockopt(socket.SOL_SOCKET, socket.SO_RCVBUF, 1 << 20)
+        self.socket.settimeout(0.2)
+
+    def run(self):
+        while not self.ended.is_set():
+            with contextlib.suppress(TimeoutError):
+                octets, controls, _, _ = self.socket.recvmsg(1 << 16, 256)
+                times = [struct.unpack("=qq", data) for level, kind, data in controls if (level, kind) == (socket.SOL_SOCKET, TIMESTAMPS)]
+                if times and octets[8:24] == self.address:
+                    self.hellos += [(times[0][0] + times[0][1] / 1e9, *hello) for hello in hellos_in(octets)]
+        self.socket.close()
+
+    def end(self):
+        self.ended.set()
+        self.join()
+
+    def missing(self):
+        """How many seqnos were left out, or came twice or back."""
+        seqnos = [seqno for _, seqno, _ in self.hellos]
+        return sum(1 for one, other in zip(seqnos, seqnos[1:]) if (other - one) % 65536 != 1)
+
+    def latest(self):
+        """By how much the latest Hello came after the interval that the one before it announced, in seconds."""
+        return max((other[0] - one[0] - one[2] for one, other in zip(self.hellos, self.hellos[1:])), default=0)
+
+
+def hellos_in(octets):
+    """The seqno and the interval of each Hello of an IPv6 packet with a Babel datagram."""
+    if len(octets) < 52 or octets[6] != UDP or struct.unpack_from(">H", octets, 42)[0] != PORT or octets[48:50] != b"\x2a\x02":
+        return
+    at, end = 52, 52 + struct.unpack_from(">H", octets, 50)[0]
+    while at + 2 <= min(end, len(octets)):
+        kind, length = octets[at], octets[at + 1] if octets[at] else -1
+        if kind == HELLO and length >= 6:
+            _, seqno, interval = struct.unpack_from(">HHH", octets, at + 2)
+            yield seqno, interval / 100
+        at += 2 + length
+
+
+class Stalls:
+    """A process that wakes every 20 ms. It shows how late the machine wakes any process meanwhile."""
+
+    def __init__(self):
+        self.process = subprocess.Popen([sys.executable, os.path.abspath(__file__)], stdin=subprocess.PIPE, stdout=subprocess.PIPE, text=True)
+
+    def end(self):
+        """By how much it was woken too late, at most, in seconds."""
+        return float(self.process.communicate()[0])
+
+
+def watch():
+    """Wakes until the input ends, and prints by how much that was too late at most."""
+    ended = threading.Event()
+    threading.Thread(target=lambda: (sys.stdin.read(), ended.set()), daemon=True).start()
+    latest, last = 0.0, time.monotonic()
+    while not ended.is_set():
+        time.sleep(PERIOD)
+        now = time.monotonic()
+        latest, last = max(latest, now - last - PERIOD), now
+    print(latest)
+
+
+if __name__ == "__main__":
+    watch()
