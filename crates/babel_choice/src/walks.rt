@@ -5,7 +5,7 @@ ghost use Rattle.std.specs.List.{take_while};
 ghost use Rattle.babel_choice.specs.Choices.{is_of, routes_of};
 
 use crate::{Before, Entry, RouteKey, Selection};
-use babel_table::{Table, places_below};
+use babel_table::{Table, places_below, places_below_near};
 use babel_value::Prefix;
 use std::marker::Model;
 
@@ -124,6 +124,20 @@ impl<'a, T: Table<RouteKey, Entry>> PrefixRoutes<'a, T> {
         ensures { result ≡ routes_of prefix (T.entries table.now) }
     {
         let place = places_below(table, &Before { prefix });
+        PrefixRoutes {
+            table,
+            prefix,
+            place,
+        }
+    }
+
+    /// The same. The search begins at the index, which goes to the route before the first one of the prefix: so the
+    /// routes of rising prefixes are found in one walk over the table.
+    pub fn new_near(table: &'a T, prefix: Prefix, near: &mut usize) -> PrefixRoutes<'a, T>
+        ensures { result ≡ routes_of prefix (T.entries table.now) }
+    {
+        let place = places_below_near(table, *near, &Before { prefix });
+        *near = place.saturating_sub(1);
         PrefixRoutes {
             table,
             prefix,

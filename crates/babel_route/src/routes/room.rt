@@ -31,7 +31,7 @@ pub(crate) fn is_crowded<E: Table<RouteKey, Entry>, S: Table<Prefix, Selection>>
     entries.len() + count_orphans(entries, selections) >= ROUTE_PLACES
 }
 
-/// How many prefixes have a selection but no entry.
+/// How many prefixes have a selection but no entry: one walk over both tables.
 fn count_orphans<E: Table<RouteKey, Entry>, S: Table<Prefix, Selection>>(
     entries: &E,
     selections: &S,
@@ -41,33 +41,36 @@ fn count_orphans<E: Table<RouteKey, Entry>, S: Table<Prefix, Selection>>(
     ensures within { result ≤ most_routes }
 {
     let mut count = 0;
+    let mut near = 0;
     for place in 0..selections.len() {
-        if is_orphan(entries, selections, place) {
+        if is_orphan(entries, selections, place, &mut near) {
             count += 1;
         }
     }
     count
 }
 
-/// Whether there is a selection at the index, and its prefix has no entry.
+/// Whether there is a selection at the index, and its prefix has no entry. The search for an entry begins near the
+/// index `near`, which goes next to it.
 fn is_orphan<E: Table<RouteKey, Entry>, S: Table<Prefix, Selection>>(
     entries: &E,
     selections: &S,
     place: usize,
+    near: &mut usize,
 ) -> bool
     ensures { result ≡ option_map_or (λ s. not (has_entry (E.entries entries.now) s.0)) (slice_get (S.entries selections.now) place) false }
 {
     match selections.at(place) {
-        Some(selection) => !has_entry(entries, selection.0),
+        Some(selection) => !has_entry(entries, selection.0, near),
         None => false,
     }
 }
 
-/// Whether the prefix has an entry.
-fn has_entry<E: Table<RouteKey, Entry>>(entries: &E, prefix: Prefix) -> bool
+/// Whether the prefix has an entry. The search begins near the index, which goes next to it.
+fn has_entry<E: Table<RouteKey, Entry>>(entries: &E, prefix: Prefix, near: &mut usize) -> bool
     ensures { result ≡ has_entry (E.entries entries.now) prefix }
 {
-    match PrefixRoutes::new(entries, prefix).next() {
+    match PrefixRoutes::new_near(entries, prefix, near).next() {
         Some(_) => true,
         None => false,
     }

@@ -5,8 +5,8 @@ use Rattle.babel_route.proofs.routes.room.has_entry.Goals as goal
 
 pub returns-in-Some : goal.returns-in-Some
 returns-in-Some g c =
-    sym (some_route c.args.prefix (g.E.Table.entries c.args.entries.now) _ _ (sym c.new.ensures ∙ c.in-Some.ensures.steps))
+    sym (some_route c.args.prefix (g.E.Table.entries c.args.entries.now) _ _ (sym c.new_near.ensures ∙ c.in-Some.ensures.steps))
 
 pub returns-in-None : goal.returns-in-None
 returns-in-None g c =
-    sym (no_route c.args.prefix (g.E.Table.entries c.args.entries.now) (sym c.new.ensures ∙ c.in-None.ensures.steps.0))
+    sym (no_route c.args.prefix (g.E.Table.entries c.args.entries.now) (sym c.new_near.ensures ∙ c.in-None.ensures.steps.0))
