@@ -1,7 +1,6 @@
-pub mod Blanks
 pub mod Comparing
 pub mod Ending
-pub mod Lines
+pub mod LineReading
 pub mod Logs
 pub mod MessageCounts
 pub mod Printing

@@ -6,8 +6,9 @@ use Rattle.babel_state.specs.State.{State}
 use Rattle.babel_text.specs.Lines.{max_line_len}
 use Rattle.babel_text.specs.declared.errors.LineFault.{LineFault}
 use Rattle.babel_text.specs.declared.errors.LineFault.TheVariants.{Read, Write, Memory}
-use Rattle.babel_replay.specs.declared.log_lines.Action.{Action}
-use Rattle.babel_replay.specs.LogLines.{lines_of, is_skipped_line, ReadsLine, IsLine, IsLineFault}
+use Rattle.babel_text.specs.declared.log_lines.Action.{Action}
+use Rattle.babel_replay.specs.Reading.{lines_of, ReadsLine}
+use Rattle.babel_text.specs.LogLines.{is_skipped_line, IsLine, IsLineFault}
 use Rattle.babel_replay.specs.LogReports.{IsReportBy, IsLineReport, IsLogReport, HasLines, BeginsWith, IsRefusedAfter, IsTooLongAfter, IsCause, OfAllLines, OfLinesBefore, room}
 use Rattle.babel_replay.specs.Report.{places_in, outcome_lines, seen_by, select_lines, out_lines}
 use Rattle.babel_replay.specs.Seen.{SeenPrefix, printed_all}

@@ -8,7 +8,7 @@ use Rattle.babel_state.specs.State.{State}
 use Rattle.babel_speaker.specs.PendingItems.{DatagramsTakeItems}
 use Rattle.babel_speaker.specs.Sending.{fits_by}
 use Rattle.babel_replay.specs.Report.{Sent, IsNext, AreNext, draft_at, out_line, out_lines}
-use Rattle.babel_lines.specs.Texts.{line, out_text}
+use Rattle.babel_replay.specs.Texts.{line, out_text}
 use Rattle.babel_replay.proofs.Writing.{appends_none, appends_more}
 
 next_more : (now : ℕ) (old mid : State) (xs : List Sent) (x : Sent) → AreNext now old xs mid → IsNext now mid x → AreNext now old (xs ++ x ∷ []) (draft_at now mid).state

@@ -7,8 +7,8 @@ use Rattle.babel_state.specs.declared.notes.Note.{Note}
 use Rattle.babel_state.specs.Sameness.{is_same_prefix}
 use Rattle.babel_state.specs.State.{State}
 use Rattle.babel_state.specs.KeptRoutes.{KeepsRoutes}
-use Rattle.babel_lines.specs.declared.choices.Choice.{Choice}
-use Rattle.babel_lines.specs.Texts.{line, select_text}
+use Rattle.babel_replay.specs.declared.lines.choices.Choice.{Choice}
+use Rattle.babel_replay.specs.Texts.{line, select_text}
 use Rattle.babel_replay.specs.Report.{select_lines}
 use Rattle.babel_replay.specs.Seen.{SeenPrefix, choice_of, choice_at, is_same_choice, printed, printed_all, stored, with_seen, seen_after, ArePrinted}
 use Rattle.babel_replay.proofs.Seeing.{is_itself}

@@ -1,5 +1,6 @@
 pub mod Stepping
-pub mod LogLines
+pub mod Reading
+pub mod Texts
 pub mod Seen
 pub mod Counts
 pub mod Report

@@ -10,8 +10,9 @@ use Rattle.babel_text.specs.declared.errors.LineFault.{LineFault}
 use Rattle.babel_text.specs.declared.errors.LineFault.TheVariants.{TooLong, Read, Write, Memory}
 use Rattle.babel_replay.specs.declared.errors.ReplayFault.{ReplayFault}
 use Rattle.babel_replay.specs.declared.errors.ReplayFault.TheVariants as faults
-use Rattle.babel_replay.specs.declared.log_lines.Action.{Action}
-use Rattle.babel_replay.specs.LogLines.{lines_of, is_skipped_line, IsLine, IsLineFault, IsTooLong}
+use Rattle.babel_text.specs.declared.log_lines.Action.{Action}
+use Rattle.babel_replay.specs.Reading.{lines_of, IsTooLong}
+use Rattle.babel_text.specs.LogLines.{is_skipped_line, IsLine, IsLineFault}
 use Rattle.babel_replay.specs.Report.{IsReport, table_lines}
 use Rattle.babel_replay.specs.Routes.{route_lines}
 use Rattle.babel_replay.specs.Seen.{SeenPrefix}

@@ -10,13 +10,13 @@ use Rattle.babel_state.specs.declared.notes.Note.{Note}
 use Rattle.babel_state.specs.NextDatagram.{Draft, next_datagram}
 use Rattle.babel_state.specs.State.{State}
 use Rattle.babel_speaker.specs.Sending.{fits_by}
-use Rattle.babel_replay.specs.declared.log_lines.Action.{Action}
-use Rattle.babel_replay.specs.declared.log_lines.Action.TheVariants as actions
+use Rattle.babel_text.specs.declared.log_lines.Action.{Action}
+use Rattle.babel_text.specs.declared.log_lines.Action.TheVariants as actions
 use Rattle.babel_replay.specs.declared.stepping.Outcome.{Outcome}
 use Rattle.babel_replay.specs.declared.stepping.Outcome.TheVariants as outcomes
 use Rattle.babel_replay.specs.Stepping.{Steps}
 use Rattle.babel_replay.specs.Seen.{SeenPrefix, choice_at, is_same_choice, seen_after, printed_all}
-use Rattle.babel_lines.specs.Texts.{line, moment_text, tlv_line, refused_text, cost_refused_text, select_text, table_text, out_text}
+use Rattle.babel_replay.specs.Texts.{line, moment_text, tlv_line, refused_text, cost_refused_text, select_text, table_text, out_text}
 
 -- ---- what became of the line itself
 

@@ -10,10 +10,10 @@ use Rattle.babel_sources.specs.Distances.{improves_on}
 use Rattle.babel_state.specs.Calls.{selected_route, reported_entries}
 use Rattle.babel_state.specs.Sameness.{is_same_peer}
 use Rattle.babel_state.specs.State.{State, announces, pair_at}
-use Rattle.babel_lines.specs.declared.routes.RouteLine.{RouteLine}
-use Rattle.babel_lines.specs.declared.routes.RouteStatus.{RouteStatus}
-use Rattle.babel_lines.specs.declared.routes.RouteStatus.TheVariants as statuses
-use Rattle.babel_lines.specs.Texts.{line, route_text}
+use Rattle.babel_replay.specs.declared.lines.routes.RouteLine.{RouteLine}
+use Rattle.babel_replay.specs.declared.lines.routes.RouteStatus.{RouteStatus}
+use Rattle.babel_replay.specs.declared.lines.routes.RouteStatus.TheVariants as statuses
+use Rattle.babel_replay.specs.Texts.{line, route_text}
 
 -- The prefix's selected route leads over the neighbour.
 abbrev pub is_selected_over : PrefixValue → Peer → State → Bool

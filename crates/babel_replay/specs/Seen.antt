@@ -14,7 +14,7 @@ use Rattle.babel_state.specs.declared.selected.Selected.{Selected}
 use Rattle.babel_state.specs.Calls.{selected_route}
 use Rattle.babel_state.specs.Sameness.{is_same_peer, is_same_prefix}
 use Rattle.babel_state.specs.State.{State}
-use Rattle.babel_lines.specs.declared.choices.Choice.{Choice}
+use Rattle.babel_replay.specs.declared.lines.choices.Choice.{Choice}
 
 -- ---- what is printed of a route
 

@@ -10,8 +10,8 @@ use Rattle.babel_state.specs.Calls.{set_cost_fault, cost_set}
 use Rattle.babel_state.specs.Messages.{Receives, IsRecvFault}
 use Rattle.babel_state.specs.State.{State}
 use Rattle.babel_state.specs.Ticks.{ticked}
-use Rattle.babel_replay.specs.declared.log_lines.Action.{Action}
-use Rattle.babel_replay.specs.declared.log_lines.Action.TheVariants as actions
+use Rattle.babel_text.specs.declared.log_lines.Action.{Action}
+use Rattle.babel_text.specs.declared.log_lines.Action.TheVariants as actions
 use Rattle.babel_replay.specs.declared.stepping.Outcome.{Outcome}
 use Rattle.babel_replay.specs.declared.stepping.Outcome.TheVariants as outcomes
 

@@ -2,9 +2,9 @@
 use Rattle.std.specs.Prelude.{◌≡◌, ◌+◌, ℕ, Bool, true, false, List, [], length, Option}
 use Rattle.std.specs.Io.KnownBytes.{Appends}
 use Rattle.babel_state.specs.State.{State}
-use Rattle.babel_replay.specs.declared.log_lines.Action.{Action}
+use Rattle.babel_text.specs.declared.log_lines.Action.{Action}
 use Rattle.babel_replay.specs.declared.stepping.Outcome.{Outcome}
-use Rattle.babel_replay.specs.LogLines.{ReadsLine}
+use Rattle.babel_replay.specs.Reading.{ReadsLine}
 use Rattle.babel_replay.specs.LogReports.{IsLineReport, IsLogReport}
 use Rattle.babel_replay.specs.Report.{SendsAll}
 use Rattle.babel_replay.specs.Seen.{SeenPrefix}

@@ -2,7 +2,7 @@
 
 ghost use Rattle.std.specs.Prelude.{◌≡◌, ◌⊎◌, ◌<◌, ◌≤◌, length, vec_capacity, Err, IfOk, IfErr, IfSome};
 ghost use Rattle.babel_text.specs.Lines.{max_line_len};
-ghost use Rattle.babel_replay.specs.LogLines.{lines_of, first_of, IsTooLong, ReadsLine, ReadsPart, ShowsTooMuch};
+ghost use Rattle.babel_replay.specs.Reading.{lines_of, first_of, IsTooLong, ReadsLine, ReadsPart, ShowsTooMuch};
 
 use babel_text::{LineFault, MAX_LINE_LEN};
 use memchr::memchr;

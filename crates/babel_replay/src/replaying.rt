@@ -15,19 +15,19 @@ ghost use Rattle.babel_replay.specs.Seen.{updates_in, choice_at, choice_printed,
 ghost use Rattle.babel_replay.specs.Taking.{IsReported, IsReportedLine, TakesLine};
 
 use crate::counting::count_messages;
-use crate::log_lines::is_skipped;
+use crate::lines::{
+    Choice, push_tlv, set_cost_refused, set_moment, set_out, set_refused, set_select, table_line,
+};
 use crate::reading::read_line;
 use crate::seen::{SeenPrefixes, choice_of, is_same};
 use crate::stepping::{Outcome, step};
 use crate::{Action, Event, LineFault, MAX_LINE_LEN, ReplayFault, parse_line};
 use arrayvec::ArrayVec;
-use babel_lines::{
-    Choice, push_tlv, set_cost_refused, set_moment, set_out, set_refused, set_select, table_line,
-};
 use babel_message::{Placed, Refusal};
 use babel_speaker::laws::datagrams_take_items;
 use babel_speaker::{Decoded, Speaker};
 use babel_state::{Config, ConfigFault, Note};
+use babel_text::is_skipped;
 use babel_tlv::DATAGRAM_LEN;
 use babel_value::{Line, Prefix};
 use std::alloc::{AllocError, Global};

@@ -5,7 +5,7 @@ ghost use Rattle.std.specs.Prelude.{◌≡◌, ◌+◌, ◌≤◌, ◌<◌, [], 
 ghost use Rattle.indexmap.specs.IndexMap.{set_value_at};
 ghost use Rattle.babel_replay.specs.Seen.{choice_of, is_same_route, is_same_choice, updated, updates_in, stored, with_seen, seen_after};
 
-use babel_lines::Choice;
+use crate::lines::Choice;
 use babel_message::{Content, Message, Placed};
 use babel_state::{Note, Selected, Verdict};
 use babel_value::Prefix;

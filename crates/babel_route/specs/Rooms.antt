@@ -1,4 +1,4 @@
--- How much the route table has room for (profile). The law `limits_are_those_of_the_code` of `babel_steps` ties these
+-- How much the route table has room for (profile). The law `limits_are_those_of_the_code` of `babel_speaker` ties these
 -- numbers to the code's.
 use Rattle.std.specs.Prelude.{ℕ, ◌*◌}
 

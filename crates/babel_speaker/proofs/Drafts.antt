@@ -22,7 +22,7 @@ use Rattle.babel_state.specs.State.{State}
 use Rattle.babel_state.specs.OutgoingMessages.{outgoing}
 use Rattle.babel_state.specs.NextDatagram.{Fits, Draft, is_same_receiver, is_same_target, draft_with, drafted, after_message, left_out_more, without_first}
 use Rattle.babel_speaker.specs.Sending.{built_of, fits_at, draft_to, with_outgoing, is_encodable_outgoing, are_encodable, IsFilling, IsFilled, IsSkipped}
-use Rattle.babel_calls.specs.SentMessages.{no_draft, without_front, IsMessageTo}
+use Rattle.babel_speaker.specs.SentMessages.{no_draft, without_front, IsMessageTo}
 
 -- Two receivers that are the same are equal, and so are two targets.
 equal : (o : Ordering) → is_eq o ≡ true → o ≡ Equal

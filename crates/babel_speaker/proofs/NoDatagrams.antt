@@ -8,7 +8,7 @@ use Rattle.babel_state.specs.OutgoingMessages.{outgoing}
 use Rattle.babel_state.specs.QueueLaws.{has_no_message, is_silent}
 use Rattle.babel_state.specs.declared.items.Target.{Target}
 use Rattle.babel_speaker.specs.Sending.{HaveTransports}
-use Rattle.babel_calls.specs.SentMessages.{no_draft}
+use Rattle.babel_speaker.specs.SentMessages.{no_draft}
 
 pub no_datagram : (now : ℕ) (fits : Fits) (s : State) → length s.pending.items ≡ 0 → next_datagram now fits s ≡ no_draft s
 unfolding next_datagram

@@ -4,7 +4,7 @@ use Rattle.std.proofs.Common.{sym, subst}
 use Rattle.babel_state.specs.State.{State}
 use Rattle.babel_state.specs.NextDatagram.{left_out_more}
 use Rattle.babel_state.specs.CurrentSelections.{AreCurrent}
-use Rattle.babel_calls.specs.SentMessages.{without_front}
+use Rattle.babel_speaker.specs.SentMessages.{without_front}
 
 pub removed_current : (s t : State) → t ≡ without_front s → AreCurrent s → AreCurrent t
 removed_current s t is current = subst AreCurrent (sym is) current

@@ -20,7 +20,7 @@ use Rattle.babel_state.specs.Restarts.{Snapshot, kept_source, snapshot_of}
 use Rattle.babel_state.specs.State.{State, interface_at, announces}
 use Rattle.babel_state.specs.StepLaws.{OwnValue, own_of, grown, KeepsOwn, GrowsOnce}
 use Rattle.babel_state.proofs.Keeping.{message_own}
-use Rattle.babel_calls.specs.SentMessages.{without_front}
+use Rattle.babel_speaker.specs.SentMessages.{without_front}
 use Rattle.babel_speaker.specs.Versions.{KeepsSnapshot}
 
 -- ---- sending

@@ -14,7 +14,7 @@ use Rattle.babel_state.specs.State.{State, interface_at}
 use Rattle.babel_state.specs.Addresses.{transport_at}
 use Rattle.babel_state.specs.OutgoingMessages.{outgoing}
 use Rattle.babel_state.specs.NextDatagram.{Fits, Draft, drafted}
-use Rattle.babel_calls.specs.SentMessages.{no_draft}
+use Rattle.babel_speaker.specs.SentMessages.{no_draft}
 
 -- The target and the message of what is sent, if there is one.
 abbrev pub message_of : Outgoing → Option (Target × Message)

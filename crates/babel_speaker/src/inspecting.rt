@@ -6,9 +6,9 @@ ghost use Rattle.babel_state.specs.Limits.{most_interfaces, most_prefixes, most_
 ghost use Rattle.babel_state.specs.State.{interface_at, prefixes_in};
 ghost use Rattle.babel_speaker.specs.Inspecting.{reported_neighbours};
 
-use crate::Speaker;
+use crate::speaker::Speaker;
+use crate::tables::Prefixes;
 use babel_link::Link;
-use babel_parts::Prefixes;
 use babel_state::{InterfaceEntry, PendingRequest};
 use babel_value::{Metric, Peer, RouterId, Seqno, Source};
 

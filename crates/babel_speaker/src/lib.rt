@@ -1,27 +1,32 @@
-//! A speaker of the Babel routing protocol (RFC 8966): its calls. The definitions of its state and steps are
-//! those of `babel_state`, and the functions that make the steps those of `babel_core` and `babel_calls`.
+//! A speaker of the Babel routing protocol (RFC 8966). The definitions of its state and of its steps are those of
+//! `babel_state`.
+//!
+//! - `speaker`: the calls. `settled` is the state with what only speeds it up; `inspecting` is what the calls report.
+//! - `input`: datagrams, their messages, and the steps that each message makes.
+//! - `ticks`: what is due at a moment, and when the next thing is.
+//! - `output`: pending items, the messages that they mean, and the next datagram.
+//! - `state`: the whole state; how it is made, saved and restored.
+//! - `tables`: what the state consists of.
+//! - `limits`: the definitions' numbers are those of the code.
 #![tactic(auto)]
 
 mod decoded;
+mod input;
 mod inspecting;
 pub mod laws;
-mod messages;
-mod receiving;
-mod sending;
+pub mod limits;
+mod output;
 mod settled;
 mod speaker;
+mod state;
+mod tables;
+mod ticks;
 mod versions;
 
-pub use babel_core::Core;
-pub use babel_parts::{
-    Announced, Interfaces, LinkChange, LinkCosts, PendingItems, Prefixes, Reachable, RequestTable,
-    Scratch,
-};
 pub use babel_state::{
     Config, ConfigFault, Interface, NotAnnounced, Note, RecvFault, RestoreFault, Selected,
     SetCostFault, Target, TooManyPrefixes, Verdict,
 };
 pub use decoded::Decoded;
 pub use inspecting::Neighbour;
-pub use settled::SettledCore;
 pub use speaker::Speaker;

@@ -4,7 +4,7 @@
 ghost use Rattle.std.specs.Prelude.{◌≡◌, ◌≢◌, ◌<◌, ◌↔◌, ℕ, [], true, false, Ok, Some, IsOk, IsErr, IsNone, IfOk, IfErr, IfSome, OnOk, OnErr, IsFalse};
 ghost use Rattle.babel_packet.specs.Meaning.{meaning};
 ghost use Rattle.babel_state.specs.Addresses.{source_fault, transport_at};
-ghost use Rattle.babel_calls.specs.Deadlines.{next_deadline};
+ghost use Rattle.babel_speaker.specs.Deadlines.{next_deadline};
 ghost use Rattle.babel_state.specs.CurrentSelections.{AreCurrent};
 ghost use Rattle.babel_state.specs.Calls.{set_cost_fault, cost_set, first_state, is_prefix_too_many, announced_also, withdrawn};
 ghost use Rattle.babel_state.specs.Configs.{config_fault};
@@ -15,19 +15,19 @@ ghost use Rattle.babel_state.specs.State.{announces};
 ghost use Rattle.babel_state.specs.Ticks.{ticked};
 ghost use Rattle.babel_state.specs.Restarts.{restored, IsSnapshot};
 ghost use Rattle.babel_snapshot.specs.Reading.{restore_fault, snapshot_in};
-ghost use Rattle.babel_calls.specs.Making.{IsMakingFault, IsRestoreFault};
+ghost use Rattle.babel_speaker.specs.Making.{IsMakingFault, IsRestoreFault};
 ghost use Rattle.babel_state.specs.QueueLaws.{is_silent};
 ghost use Rattle.babel_speaker.specs.Sending.{are_encodable, fits_by, HaveTransports, IsBuiltFrom, MeansFrom};
 ghost use Rattle.babel_speaker.specs.Versions.{CountsChanges};
 
-use crate::receiving::{receive, receive_decoded};
-use crate::sending::next_datagram;
+use crate::input::receiving::{receive, receive_decoded};
+use crate::output::datagrams::next_datagram;
+use crate::state::Core;
+use crate::tables::Scratch;
 use crate::versions::{Version, has_grown, own_seqno};
 use arrayvec::ArrayVec;
 use babel_build::Builder;
-use babel_core::Core;
 use babel_message::Placed;
-use babel_parts::Scratch;
 use babel_route::Trail;
 use babel_state::{
     Config, ConfigFault, NotAnnounced, Note, RecvFault, RestoreFault, SetCostFault, Target,
@@ -61,14 +61,14 @@ impl Model for SettledCore {
 }
 
 impl SettledCore {
-    /// The first state of a speaker, as `babel_calls::make`.
+    /// The first state of a speaker, as `crate::state::making::make`.
     pub fn new(alloc: Global, config: &Config) -> Result<SettledCore, ConfigFault>
         ensures ok { IfOk result (λ core. core.state ≡ first_state config.now) }
         ensures counts { IfOk result (λ core. (core.routes_version ≡ 0) × (core.snapshot_version ≡ 0)) }
         ensures valid { IsOk result → IsNone (config_fault config.now) }
         ensures refused { IfErr result (λ fault. IsMakingFault (config_fault config.now) fault) }
     {
-        match babel_calls::make(alloc, config) {
+        match crate::state::making::make(alloc, config) {
             Ok(core) => Ok(SettledCore {
                 core,
                 is_settled: false,
@@ -79,7 +79,7 @@ impl SettledCore {
         }
     }
 
-    /// The state after a restart, as `babel_calls::restore`.
+    /// The state after a restart, as `crate::state::restarts::restore`.
     pub(crate) fn restore(
         alloc: Global,
         config: &Config,
@@ -93,7 +93,7 @@ impl SettledCore {
         ensures refused { IfErr result (λ fault. IsRestoreFault (config_fault config.now) (restore_fault config.now.router_id octets.now) fault) }
         ensures snapshot { IfOk result (λ core. IsSnapshot (snapshot_in octets.now)) }
     {
-        match babel_calls::restore(alloc, config, now, octets) {
+        match crate::state::restarts::restore(alloc, config, now, octets) {
             Ok(core) => Ok(SettledCore {
                 core,
                 is_settled: false,
@@ -201,14 +201,14 @@ impl SettledCore {
         self.snapshot.note(!settled);
     }
 
-    /// The moment before which a tick changes nothing, as `babel_calls::next_due`.
+    /// The moment before which a tick changes nothing, as `crate::ticks::deadlines::next_due`.
     pub(crate) fn next_due(&self) -> u64
         ensures idle { (now : ℕ) → now < result → ticked now self.now.state ≡ self.now.state }
         ensures pending { self.now.state.pending.items ≢ [] → result ≡ 0 }
         ensures current { 0 < result → AreCurrent self.now.state }
         ensures deadline { self.now.state.pending.items ≡ [] → AreCurrent self.now.state → result ≡ next_deadline self.now.state }
     {
-        babel_calls::next_due(&self.core, self.is_settled)
+        crate::ticks::deadlines::next_due(&self.core, self.is_settled)
     }
 
     /// Raises the speaker's own seqno by 1.
@@ -230,7 +230,7 @@ impl SettledCore {
         ensures counted { CountsChanges self.old self.new }
     {
         self.is_settled = false;
-        match babel_calls::set_cost(&mut self.core, iface, cost) {
+        match crate::state::settings::set_cost(&mut self.core, iface, cost) {
             Ok(()) => {
                 self.routes.note(true);
                 Ok(())
@@ -247,7 +247,7 @@ impl SettledCore {
         ensures counted { CountsChanges self.old self.new }
     {
         self.is_settled = false;
-        match babel_calls::announce(&mut self.core, prefix) {
+        match crate::state::settings::announce(&mut self.core, prefix) {
             Ok(()) => {
                 self.routes.note(true);
                 Ok(())
@@ -264,7 +264,7 @@ impl SettledCore {
         ensures counted { CountsChanges self.old self.new }
     {
         self.is_settled = false;
-        match babel_calls::withdraw(&mut self.core, prefix) {
+        match crate::state::settings::withdraw(&mut self.core, prefix) {
             Ok(()) => {
                 self.routes.note(true);
                 Ok(())

@@ -24,17 +24,17 @@ ghost use Rattle.babel_state.specs.Restarts.{snapshot_of, restored, IsRestartedF
 ghost use Rattle.babel_snapshot.specs.Octets.{snapshot_octets};
 ghost use Rattle.babel_snapshot.specs.Reading.{restore_fault, snapshot_in};
 ghost use Rattle.babel_snapshot.specs.SnapshotLaws.{IsRead};
-ghost use Rattle.babel_calls.specs.Deadlines.{next_deadline};
-ghost use Rattle.babel_calls.specs.Making.{IsMakingFault, IsRestoreFault};
+ghost use Rattle.babel_speaker.specs.Deadlines.{next_deadline};
+ghost use Rattle.babel_speaker.specs.Making.{IsMakingFault, IsRestoreFault};
 ghost use Rattle.babel_speaker.specs.Sending.{fits_by, IsBuiltFrom, MeansFrom};
 ghost use Rattle.babel_speaker.specs.Versions.{CountsChanges};
 
 use crate::decoded::{Decoded, decoded_are_encodable, is_encodable_again};
 use crate::settled::SettledCore;
+use crate::tables::Scratch;
 use arrayvec::ArrayVec;
 use babel_build::Builder;
 use babel_choice::{Entry, Selection};
-use babel_parts::Scratch;
 use babel_route::Trail;
 use babel_state::laws::{
     calls_move, datagrams_send, items_mean_messages, restarts_are_seen, selected_routes_are_good,
@@ -140,7 +140,7 @@ impl Speaker {
         ensures ok { IfOk result (λ octets. octets.items ≡ snapshot_octets (snapshot_of self.now.state)) }
         ensures restorable { IfOk result (λ octets. IsRead self.now.state.router octets.items (snapshot_of self.now.state)) }
     {
-        let octets = babel_calls::save(&self.core.core, self.alloc)?;
+        let octets = crate::state::restarts::save(&self.core.core, self.alloc)?;
         Ok(octets)
     }
 
@@ -384,7 +384,7 @@ impl Speaker {
     pub fn selected(&self, prefix: &Prefix) -> Option<Selected>
         ensures { result ≡ selected_route prefix.now self.now.state }
     {
-        babel_calls::selected_route(&self.core.core, prefix)
+        crate::state::settings::selected_route(&self.core.core, prefix)
     }
 
     /// The selection whose prefix has exactly `place` lesser ones among the selections' prefixes.
@@ -421,7 +421,7 @@ impl Speaker {
     pub fn entry(&self, prefix: &Prefix, index: usize) -> Option<(Peer, Entry, Metric)>
         ensures { result ≡ slice_get (reported_entries prefix.now self.now.state) index }
     {
-        babel_calls::reported_entry(&self.core.core, prefix, index)
+        crate::state::settings::reported_entry(&self.core.core, prefix, index)
     }
 
     /// Whether the speaker announces the prefix itself.
@@ -435,7 +435,7 @@ impl Speaker {
     pub fn transport(&self, iface: u8) -> Option<Addr>
         ensures { result ≡ transport_at iface self.now.state }
     {
-        babel_calls::transport(&self.core.core, iface)
+        crate::output::items::transport(&self.core.core, iface)
     }
 
     /// A count that grows whenever a selected route may be reported otherwise. As long as it is the same, and below

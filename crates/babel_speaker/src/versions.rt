@@ -3,7 +3,7 @@
 ghost use Rattle.std.specs.Prelude.{◌≡◌, ◌≤◌, ◌<◌, IsFalse};
 ghost use Rattle.babel_speaker.specs.Versions.{greatest_version};
 
-use babel_core::Core;
+use crate::state::Core;
 use babel_value::Seqno;
 use std::marker::Model;
 

@@ -1,5 +1,5 @@
 -- How much a speaker has room for, and the numbers of its configuration and its requests. The law `limits_are_those_of_the_code`
--- of `babel_steps` ties them to the code's.
+-- of `babel_speaker` ties them to the code's.
 use Rattle.std.specs.Prelude.{ℕ}
 
 -- ---- room (profile)

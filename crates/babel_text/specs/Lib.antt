@@ -4,3 +4,4 @@ pub mod Octets
 pub mod Prefixes
 pub mod RouterIds
 pub mod Lines
+pub mod LogLines

@@ -1,4 +1,4 @@
-//! Values read from text, as files and logs write them, and the faults of lines. Addresses are read by
+//! Values read from text, as files and logs write them, the lines of a log, and the faults of lines. Addresses are read by
 //! `babel_value`.
 //!
 //! Nothing here allocates.
@@ -6,12 +6,14 @@
 
 mod errors;
 pub mod laws;
+mod log_lines;
 mod numbers;
 mod octets;
 mod prefixes;
 mod router_ids;
 
 pub use errors::{LineFault, MAX_LINE_LEN};
+pub use log_lines::{Action, Event, is_skipped, parse_line};
 pub use numbers::{parse_u8, parse_u16, parse_u64};
 pub use octets::parse_octets;
 pub use prefixes::{parse_network, parse_prefix};

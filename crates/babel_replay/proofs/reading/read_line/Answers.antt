@@ -1,7 +1,7 @@
 use Rattle.std.proofs.Common.{◌≡◌, ◌∷◌, [], length, vec_len, nat_eq, not, sym, ap, subst, ◌∙◌, rules}
 use Rattle.std.specs.Io.KnownBytes.{Consumes, IsAtEnd}
-use Rattle.babel_replay.specs.LogLines.{AppendsPart, ReadsLine}
-use Rattle.babel_replay.proofs.Lines.{ReadsLine-last, ReadsLine-end, IsTooLong-first}
+use Rattle.babel_replay.specs.Reading.{AppendsPart, ReadsLine}
+use Rattle.babel_replay.proofs.LineReading.{ReadsLine-last, ReadsLine-end, IsTooLong-first}
 use Rattle.babel_replay.proofs.reading.read_line.Goals as goal
 
 pub returns-in_err-read_part-clause-too_long : goal.returns-in_err-read_part-clause-too_long

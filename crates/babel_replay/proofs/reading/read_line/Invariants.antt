@@ -2,7 +2,7 @@
 use Rattle.std.proofs.Common.{◌≤◌, length, vec_capacity}
 use Rattle.std.specs.Io.KnownBytes.{Consumes}
 use Rattle.babel_text.specs.Lines.{max_line_len}
-use Rattle.babel_replay.specs.LogLines.{HasNoLineFeed}
+use Rattle.babel_replay.specs.Reading.{HasNoLineFeed}
 use Rattle.babel_replay.proofs.reading.read_line.Given as goal
 
 abbrev pub invariant-loop : goal.invariant-loop

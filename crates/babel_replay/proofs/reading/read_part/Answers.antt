@@ -2,7 +2,7 @@ use Rattle.std.proofs.Common.{◌≡◌, ◌+◌, length, vec_len, take, sym, su
 use Rattle.std.specs.Io.KnownBytes.{Consumes}
 use Rattle.std.specs.Io.BufRead.{FillKeeps}
 use Rattle.std.proofs.BufReadLemmas.{Consumes_shown}
-use Rattle.babel_replay.proofs.Lines.{found_plain, found_feed, StartsWith-take}
+use Rattle.babel_replay.proofs.LineReading.{found_plain, found_feed, StartsWith-take}
 use Rattle.babel_replay.proofs.reading.read_part.Goals as goal
 
 pub returns-then-count-len-clause-too_long : goal.returns-then-count-len-clause-too_long

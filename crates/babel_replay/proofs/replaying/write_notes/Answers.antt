@@ -1,7 +1,7 @@
 use Rattle.std.proofs.Common.{◌≡◌, ◌++◌, length, take, sym, ap, ◌∙◌, subst}
 use Rattle.std.proofs.Math.Seq.{take-append_seam}
 use Rattle.std.specs.Io.KnownBytes.{Appends}
-use Rattle.babel_lines.specs.Texts.{moment_text, tlv_line}
+use Rattle.babel_replay.specs.Texts.{moment_text, tlv_line}
 use Rattle.babel_replay.proofs.Zips.{note_goes, notes_end}
 use Rattle.babel_replay.proofs.replaying.write_notes.Goals as goal
 

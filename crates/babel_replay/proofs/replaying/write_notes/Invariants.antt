@@ -1,7 +1,7 @@
 use Rattle.std.proofs.Common.{◌≡◌, ◌≤◌, flat_map, length, take, zip}
 use Rattle.std.specs.Iterator.Adapters.{zip_first, zip_second}
 use Rattle.std.specs.Slice.Iter.{iter_rest}
-use Rattle.babel_lines.specs.Texts.{moment_text, longest_moment}
+use Rattle.babel_replay.specs.Texts.{moment_text, longest_moment}
 use Rattle.babel_replay.specs.Report.{note_line, note_lines}
 use Rattle.babel_replay.proofs.Writing.{IsWritten}
 use Rattle.babel_replay.proofs.replaying.write_notes.Given as goal

@@ -1,3 +1,0 @@
-pub mod Making
-pub mod SentMessages
-pub mod Deadlines

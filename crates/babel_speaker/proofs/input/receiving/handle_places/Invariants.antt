@@ -1,0 +1,17 @@
+-- What is handled from here on leaves what all leave, with all notes, for which there is room.
+use Rattle.std.proofs.Common.{◌≡◌, ◌+◌, ◌-◌, ◌≤◌, ◌++◌, length, drop}
+use Rattle.std.specs.Prelude.{IsTrue, IsFalse}
+use Rattle.babel_state.specs.CurrentSelections.{AreCurrent}
+use Rattle.babel_state.specs.KeptRoutes.{KeepsRoutes}
+use Rattle.std.specs.Vec.{vec_len, vec_capacity}
+use Rattle.babel_state.specs.Messages.{after_places, notes_of}
+use Rattle.babel_speaker.proofs.input.receiving.handle_places.Given as goal
+
+abbrev pub invariant-loop-place : goal.invariant-loop-place
+invariant-loop-place l = record {
+  done : after_places l.now l.peer (drop l.place-index l.placed) l.core ≡ after_places l.now l.peer l.placed l.fn.core;
+  noted : l.notes.items ++ notes_of l.now l.peer (drop l.place-index l.placed) l.core ≡ l.fn.notes.items ++ notes_of l.now l.peer l.placed l.fn.core;
+  current : IsTrue l.settled → AreCurrent l.core;
+  kept : IsFalse l.changed → KeepsRoutes l.fn.core l.core;
+  room : vec_len l.notes + (length l.placed - l.place-index) ≤ vec_capacity l.notes;
+}

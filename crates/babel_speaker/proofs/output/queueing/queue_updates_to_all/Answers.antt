@@ -1,0 +1,18 @@
+-- One interface more.
+use Rattle.std.proofs.Common.{◌≡◌, ℕ, suc, ◌+◌, ◌-◌, ◌<◌, ◌∷◌, map, sym, ap, ◌∙◌, arith}
+use Rattle.std.specs.List.{range_with_len}
+use Rattle.babel_state.specs.Queueing.{queued}
+use Rattle.babel_state.specs.Reselection.{update_to_all}
+use Rattle.babel_speaker.proofs.output.queueing.queue_updates_to_all.Goals as goal
+
+first_of_range : (a b : ℕ) → a < b → range_with_len a (b - a) ≡ a ∷ range_with_len (a + 1) (b - (a + 1))
+first_of_range a b less = let left : b - a ≡ suc (b - (a + 1)) = omega (arith, less) in ap (range_with_len a) left
+
+pub loop-iface-preserved : goal.loop-iface-preserved
+unfolding queued
+loop-iface-preserved c =
+    let rest = range_with_len (c.loop-iface.iface + 1) (c.args.interfaces - (c.loop-iface.iface + 1)) in
+    let more = first_of_range c.loop-iface.iface c.args.interfaces (omega (arith, c.loop-iface-test.true)) in
+    ap (queued (map (update_to_all c.args.prefix) rest)) c.push.ensures
+    ∙ sym (ap (λ is. queued (map (update_to_all c.args.prefix) is) c.loop-iface.pending) more)
+    ∙ c.loop-iface.invariant

@@ -1,0 +1,85 @@
+-- If no cost changes, the selections stay current; if one does, those that its link doesn't concern.
+use Rattle.std.proofs.Common.{◌≡◌, ◌≢◌, sym, subst, ◌∙◌}
+use Rattle.babel_value.specs.declared.keys.Peer.{Peer}
+use Rattle.babel_link.specs.declared.changes.CostChanges.{CostChanges}
+use Rattle.babel_link.specs.declared.changes.CostChanges.TheVariants.{Nothing, One, Several}
+use Rattle.babel_state.specs.CurrentSelections.{AreCurrent}
+use Rattle.babel_state.specs.State.{State}
+use Rattle.babel_state.specs.KeptRoutes.{KeepsRoutes}
+use Rattle.babel_speaker.proofs.RoutesKept.{ticked_routes}
+use Rattle.babel_speaker.proofs.Settling.{ticked_current}
+use Rattle.babel_speaker.proofs.LinkChanges.{ticked_others}
+use Rattle.babel_speaker.proofs.state.speaker_core.Core.tick_links.Goals as goal
+
+known : {changes : CostChanges} → changes ≡ Nothing → changes ≢ Several
+known is several = nothing-several (sym is ∙ several)
+  where
+    nothing-several : Nothing ≡ Several → ⊥
+    nothing-several p = cc
+
+known_one : {changes : CostChanges} (peer : Peer) → changes ≡ One peer → changes ≢ Several
+known_one peer is several = one-several (sym is ∙ several)
+  where
+    one-several : One peer ≡ Several → ⊥
+    one-several p = cc
+
+pub returns-clause-quiet : goal.returns-clause-quiet
+returns-clause-quiet c nothing current =
+    let inside = c.self.inside in
+    let s : State = record {
+      router = inside.router;
+      collects = inside.collects;
+      seqno = inside.seqno;
+      raises = inside.raises;
+      announced = inside.announced;
+      interfaces = inside.interfaces;
+      neighbours = inside.neighbours;
+      sources = inside.sources;
+      routes = inside.routes;
+      requests = inside.requests;
+      pending = inside.pending;
+      left_out = inside.left_out;
+    } in
+    ticked_current c.args.now s c.forget_each.new.self c.tick.new.self c.as_slice.result.now c.forget_each.ensures c.tick.ensures.links (c.as_slice.ensures.value ∙ c.tick.ensures.gone)
+    (c.cost_changes-changes.ensures.costs nothing) (c.cost_changes-changes.ensures.gone (known nothing)) (subst AreCurrent (sym c.self.view_is) current)
+
+pub returns-clause-kept : goal.returns-clause-kept
+returns-clause-kept c nothing =
+    let inside = c.self.inside in
+    let s : State = record {
+      router = inside.router;
+      collects = inside.collects;
+      seqno = inside.seqno;
+      raises = inside.raises;
+      announced = inside.announced;
+      interfaces = inside.interfaces;
+      neighbours = inside.neighbours;
+      sources = inside.sources;
+      routes = inside.routes;
+      requests = inside.requests;
+      pending = inside.pending;
+      left_out = inside.left_out;
+    } in
+    subst (λ (s : State). KeepsRoutes s c.forget_each.new.self) c.self.view_is
+    (ticked_routes c.args.now s c.forget_each.new.self c.tick.new.self c.as_slice.result.now c.forget_each.ensures c.tick.ensures.links (c.as_slice.ensures.value ∙ c.tick.ensures.gone)
+    (c.cost_changes-changes.ensures.costs nothing) (c.cost_changes-changes.ensures.gone (known nothing)))
+
+pub returns-clause-others : goal.returns-clause-others
+returns-clause-others c peer one current =
+    let inside = c.self.inside in
+    let s : State = record {
+      router = inside.router;
+      collects = inside.collects;
+      seqno = inside.seqno;
+      raises = inside.raises;
+      announced = inside.announced;
+      interfaces = inside.interfaces;
+      neighbours = inside.neighbours;
+      sources = inside.sources;
+      routes = inside.routes;
+      requests = inside.requests;
+      pending = inside.pending;
+      left_out = inside.left_out;
+    } in
+    ticked_others c.args.now peer s c.forget_each.new.self c.tick.new.self c.as_slice.result.now c.forget_each.ensures c.tick.ensures.links (c.as_slice.ensures.value ∙ c.tick.ensures.gone)
+    (c.cost_changes-changes.ensures.others peer one) (c.cost_changes-changes.ensures.gone (known_one peer one)) (subst AreCurrent (sym c.self.view_is) current)

@@ -1,0 +1,12 @@
+-- The source is passed, or there is none at the index.
+use Rattle.std.proofs.Common.{sym, ◌∙◌}
+use Rattle.babel_speaker.proofs.Earliest.{one_passed, none_passed}
+use Rattle.babel_speaker.proofs.ticks.deadlines.earlier_of_source.Goals as goal
+
+pub returns-in-Some : goal.returns-in-Some
+returns-in-Some c =
+    one_passed (λ e. e.1.due) c.args.sources.now c.args.index (c.in-Some.field-0-0, c.in-Some.entry) c.args.due c.min.result
+    (sym c.entry_at.ensures ∙ c.in-Some.is) c.min.ensures
+
+pub returns-in-None : goal.returns-in-None
+returns-in-None c = none_passed (λ e. e.1.due) c.args.sources.now c.args.index c.args.due (sym c.entry_at.ensures ∙ c.in-None.is)

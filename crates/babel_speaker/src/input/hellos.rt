@@ -1,0 +1,184 @@
+//! Hellos and IHUs (RFC 8966, section 3.4).
+
+ghost use Rattle.std.specs.Prelude.{◌≡◌, ◌↔◌, true, IsTrue, IsFalse, IsErr, IfOk, OnOk, OnErr, nat_eq, if◌then◌else◌};
+ghost use Rattle.babel_link.specs.Neighbours.{hello_verdict};
+ghost use Rattle.babel_state.specs.State.{cost_at};
+ghost use Rattle.babel_state.specs.Hellos.{is_for_interface, is_neighbour_too_many, forgets_flushed, hears, handle_hello, handle_ihu};
+ghost use Rattle.babel_state.specs.CurrentSelections.{AreCurrent};
+ghost use Rattle.babel_state.specs.KeptRoutes.{KeepsRoutes};
+ghost use Rattle.babel_state.specs.SettledLaws.{with_ihu};
+ghost use Rattle.babel_speaker.specs.LinkChanges.{AreOthersCurrent};
+ghost use Rattle.babel_speaker.specs.declared.tables.link_costs.LinkChange.TheVariants.{Nothing, Cost};
+
+use crate::state::Core;
+use crate::tables::addresses::is_own_address;
+use crate::tables::{LinkChange, Scratch};
+use babel_link::{Full, Heard};
+use babel_state::Verdict;
+use babel_value::{Addr, Metric, Peer, Seqno};
+
+impl Core {
+    /// Whether an IHU is for this speaker: it is for all, or for an own address of the interface over
+    /// which it came.
+    pub(crate) fn is_for_interface(&self, iface: u8, to: &Option<Addr>) -> bool
+        ensures { result ≡ is_for_interface iface to.now self.now }
+    {
+        let Some(addr) = to else {
+            return true;
+        };
+        match self.interface(iface) {
+            Some(interface) => is_own_address(addr, &interface),
+            None => false,
+        }
+    }
+
+    /// Removes the routes of a neighbour that a Hello flushes.
+    pub(crate) fn forget_flushed(&mut self, heard: Heard, peer: &Peer)
+        ensures { self.new ≡ forgets_flushed heard peer.now self.old }
+    {
+        match heard {
+            Heard::Kept => {}
+            Heard::Flush => self.routes.forget(peer),
+        }
+    }
+
+    /// What changed if the link to the peer had this cost and all else is as it was.
+    fn change_from(&self, peer: &Peer, cost: Metric) -> LinkChange
+        ensures { result ≡ (if nat_eq (cost_at self.now peer.now) cost then Nothing else Cost) }
+    {
+        if self.cost(peer).0 == cost.0 {
+            LinkChange::Nothing
+        } else {
+            LinkChange::Cost
+        }
+    }
+
+    /// Takes a Hello into the neighbour table, and removes the routes of a neighbour that it flushes.
+    fn take_hello(
+        &mut self,
+        now: u64,
+        peer: &Peer,
+        unicast: bool,
+        seqno: Seqno,
+        interval: u16,
+    ) -> Result<Heard, Full>
+        ensures full { IsErr result ↔ (is_neighbour_too_many peer.now self.old ≡ true) }
+        ensures ok { OnOk result (self.new ≡ hears now peer.now unicast seqno interval self.old) }
+        ensures err { OnErr result (self.new ≡ self.old) }
+        ensures heard { IfOk result (λ heard. heard ≡ hello_verdict peer.now unicast seqno self.old.neighbours) }
+    {
+        match self.neighbours.hello(now, *peer, unicast, seqno, interval) {
+            Ok(heard) => {
+                self.forget_flushed(heard, peer);
+                Ok(heard)
+            }
+            Err(full) => Err(full),
+        }
+    }
+
+    /// The same. Returns what changed: if nothing, all selections that were current are so, and the selected routes are
+    /// reported as before; if the cost of the link to the peer alone, those of the prefixes to which the peer has no route.
+    fn hear(
+        &mut self,
+        now: u64,
+        peer: &Peer,
+        unicast: bool,
+        seqno: Seqno,
+        interval: u16,
+    ) -> Result<LinkChange, Full>
+        ensures full { IsErr result ↔ (is_neighbour_too_many peer.now self.old ≡ true) }
+        ensures ok { OnOk result (self.new ≡ hears now peer.now unicast seqno interval self.old) }
+        ensures err { OnErr result (self.new ≡ self.old) }
+        ensures nothing { IfOk result (λ change. change ≡ Nothing → AreCurrent self.old → AreCurrent self.new) }
+        ensures kept { IfOk result (λ change. change ≡ Nothing → KeepsRoutes self.old self.new) }
+        ensures cost { IfOk result (λ change. change ≡ Cost → AreCurrent self.old → AreOthersCurrent peer.now self.new) }
+    {
+        let cost = self.cost(peer);
+        match self.take_hello(now, peer, unicast, seqno, interval) {
+            Ok(heard) => match heard {
+                Heard::Kept => Ok(self.change_from(peer, cost)),
+                Heard::Flush => Ok(LinkChange::Routes),
+            },
+            Err(full) => Err(full),
+        }
+    }
+
+    /// Handles a Hello (RFC 8966, section 3.4.1). A cost may change by it; then routes are selected again.
+    /// All selections are current then. Unless `changed` is `true` then, the selected routes are reported as before.
+    #[tactic(auto, unfolding(babel_state::specs::Hellos::handle_hello))]
+    pub fn handle_hello(
+        &mut self,
+        now: u64,
+        peer: &Peer,
+        unicast: bool,
+        seqno: Seqno,
+        interval: u16,
+        settled: bool,
+        changed: &mut bool,
+        scratch: &mut Scratch,
+    ) -> Verdict
+        requires settled { IsTrue settled → AreCurrent self.old }
+        ensures state { (self.new, result) ≡ handle_hello now peer.now unicast seqno interval self.old }
+        ensures current { AreCurrent self.new }
+        ensures kept { IsFalse changed.new → KeepsRoutes self.old self.new }
+    {
+        match self.hear(now, peer, unicast, seqno, interval) {
+            Ok(change) => {
+                *changed = self.reselect_link(change, settled, now, peer, scratch);
+                Verdict::Taken
+            }
+            Err(_) => {
+                *changed = self.reselect_after(false, settled, now, scratch);
+                Verdict::TableFull
+            }
+        }
+    }
+
+    /// Takes an IHU into the neighbour table.
+    #[tactic(auto, unfolding(babel_state::specs::Hellos::handle_ihu))]
+    fn take_ihu(&mut self, now: u64, peer: &Peer, rxcost: Metric, interval: u16)
+        ensures { self.new ≡ with_ihu now peer.now rxcost interval self.old }
+    {
+        self.neighbours.ihu(now, *peer, rxcost, interval);
+    }
+
+    /// The same. Returns what changed, as `hear`.
+    fn hear_ihu(&mut self, now: u64, peer: &Peer, rxcost: Metric, interval: u16) -> LinkChange
+        ensures state { self.new ≡ with_ihu now peer.now rxcost interval self.old }
+        ensures nothing { result ≡ Nothing → AreCurrent self.old → AreCurrent self.new }
+        ensures kept { result ≡ Nothing → KeepsRoutes self.old self.new }
+        ensures cost { AreCurrent self.old → AreOthersCurrent peer.now self.new }
+    {
+        let cost = self.cost(peer);
+        self.take_ihu(now, peer, rxcost, interval);
+        self.change_from(peer, cost)
+    }
+
+    /// Handles an IHU (RFC 8966, section 3.4.2). A cost may change by it; then routes are selected again.
+    /// After an IHU for this speaker all selections are current, and the speaker is settled.
+    #[tactic(auto, unfolding(babel_state::specs::Hellos::handle_ihu))]
+    pub fn handle_ihu(
+        &mut self,
+        now: u64,
+        peer: &Peer,
+        to: &Option<Addr>,
+        rxcost: Metric,
+        interval: u16,
+        settled: &mut bool,
+        changed: &mut bool,
+        scratch: &mut Scratch,
+    ) -> Verdict
+        requires settled { IsTrue settled.old → AreCurrent self.old }
+        ensures state { (self.new, result) ≡ handle_ihu now peer.now to.now rxcost interval self.old }
+        ensures current { IsFalse settled.old → IsTrue settled.new → AreCurrent self.new }
+        ensures kept { IsFalse changed.new → KeepsRoutes self.old self.new }
+    {
+        if !self.is_for_interface(peer.iface, to) {
+            return Verdict::OtherAddress;
+        }
+        let change = self.hear_ihu(now, peer, rxcost, interval);
+        *changed = self.reselect_link(change, *settled, now, peer, scratch);
+        *settled = true;
+        Verdict::Taken
+    }
+}

@@ -1,0 +1,356 @@
+//! Route selection and what follows from it: triggered updates and requests for a seqno (RFC 8966,
+//! sections 3.6, 3.7.2 and 3.8.2).
+
+ghost use Rattle.std.specs.Prelude.{◌≡◌, [], ◌∷◌, IsTrue, IsFalse};
+ghost use Rattle.babel_state.specs.declared.requests.Resend.TheVariants.{Unfeasible};
+ghost use Rattle.babel_state.specs.Limits.{request_hops};
+ghost use Rattle.babel_state.specs.Reselection.{queue, updates_to_all, update_to, request_seqno, unfeasible_peers, is_same_origin, advertise_change, may_request_for_lost, seqno_after, request_for_lost, is_selected_peer, request_for_update, request_from_sender, request_for_seqno, follow_up, select, reselect, reselect_each, reselect_all};
+ghost use Rattle.babel_state.specs.State.{prefixes_in, selected_at};
+ghost use Rattle.babel_state.specs.CurrentSelections.{AreCurrent};
+ghost use Rattle.babel_state.specs.KeptRoutes.{KeepsRoutes};
+ghost use Rattle.babel_speaker.specs.LinkChanges.{AreOthersCurrent};
+ghost use Rattle.babel_speaker.specs.declared.tables.link_costs.LinkChange.TheVariants.{Nothing, Cost};
+
+use crate::input::causes::UnfeasibleUpdate;
+use crate::input::selection_changes::{are_alike, is_same_origin, is_selected_peer, seqno_after};
+use crate::output::queueing::{has_unfeasible, queue_requests_to_unfeasible, queue_updates_to_all};
+use crate::state::Core;
+use crate::tables::{LinkChange, LinkCosts, Scratch};
+use babel_choice::{Cursor, Selection};
+use babel_state::{Item, REQUEST_HOPS, Resend, Target};
+use babel_value::{Peer, Prefix, Seqno, Source};
+
+impl Core {
+    /// Queues an item.
+    pub fn queue(&mut self, item: Item)
+        ensures { self.new ≡ queue (item ∷ []) self.old }
+    {
+        self.pending.push(item);
+    }
+
+    /// Queues an update of the prefix to all on each interface.
+    pub fn queue_updates_to_all(&mut self, prefix: &Prefix)
+        ensures { self.new ≡ queue (updates_to_all prefix.now self.old) self.old }
+    {
+        queue_updates_to_all(&mut self.pending, self.interfaces.len(), *prefix);
+    }
+
+    /// Queues an update of the prefix to one neighbour.
+    pub(crate) fn queue_update_to(&mut self, peer: &Peer, prefix: &Prefix)
+        ensures { self.new ≡ queue (update_to peer.now prefix.now ∷ []) self.old }
+    {
+        let target = Target {
+            iface: peer.iface,
+            to: Some(peer.addr),
+        };
+        self.pending.push(Item::Update {
+            target,
+            prefix: *prefix,
+        });
+    }
+
+    /// Records a request for a seqno and queues it to one neighbour, unless it is redundant (RFC 8966,
+    /// section 3.8.2.1).
+    #[tactic(auto, unfolding(babel_state::specs::Reselection::request_seqno))]
+    pub(crate) fn request_seqno_from(
+        &mut self,
+        now: u64,
+        source: Source,
+        seqno: Seqno,
+        resend: Resend,
+        hops: u8,
+        peer: Peer,
+    )
+        ensures { self.new ≡ request_seqno now source seqno resend hops (peer ∷ []) self.old }
+    {
+        if self.requests.is_redundant(&source, seqno) {
+            return;
+        }
+        self.requests.record(now, source, seqno, resend);
+        self.pending.push(Item::Request {
+            peer,
+            source,
+            seqno,
+            hops,
+        });
+    }
+
+    /// Records a request for a seqno and queues it to the neighbours of all unfeasible routes to its
+    /// prefix, unless it is redundant (RFC 8966, section 3.8.2.1).
+    #[tactic(auto, unfolding(babel_state::specs::Reselection::request_seqno, babel_state::specs::Reselection::unfeasible_peers))]
+    fn request_seqno_from_unfeasible(&mut self, now: u64, source: Source, seqno: Seqno)
+        ensures { self.new ≡ request_seqno now source seqno Unfeasible request_hops (unfeasible_peers source.prefix self.old) self.old }
+    {
+        if self.requests.is_redundant(&source, seqno) {
+            return;
+        }
+        self.requests.record(now, source, seqno, Resend::Unfeasible);
+        queue_requests_to_unfeasible(
+            &mut self.pending,
+            &self.routes,
+            &self.sources,
+            source,
+            seqno,
+            REQUEST_HOPS,
+        );
+    }
+
+    /// Selects the route of the prefix again (RFC 8966, section 3.6). Returns the old and the new selection.
+    pub fn select(&mut self, prefix: &Prefix) -> (Option<Selection>, Option<Selection>)
+        ensures state { self.new ≡ select prefix.now self.old }
+        ensures old { result.0 ≡ selected_at prefix.now self.old }
+        ensures new { result.1 ≡ selected_at prefix.now self.new }
+    {
+        let mut cursor = Cursor::new();
+        self.select_near(prefix, &mut cursor)
+    }
+
+    /// The same. The searches begin at the cursor.
+    pub(crate) fn select_near(
+        &mut self,
+        prefix: &Prefix,
+        cursor: &mut Cursor,
+    ) -> (Option<Selection>, Option<Selection>)
+        ensures state { self.new ≡ select prefix.now self.old }
+        ensures old { result.0 ≡ selected_at prefix.now self.old }
+        ensures new { result.1 ≡ selected_at prefix.now self.new }
+    {
+        let local = self.announces(prefix);
+        let costs = LinkCosts::new(&self.interfaces, &self.neighbours);
+        self.routes
+            .select_near(prefix, local, &self.sources, &costs, cursor)
+    }
+
+    /// Advertises a route at once that is new, that is lost or whose router-id changed (RFC 8966,
+    /// section 3.7.2).
+    fn advertise_change(
+        &mut self,
+        prefix: &Prefix,
+        old: &Option<Selection>,
+        new: &Option<Selection>,
+    )
+        ensures { self.new ≡ advertise_change prefix.now old.now new.now self.old }
+    {
+        if !is_same_origin(old, new) {
+            self.queue_updates_to_all(prefix);
+        }
+    }
+
+    /// Whether a lost route may come back by a greater seqno (RFC 8966, section 3.8.2.1).
+    fn may_request_for_lost(&self, prefix: &Prefix) -> bool
+        ensures { result ≡ may_request_for_lost prefix.now self.now }
+    {
+        !self.announces(prefix) && has_unfeasible(&self.routes, &self.sources, prefix)
+    }
+
+    /// Requests a greater seqno of a lost route (RFC 8966, section 3.8.2.1).
+    fn request_for_lost(&mut self, now: u64, prefix: &Prefix, lost: &Selection)
+        ensures { self.new ≡ request_for_lost now prefix.now lost.now self.old }
+    {
+        let source = Source {
+            prefix: *prefix,
+            router: lost.entry.router,
+        };
+        let seqno = seqno_after(self.pair(&source), lost.entry.distance.seqno);
+        self.request_seqno_from_unfeasible(now, source, seqno);
+    }
+
+    /// Requests a greater seqno from the sender of an unfeasible update (RFC 8966, section 3.8.2.2).
+    fn request_for_update(&mut self, now: u64, prefix: &Prefix, update: &UnfeasibleUpdate)
+        ensures { self.new ≡ request_for_update now prefix.now update.now self.old }
+    {
+        let source = Source {
+            prefix: *prefix,
+            router: update.router,
+        };
+        if let Some(pair) = self.pair(&source) {
+            let peer = update.peer;
+            let resend = Resend::Neighbour(peer);
+            self.request_seqno_from(now, source, pair.seqno.next(), resend, REQUEST_HOPS, peer);
+        }
+    }
+
+    /// The same if the update's sender was the selected neighbour.
+    fn request_from_sender(
+        &mut self,
+        now: u64,
+        cause: Option<UnfeasibleUpdate>,
+        prefix: &Prefix,
+        old: &Option<Selection>,
+    )
+        ensures { self.new ≡ request_from_sender now cause prefix.now old.now self.old }
+    {
+        if let Some(update) = cause {
+            if is_selected_peer(&update.peer, old) {
+                self.request_for_update(now, prefix, &update);
+            }
+        }
+    }
+
+    /// The requests for a seqno that follow a reselection (RFC 8966, section 3.8.2).
+    fn request_for_seqno(
+        &mut self,
+        now: u64,
+        cause: Option<UnfeasibleUpdate>,
+        prefix: &Prefix,
+        old: &Option<Selection>,
+        new: &Option<Selection>,
+    )
+        ensures { self.new ≡ request_for_seqno now cause prefix.now old.now new.now self.old }
+    {
+        if let Some(lost) = old {
+            if new.is_none() && self.may_request_for_lost(prefix) {
+                self.request_for_lost(now, prefix, lost);
+                return;
+            }
+        }
+        self.request_from_sender(now, cause, prefix, old);
+    }
+
+    /// What follows from a change of the selection after an input, which was this unfeasible update or none. It queues
+    /// items and records requests, and no route is reported otherwise than before.
+    #[tactic(auto, using(babel_state::proofs::KeptRoutes::follows_routes))]
+    pub(crate) fn follow_up(
+        &mut self,
+        now: u64,
+        cause: Option<UnfeasibleUpdate>,
+        prefix: &Prefix,
+        old: &Option<Selection>,
+        new: &Option<Selection>,
+    )
+        ensures state { self.new ≡ follow_up now cause prefix.now old.now new.now self.old }
+        ensures kept { KeepsRoutes self.old self.new }
+    {
+        self.advertise_change(prefix, old, new);
+        self.request_for_seqno(now, cause, prefix, old, new);
+    }
+
+    /// Selects the route of the prefix again after an input, which was this unfeasible update or none,
+    /// and does what follows from a change.
+    pub(crate) fn reselect(&mut self, now: u64, cause: Option<UnfeasibleUpdate>, prefix: &Prefix)
+        ensures { self.new ≡ reselect now cause prefix.now self.old }
+    {
+        let mut cursor = Cursor::new();
+        self.reselect_near(now, cause, prefix, &mut cursor);
+    }
+
+    /// The same. The searches begin at the cursor. Returns whether the prefix's selected route is reported otherwise
+    /// than before.
+    #[tactic(auto, unfolding(babel_state::specs::Reselection::reselect))]
+    pub(crate) fn reselect_near(
+        &mut self,
+        now: u64,
+        cause: Option<UnfeasibleUpdate>,
+        prefix: &Prefix,
+        cursor: &mut Cursor,
+    ) -> bool
+        ensures state { self.new ≡ reselect now cause prefix.now self.old }
+        ensures kept { IsFalse result → KeepsRoutes self.old self.new }
+    {
+        let (old, new) = self.select_near(prefix, cursor);
+        self.follow_up(now, cause, prefix, &old, &new);
+        !are_alike(&old, &new)
+    }
+
+    /// Selects the routes of the prefixes again, one after the other. Since the prefixes rise, that is one walk over
+    /// the tables.
+    pub(crate) fn reselect_each(&mut self, now: u64, prefixes: &Scratch)
+        ensures { self.new ≡ reselect_each now (prefixes_in prefixes.now) self.old }
+    {
+        let mut cursor = Cursor::new();
+        for prefix in prefixes.prefixes() {
+            self.reselect_near(now, None, &prefix, &mut cursor);
+        }
+    }
+
+    /// Selects the route of each prefix again that has a route or a selection. One walk over the tables finds those
+    /// whose selection isn't current, since a reselection changes nothing of the others. If it returns `false`, there is
+    /// none, and nothing changed.
+    pub(crate) fn reselect_all(&mut self, now: u64, scratch: &mut Scratch) -> bool
+        ensures state { self.new ≡ reselect_all now self.old }
+        ensures quiet { IsFalse result → self.new ≡ self.old }
+    {
+        // The tables are in order.
+        let _count = self.routes.len();
+        let links = LinkCosts::new(&self.interfaces, &self.neighbours);
+        scratch.gather_stale(&self.routes, &self.announced, &self.sources, &links);
+        self.reselect_each(now, scratch);
+        !scratch.is_empty()
+    }
+
+    /// The same. If the speaker is settled, all selections are current, and there is nothing to do.
+    #[tactic(auto, using(crate::proofs::Settling::settled_all, crate::proofs::Settling::current_all))]
+    fn reselect_unless(&mut self, settled: bool, now: u64, scratch: &mut Scratch) -> bool
+        requires settled { IsTrue settled → AreCurrent self.old }
+        ensures state { self.new ≡ reselect_all now self.old }
+        ensures current { AreCurrent self.new }
+        ensures quiet { IsFalse result → self.new ≡ self.old }
+    {
+        // The tables are in order.
+        let _count = self.routes.len();
+        if settled {
+            return false;
+        }
+        self.reselect_all(now, scratch)
+    }
+
+    /// The same after a change, or if there was none.
+    pub(crate) fn reselect_after(
+        &mut self,
+        changed: bool,
+        settled: bool,
+        now: u64,
+        scratch: &mut Scratch,
+    ) -> bool
+        requires settled { IsTrue settled → IsFalse changed → AreCurrent self.old }
+        ensures state { self.new ≡ reselect_all now self.old }
+        ensures current { AreCurrent self.new }
+        ensures quiet { IsFalse result → self.new ≡ self.old }
+    {
+        if changed {
+            self.reselect_unless(false, now, scratch)
+        } else {
+            self.reselect_unless(settled, now, scratch)
+        }
+    }
+
+    /// Selects the route of each prefix again to which the neighbour has a route and whose selection isn't current. If
+    /// all other selections are current, that leaves what a reselection of all leaves.
+    fn reselect_from(&mut self, now: u64, peer: &Peer, scratch: &mut Scratch)
+        requires others { AreOthersCurrent peer.now self.old }
+        ensures state { self.new ≡ reselect_all now self.old }
+        ensures current { AreCurrent self.new }
+    {
+        // The tables are in order.
+        let _count = self.routes.len();
+        let links = LinkCosts::new(&self.interfaces, &self.neighbours);
+        scratch.gather_stale_from(&self.routes, peer, &self.announced, &self.sources, &links);
+        self.reselect_each(now, scratch);
+    }
+
+    /// Selects routes again after a change of the link to a neighbour. It leaves what a reselection of all leaves. If it
+    /// returns `false`, nothing changed by it and the link didn't either.
+    pub(crate) fn reselect_link(
+        &mut self,
+        change: LinkChange,
+        settled: bool,
+        now: u64,
+        peer: &Peer,
+        scratch: &mut Scratch,
+    ) -> bool
+        requires nothing { IsTrue settled → change ≡ Nothing → AreCurrent self.old }
+        requires cost { IsTrue settled → change ≡ Cost → AreOthersCurrent peer.now self.old }
+        ensures state { self.new ≡ reselect_all now self.old }
+        ensures current { AreCurrent self.new }
+        ensures quiet { IsFalse result → (change ≡ Nothing) × (self.new ≡ self.old) }
+    {
+        match change {
+            LinkChange::Nothing => return self.reselect_unless(settled, now, scratch),
+            LinkChange::Cost if settled => self.reselect_from(now, peer, scratch),
+            _ => {
+                self.reselect_unless(false, now, scratch);
+            }
+        }
+        true
+    }
+}

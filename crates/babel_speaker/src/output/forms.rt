@@ -1,0 +1,95 @@
+//! The messages that items mean (RFC 8966, sections 3.4, 3.7 and 3.8).
+
+ghost use Rattle.std.specs.Prelude.{◌≡◌, ◌≤◌, ◌*◌, Some};
+ghost use Rattle.babel_message.specs.declared.messages.Message.TheVariants as messages;
+ghost use Rattle.babel_state.specs.declared.items.Outgoing.TheVariants as outgoings;
+ghost use Rattle.babel_state.specs.OutgoingMessages.{to_all, to_peer, outgoing_hello};
+ghost use Rattle.babel_state.specs.Limits.{longest_hello};
+ghost use Rattle.babel_speaker.specs.Intervals.{hellos_an_ihu, hellos_an_update};
+
+use babel_message::Message;
+use babel_state::{InterfaceEntry, Outgoing, Target};
+use babel_value::{Addr, Distance, Metric, Peer, Prefix, RouterId};
+
+/// How many Hello intervals an IHU's interval has (RFC 8966, appendix B).
+const IHU_HELLOS: u16 = 3;
+
+/// How many Hello intervals an Update's interval has (RFC 8966, appendix B).
+const UPDATE_HELLOS: u16 = 4;
+
+/// All neighbours of the interface.
+pub(crate) fn to_all(iface: u8) -> Target
+    ensures { result ≡ to_all iface }
+{
+    Target { iface, to: None }
+}
+
+/// The neighbour alone.
+pub fn to_peer(peer: Peer) -> Target
+    ensures { result ≡ to_peer peer }
+{
+    Target {
+        iface: peer.iface,
+        to: Some(peer.addr),
+    }
+}
+
+/// The next Hello of the interface (RFC 8966, section 3.4.1).
+pub fn hello_message(iface: u8, interface: &InterfaceEntry) -> Outgoing
+    ensures { result ≡ outgoing_hello iface interface.now }
+{
+    let message = Message::Hello {
+        unicast: false,
+        seqno: interface.hello_seqno,
+        interval: interface.hello,
+    };
+    Outgoing::Message(to_all(iface), message)
+}
+
+/// How well the neighbour is heard (RFC 8966, section 3.4.2).
+pub fn ihu_message(peer: Peer, rxcost: Metric, interface: &InterfaceEntry) -> Outgoing
+    requires { interface.now.hello ≤ longest_hello }
+    ensures { result ≡ outgoings.Message (to_all peer.iface) (messages.Ihu (Some peer.addr) rxcost (hellos_an_ihu * interface.now.hello)) }
+{
+    let message = Message::Ihu {
+        to: Some(peer.addr),
+        rxcost,
+        interval: IHU_HELLOS * interface.hello,
+    };
+    Outgoing::Message(to_all(peer.iface), message)
+}
+
+/// An Update of a prefix (RFC 8966, section 3.7).
+pub fn update_message(
+    target: Target,
+    prefix: Prefix,
+    router: RouterId,
+    distance: Distance,
+    next_hop: Addr,
+    interface: &InterfaceEntry,
+) -> Outgoing
+    requires { interface.now.hello ≤ longest_hello }
+    ensures { result ≡ outgoings.Message target (messages.Update prefix router next_hop distance.seqno distance.metric (hellos_an_update * interface.now.hello)) }
+{
+    let message = Message::Update {
+        prefix,
+        router,
+        next_hop,
+        seqno: distance.seqno,
+        metric: distance.metric,
+        interval: UPDATE_HELLOS * interface.hello,
+    };
+    Outgoing::Message(target, message)
+}
+
+/// The retraction of a prefix (RFC 8966, section 3.7).
+pub fn retraction_message(target: Target, prefix: Prefix, interface: &InterfaceEntry) -> Outgoing
+    requires { interface.now.hello ≤ longest_hello }
+    ensures { result ≡ outgoings.Message target (messages.Retraction prefix (hellos_an_update * interface.now.hello)) }
+{
+    let message = Message::Retraction {
+        prefix,
+        interval: UPDATE_HELLOS * interface.hello,
+    };
+    Outgoing::Message(target, message)
+}

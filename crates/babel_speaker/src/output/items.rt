@@ -1,0 +1,160 @@
+//! What is needed of a state to send its pending items, and what a message that is sent changes (RFC 8966, sections
+//! 3.4.1 and 3.7.3).
+
+ghost use Rattle.std.specs.Prelude.{◌≡◌, None, true, Some, slice_get, IsTrue, IsFalse};
+ghost use Rattle.std.specs.FinMap.{is_sorted};
+ghost use Rattle.babel_value.specs.Orders.{source_cmp};
+ghost use Rattle.babel_message.specs.declared.messages.Message.{Message};
+ghost use Rattle.babel_state.specs.Addresses.{transport_at};
+ghost use Rattle.babel_state.specs.CurrentSelections.{AreCurrent};
+ghost use Rattle.babel_state.specs.State.{with_interface};
+ghost use Rattle.babel_state.specs.NextDatagram.{next_hello, left_out_more, after_message};
+ghost use Rattle.babel_state.specs.Restarts.{snapshot_of};
+ghost use Rattle.babel_speaker.specs.SentMessages.{HasRoomFor, changes_a_pair, is_named_current, without_front};
+
+use crate::output::messages::interface_entry;
+use crate::state::Core;
+use crate::tables::LinkCosts;
+use crate::tables::addresses::address_of;
+use babel_choice::Cursor;
+use babel_message::Message;
+use babel_state::{Item, Target};
+use babel_value::{Addr, Distance, Source};
+
+/// The own address from which datagrams of the interface are sent, if the interface exists.
+pub fn transport(core: &Core, iface: u8) -> Option<Addr>
+    ensures { result ≡ transport_at iface core.now }
+{
+    let interface = core.interfaces.get(iface)?;
+    address_of(interface.transport, &interface)
+}
+
+/// Uses up the seqno of the interface's next Hello (RFC 8966, section 3.4.1).
+fn use_hello_seqno(core: &mut Core, iface: u8)
+    ensures state { core.new ≡ with_interface iface next_hello core.old }
+{
+    if let Some(mut interface) = interface_entry(core, iface) {
+        interface.hello_seqno = interface.hello_seqno.next();
+        core.interfaces.set(iface, interface);
+    }
+}
+
+/// Whether the message, if it is sent, changes the feasibility distance of its source (RFC 8966, section 3.7.3).
+fn changes_a_pair(core: &Core, message: &Message, cursor: &mut Cursor) -> bool
+    ensures changes { result ≡ changes_a_pair message.now core.now }
+    ensures in_order { IsTrue (is_sorted source_cmp core.now.sources) }
+{
+    let _count = core.sources.len();
+    match *message {
+        Message::Update {
+            prefix,
+            router,
+            seqno,
+            metric,
+            ..
+        } => {
+            let source = Source { prefix, router };
+            let sent = Distance { seqno, metric };
+            match core.sources.pair_near(&source, &mut cursor.source) {
+                Some(pair) => sent.better(pair),
+                None => true,
+            }
+        }
+        _ => false,
+    }
+}
+
+/// The changes by a message that is sent: a Hello uses up its seqno, and an Update lowers the
+/// feasibility distance of its source (RFC 8966, sections 3.4.1 and 3.7.3).
+#[tactic(auto, unfolding(babel_state::specs::NextDatagram::after_message))]
+fn apply_message(core: &mut Core, now: u64, target: Target, message: &Message, cursor: &mut Cursor)
+    requires room { HasRoomFor core.old message.now }
+    ensures state { core.new ≡ after_message now target message.now core.old }
+    ensures pending { core.new.pending ≡ core.old.pending }
+{
+    match *message {
+        Message::Hello { .. } => use_hello_seqno(core, target.iface),
+        Message::Update {
+            prefix,
+            router,
+            seqno,
+            metric,
+            ..
+        } => {
+            let source = Source { prefix, router };
+            let sent = Distance { seqno, metric };
+            let _ = core
+                .sources
+                .lower_near(now, source, sent, &mut cursor.source);
+        }
+        _ => {}
+    }
+}
+
+/// Whether the selection of the prefix that an Update names is current.
+fn is_named_current(core: &Core, message: &Message, cursor: &mut Cursor) -> bool
+    ensures { result ≡ is_named_current message.now core.now }
+{
+    match *message {
+        Message::Update { prefix, .. } => {
+            let local = core.announces(&prefix);
+            let costs = LinkCosts::new(&core.interfaces, &core.neighbours);
+            core.routes
+                .is_current_near(&prefix, local, &core.sources, &costs, cursor)
+        }
+        _ => true,
+    }
+}
+
+/// The same. If the speaker is settled, it stays so unless the message changes the feasibility distance of its source
+/// and then the selection of its prefix is no longer current. If `lowered` is `false` then, it was so, and the snapshot is
+/// as before.
+#[tactic(auto, using(crate::proofs::SettledItems::sent_current, crate::proofs::SettledItems::sent_but_current, crate::proofs::SnapshotsSent::sent_snapshot))]
+pub fn send_message(
+    core: &mut Core,
+    now: u64,
+    target: Target,
+    message: &Message,
+    settled: &mut bool,
+    lowered: &mut bool,
+    cursor: &mut Cursor,
+)
+    requires room { HasRoomFor core.old message.now }
+    requires settled { IsTrue settled.old → AreCurrent core.old }
+    ensures state { core.new ≡ after_message now target message.now core.old }
+    ensures pending { core.new.pending ≡ core.old.pending }
+    ensures current { IsTrue settled.new → AreCurrent core.new }
+    ensures marked { IsFalse lowered.new → IsFalse lowered.old }
+    ensures saved { IsFalse lowered.new → snapshot_of core.new ≡ snapshot_of core.old }
+{
+    let changes = changes_a_pair(core, message, cursor);
+    apply_message(core, now, target, message, cursor);
+    if !changes {
+        return;
+    }
+    *lowered = true;
+    if *settled && !is_named_current(core, message, cursor) {
+        *settled = false;
+    }
+}
+
+/// An Update was left out, since the source table has no room.
+pub fn leave_out(core: &mut Core)
+    ensures { core.new ≡ left_out_more core.old }
+{
+    core.left_out = core.left_out.saturating_add(1);
+}
+
+/// The oldest pending item.
+pub fn first_item(core: &Core) -> Option<Item>
+    ensures { result ≡ slice_get core.now.pending.items 0 }
+{
+    core.pending.front()
+}
+
+/// Removes the oldest pending item.
+pub fn remove_first_item(core: &mut Core)
+    ensures { core.new ≡ without_front core.old }
+{
+    core.pending.pop();
+}

@@ -1,0 +1,93 @@
+//! What is queued in several places: updates to all, and requests to the neighbours of routes.
+
+ghost use Rattle.std.specs.Prelude.{◌≡◌, map, length, filter};
+ghost use Rattle.std.specs.List.{range_with_len, list_any};
+ghost use Rattle.babel_choice.specs.Choices.{routes_of};
+ghost use Rattle.babel_state.specs.Queueing.{queued};
+ghost use Rattle.babel_state.specs.Reselection.{update_to_all, update_to, request_items, is_unfeasible};
+ghost use Rattle.babel_speaker.specs.Reaching.{reachable_of};
+
+use crate::tables::{Announced, PendingItems, Reachable};
+use babel_choice::{Entry, RouteKey};
+use babel_route::Routes;
+use babel_sources::Sources;
+use babel_state::{Item, Target};
+use babel_value::{Peer, Prefix, Seqno, Source};
+
+/// Queues an update of the prefix to all on each of the interfaces.
+#[tactic(auto, unfolding(babel_state::specs::Queueing::queued))]
+pub fn queue_updates_to_all(pending: &mut PendingItems, interfaces: u8, prefix: Prefix)
+    ensures { pending.new ≡ queued (map (update_to_all prefix) (range_with_len 0 interfaces)) pending.old }
+{
+    for iface in 0..interfaces {
+        let target = Target { iface, to: None };
+        pending.push(Item::Update { target, prefix });
+    }
+}
+
+/// Whether the route has a finite metric and isn't feasible (RFC 8966, section 3.5.1).
+pub fn is_unfeasible(route: &(RouteKey, Entry), sources: &Sources) -> bool
+    ensures { result ≡ is_unfeasible sources.now route.now }
+{
+    let source = Source {
+        prefix: route.0.prefix,
+        router: route.1.router,
+    };
+    !sources.feasible(source, route.1.distance)
+}
+
+/// Whether a route to the prefix is unfeasible.
+pub fn has_unfeasible(routes: &Routes, sources: &Sources, prefix: &Prefix) -> bool
+    ensures { result ≡ list_any (is_unfeasible sources.now) (routes_of prefix.now routes.now.entries) }
+{
+    for route in routes.routes_of(prefix) {
+        if is_unfeasible(&route, sources) {
+            return true;
+        }
+    }
+    false
+}
+
+/// Queues a request to the neighbour of each unfeasible route to the source's prefix.
+#[tactic(auto, unfolding(babel_state::specs::Queueing::queued))]
+pub fn queue_requests_to_unfeasible(
+    pending: &mut PendingItems,
+    routes: &Routes,
+    sources: &Sources,
+    source: Source,
+    seqno: Seqno,
+    hops: u8,
+)
+    ensures { pending.new ≡ queued (request_items source seqno hops (map (λ r. r.0.peer) (filter (is_unfeasible sources.now) (routes_of source.prefix routes.now.entries)))) pending.old }
+{
+    for route in routes.routes_of(&source.prefix) {
+        if is_unfeasible(&route, sources) {
+            let peer = route.0.peer;
+            pending.push(Item::Request {
+                peer,
+                source,
+                seqno,
+                hops,
+            });
+        }
+    }
+}
+
+/// Queues an update of each prefix that is announced or selected to one neighbour.
+#[tactic(auto, unfolding(babel_state::specs::Queueing::queued))]
+pub fn queue_updates_of(
+    pending: &mut PendingItems,
+    announced: &Announced,
+    routes: &Routes,
+    peer: &Peer,
+)
+    ensures { pending.new ≡ queued (map (update_to peer.now) (reachable_of announced.now routes.now.selections)) pending.old }
+{
+    for prefix in Reachable::new(announced, routes) {
+        let target = Target {
+            iface: peer.iface,
+            to: Some(peer.addr),
+        };
+        pending.push(Item::Update { target, prefix });
+    }
+}

@@ -1,0 +1,65 @@
+//! What a speaker keeps over a restart: its own seqno, how often that grew, and its source table.
+
+ghost use Rattle.std.specs.Prelude.{◌≡◌, IsOk, IsNone, IfOk, IfErr};
+ghost use Rattle.babel_state.specs.Configs.{config_fault};
+ghost use Rattle.babel_state.specs.Invariants.{IsWellFormed};
+ghost use Rattle.babel_state.specs.Restarts.{snapshot_of, restored, IsSnapshot};
+ghost use Rattle.babel_snapshot.specs.Octets.{snapshot_octets};
+ghost use Rattle.babel_snapshot.specs.Reading.{restore_fault, snapshot_in};
+ghost use Rattle.babel_snapshot.specs.SnapshotLaws.{IsRead};
+ghost use Rattle.babel_speaker.specs.Making.{IsRestoreFault};
+
+use crate::state::Core;
+use crate::state::making::make;
+use crate::state::restored_sources::restore_sources;
+use babel_snapshot::SavedState;
+use babel_snapshot::laws::written_is_read;
+use babel_state::laws::restarts_are_seen;
+use babel_state::{Config, RestoreFault};
+use babel_value::Memory;
+use std::alloc::Global;
+
+/// The octets of what is kept over a restart.
+#[tactic(auto, unfolding(babel_state::specs::Restarts::snapshot_of))]
+pub fn save(core: &Core, alloc: Global) -> Result<Vec<u8>, Memory>
+    ensures ok { IfOk result (λ octets. octets.items ≡ snapshot_octets (snapshot_of core.now)) }
+    ensures restorable { IfOk result (λ octets. IsWellFormed core.now → IsRead core.now.router octets.items (snapshot_of core.now)) }
+{
+    restarts_are_seen();
+    written_is_read();
+    let octets = babel_snapshot::save(alloc, core.router, core.seqno, core.raises, &core.sources)?;
+    Ok(octets)
+}
+
+/// The state after a restart: the first one, with the seqno, the count of raises and the sources that
+/// were saved.
+#[tactic(auto, unfolding(babel_state::specs::Restarts::restored, babel_state::specs::Calls::first_state))]
+pub fn restore(
+    alloc: Global,
+    config: &Config,
+    now: u64,
+    octets: &[u8],
+) -> Result<Core, RestoreFault>
+    ensures ok { IfOk result (λ core. core ≡ restored now config.now (snapshot_in octets.now)) }
+    ensures valid { IsOk result → IsNone (config_fault config.now) }
+    ensures whole { IsOk result → IsNone (restore_fault config.now.router_id octets.now) }
+    ensures refused { IfErr result (λ fault. IsRestoreFault (config_fault config.now) (restore_fault config.now.router_id octets.now) fault) }
+    ensures snapshot { IfOk result (λ core. IsSnapshot (snapshot_in octets.now)) }
+{
+    if let Err(fault) = config.check() {
+        return Err(RestoreFault::Config(fault));
+    }
+    let saved = match SavedState::read(&config.router_id, octets) {
+        Ok(saved) => saved,
+        Err(fault) => return Err(fault),
+    };
+    let mut core = match make(alloc, config) {
+        Ok(core) => core,
+        Err(fault) => return Err(RestoreFault::Config(fault)),
+    };
+    let _count = saved.len();
+    core.seqno = saved.seqno();
+    core.raises = saved.raises();
+    restore_sources(&mut core.sources, now, &saved);
+    Ok(core)
+}

@@ -1,0 +1,115 @@
+//! The calls that change a speaker without a datagram or a moment, and those that report its state.
+
+ghost use Rattle.std.specs.Prelude.{◌≡◌, ◌↔◌, true, false, Some, slice_get, IsOk, IsErr, IsNone, IfErr, OnOk, OnErr, drop, map};
+ghost use Rattle.babel_choice.specs.Choices.{routes_of};
+ghost use Rattle.babel_state.specs.State.{announces};
+ghost use Rattle.babel_state.specs.Calls.{set_cost_fault, cost_set, is_prefix_too_many, announced_also, withdrawn, select_and_advertise, selected_route, reported_entries, reported_entry};
+
+use crate::output::messages::interface_entry;
+use crate::state::Core;
+use babel_choice::{Entry, Selection};
+use babel_state::{MAX_COST, NotAnnounced, Selected, SetCostFault, TooManyPrefixes};
+use babel_value::{Metric, Peer, Prefix};
+
+/// Sets the nominal cost of an interface (RFC 8966, appendix A.2.1).
+#[tactic(auto, unfolding(babel_state::specs::Calls::cost_set))]
+pub fn set_cost(core: &mut Core, iface: u8, cost: u16) -> Result<(), SetCostFault>
+    ensures refused { IsOk result ↔ IsNone (set_cost_fault iface cost core.old) }
+    ensures cause { IfErr result (λ fault. set_cost_fault iface cost core.old ≡ Some fault) }
+    ensures ok { OnOk result (core.new ≡ cost_set iface cost core.old) }
+    ensures err { OnErr result (core.new ≡ core.old) }
+{
+    let Some(mut interface) = interface_entry(core, iface) else {
+        return Err(SetCostFault::NoInterface);
+    };
+    if cost < 1 || cost > MAX_COST {
+        return Err(SetCostFault::CostOutOfRange);
+    }
+    interface.cost = Metric(cost);
+    core.interfaces.set(iface, interface);
+    Ok(())
+}
+
+/// Selects the route of the prefix again, and queues an update of it to all.
+fn select_and_advertise(core: &mut Core, prefix: &Prefix)
+    ensures { core.new ≡ select_and_advertise prefix.now core.old }
+{
+    core.select(prefix);
+    core.queue_updates_to_all(prefix);
+}
+
+/// Announces a prefix (RFC 8966, section 3.7).
+#[tactic(auto, unfolding(babel_state::specs::Calls::announced_also))]
+pub fn announce(core: &mut Core, prefix: &Prefix) -> Result<(), TooManyPrefixes>
+    ensures full { IsErr result ↔ (is_prefix_too_many prefix.now core.old ≡ true) }
+    ensures ok { OnOk result (core.new ≡ announced_also prefix.now core.old) }
+    ensures err { OnErr result (core.new ≡ core.old) }
+{
+    if core.announces(prefix) {
+        return Ok(());
+    }
+    if core.announced.insert(*prefix).is_err() {
+        return Err(TooManyPrefixes);
+    }
+    select_and_advertise(core, prefix);
+    Ok(())
+}
+
+/// Announces a prefix no longer.
+#[tactic(auto, unfolding(babel_state::specs::Calls::withdrawn))]
+pub fn withdraw(core: &mut Core, prefix: &Prefix) -> Result<(), NotAnnounced>
+    ensures unknown { IsErr result ↔ (announces prefix.now core.old ≡ false) }
+    ensures ok { OnOk result (core.new ≡ withdrawn prefix.now core.old) }
+    ensures err { OnErr result (core.new ≡ core.old) }
+{
+    if !core.announces(prefix) {
+        return Err(NotAnnounced);
+    }
+    core.announced.remove(prefix);
+    select_and_advertise(core, prefix);
+    Ok(())
+}
+
+/// The selected route of the prefix, with its metric by the present cost of the link (RFC 8966,
+/// section 3.6).
+#[tactic(auto, unfolding(babel_state::specs::Calls::selected_route))]
+pub fn selected_route(core: &Core, prefix: &Prefix) -> Option<Selected>
+    ensures { result ≡ selected_route prefix.now core.now }
+{
+    match core.selected(prefix) {
+        Some(Selection { peer, entry }) => {
+            let Entry {
+                next_hop,
+                router,
+                distance,
+                ..
+            } = entry;
+            let cost = core.cost(&peer);
+            let metric = distance.metric.add(cost);
+            Some(Selected {
+                peer,
+                next_hop,
+                router,
+                distance,
+                metric,
+            })
+        }
+        None => None,
+    }
+}
+
+/// The entry of the prefix that exactly `index` others come before, with its neighbour and the cost
+/// of the link to that.
+#[tactic(auto, unfolding(babel_state::specs::Calls::reported_entries))]
+pub fn reported_entry(core: &Core, prefix: &Prefix, index: usize) -> Option<(Peer, Entry, Metric)>
+    ensures { result ≡ slice_get (reported_entries prefix.now core.now) index }
+{
+    let mut left = index;
+    for (key, entry) in core.routes.routes_of(prefix) {
+        if left == 0 {
+            return Some((key.peer, entry, core.cost(&key.peer)));
+        }
+        left -= 1;
+    }
+    None
+}

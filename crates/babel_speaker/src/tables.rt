@@ -1,0 +1,22 @@
+//! The tables of a speaker and its pending items: what its state consists of.
+
+pub mod addresses;
+pub mod announced;
+pub mod first_tables;
+pub mod interfaces;
+pub mod link_costs;
+pub mod pending_items;
+pub mod prefixes;
+pub mod reachable;
+pub mod requests;
+pub mod scratch;
+pub mod timers;
+
+pub use announced::Announced;
+pub use interfaces::Interfaces;
+pub use link_costs::{LinkChange, LinkCosts};
+pub use pending_items::PendingItems;
+pub use prefixes::Prefixes;
+pub use reachable::Reachable;
+pub use requests::RequestTable;
+pub use scratch::Scratch;

@@ -1,0 +1,97 @@
+//! From which addresses datagrams are taken.
+
+ghost use Rattle.std.specs.Prelude.{◌≡◌};
+ghost use Rattle.std.specs.List.{list_any};
+ghost use Rattle.babel_state.specs.Configs.{is_link_local};
+ghost use Rattle.babel_state.specs.Addresses.{address_of, is_own_address, is_one_of, is_in_network, is_from_link};
+
+use crate::tables::Interfaces;
+use babel_state::InterfaceEntry;
+use babel_value::{Addr, Family, Prefix};
+
+/// Whether an IPv6 address is in fe80::/10 (RFC 4291, section 2.5.6).
+#[tactic(auto, unfolding(babel_state::specs::Configs::is_link_local))]
+fn is_link_local(octets: &[u8; 16]) -> bool
+    ensures { result ≡ is_link_local octets.now }
+{
+    octets[0] == 0xfe && octets[1] >> 6 == 0b10
+}
+
+/// The interface's own address of a family, if it has one.
+pub fn address_of(family: Family, interface: &InterfaceEntry) -> Option<Addr>
+    ensures { result ≡ address_of family interface.now }
+{
+    let ipv4 = interface.ipv4;
+    let ipv6 = interface.ipv6;
+    match family {
+        Family::Ipv4 => match ipv4 {
+            Some(network) => {
+                let octets = network.0;
+                Some(Addr::V4(octets))
+            }
+            None => None,
+        },
+        Family::Ipv6 => match ipv6 {
+            Some(octets) => Some(Addr::V6(octets)),
+            None => None,
+        },
+    }
+}
+
+/// Whether the own address, if there is one, is this one.
+fn is_one_of(addr: &Addr, own: Option<Addr>) -> bool
+    ensures { result ≡ is_one_of addr.now own }
+{
+    match own {
+        Some(own) => addr.cmp(&own).is_eq(),
+        None => false,
+    }
+}
+
+/// Whether the address is one of the interface's own.
+#[tactic(auto, unfolding(babel_state::specs::Addresses::is_own_address))]
+pub fn is_own_address(addr: &Addr, interface: &InterfaceEntry) -> bool
+    ensures { result ≡ is_own_address addr.now interface.now }
+{
+    is_one_of(addr, address_of(Family::Ipv4, interface))
+        || is_one_of(addr, address_of(Family::Ipv6, interface))
+}
+
+/// Whether the two IPv4 addresses have the same first bits, this many.
+#[tactic(auto, using(crate::proofs::Networks::cleared_all))]
+fn is_in_network(octets: &[u8; 4], network: &([u8; 4], u8)) -> bool
+    ensures { result ≡ is_in_network octets.now network.now }
+{
+    let (source, own, length) = (*octets, network.0, network.1);
+    let (source, own) = (Addr::V4(source), Addr::V4(own));
+    match (Prefix::new(source, length), Prefix::new(own, length)) {
+        (Some(source), Some(own)) => source.addr().cmp(&own.addr()).is_eq(),
+        _ => source.cmp(&own).is_eq(),
+    }
+}
+
+/// Whether a neighbour on the interface's link may have the address.
+#[tactic(auto, unfolding(babel_state::specs::Addresses::is_from_link))]
+pub fn is_from_link(source: &Addr, interface: &InterfaceEntry) -> bool
+    ensures { result ≡ is_from_link source.now interface.now }
+{
+    let ipv4 = interface.ipv4;
+    match source {
+        Addr::V4(octets) => match ipv4 {
+            Some(network) => is_in_network(octets, &network),
+            None => false,
+        },
+        Addr::V6(octets) => is_link_local(octets),
+    }
+}
+
+impl Interfaces {
+    /// Whether the address is an own address of some interface.
+    pub fn have_address(&self, addr: &Addr) -> bool
+        ensures { result ≡ list_any (is_own_address addr.now) self.now }
+    {
+        self.entries
+            .iter()
+            .any(|interface| is_own_address(addr, interface))
+    }
+}

@@ -1,0 +1,252 @@
+//! Room for a list of prefixes in ascending order, which some calls need while they run.
+
+ghost use Rattle.std.specs.Prelude.{◌≡◌, ◌↔◌, ◌&&◌, ◌≤◌, ◌<◌, ◌+◌, ◌++◌, [], length, filter, map, IfOk, IsTrue};
+ghost use Rattle.std.specs.FinMap.{put, is_sorted};
+ghost use Rattle.babel_value.specs.Orders.{prefix_cmp};
+ghost use Rattle.babel_value.specs.Prefixes.{PrefixValue};
+ghost use Rattle.babel_route.specs.Rooms.{most_listed_prefixes};
+ghost use Rattle.babel_choice.specs.Routes.{is_from};
+ghost use Rattle.babel_state.specs.Sameness.{has_prefix};
+ghost use Rattle.babel_state.specs.State.{gathered, prefixes_in};
+ghost use Rattle.babel_speaker.specs.DueRoutes.{prefixes_due};
+ghost use Rattle.babel_speaker.specs.LinkChanges.{prefixes_from};
+ghost use Rattle.babel_speaker.specs.StalePrefixes.{is_stale};
+
+use crate::tables::{Announced, Prefixes};
+use babel_choice::{Costs, Cursor, RouteKey};
+use babel_route::{PREFIX_PLACES, Routes};
+use babel_sources::Sources;
+use babel_table::{SortedTable, Table};
+use babel_value::{Memory, Peer, Prefix};
+use std::alloc::Global;
+use std::marker::Model;
+
+/// Room for a set of at most `PREFIX_PLACES` prefixes.
+#[derive(Drop)]
+pub struct Scratch {
+    table: SortedTable<Prefix, ()>,
+    // An index near that of the prefix that was added last; it only matters for speed.
+    near: usize,
+}
+
+impl Model for Scratch {
+    ghost use Rattle.std.specs.Prelude.{◌≡◌};
+    ghost use Rattle.babel_route.specs.Rooms.{most_listed_prefixes};
+    ghost use Rattle.babel_state.specs.State.{PrefixSet};
+
+    ghost Value = { PrefixSet };
+
+    ghost view = { λ a. a.table.entries.items };
+
+    ghost invariant = { λ a. a.table.places ≡ most_listed_prefixes };
+}
+
+impl Scratch {
+    /// An empty set, with its whole room.
+    pub fn new(alloc: Global) -> Result<Scratch, Memory>
+        ensures { IfOk result (λ scratch. scratch ≡ []) }
+    {
+        let table = SortedTable::with_room(alloc, PREFIX_PLACES)?;
+        Ok(Scratch { table, near: 0 })
+    }
+
+    /// The prefixes of the set.
+    pub fn prefixes(&self) -> Prefixes<'_>
+        ensures { result ≡ prefixes_in self.now }
+    {
+        Prefixes::new(&self.table)
+    }
+
+    /// Whether it has no prefix.
+    pub fn is_empty(&self) -> bool
+        ensures { IsTrue result ↔ (self.now ≡ []) }
+    {
+        self.table.len() == 0
+    }
+
+    /// Empties the set.
+    fn clear(&mut self)
+        ensures { self.new ≡ [] }
+    {
+        self.table.clear();
+        self.near = 0;
+    }
+
+    /// Adds a prefix. Prefixes that come in ascending order are added in one pass.
+    fn put(&mut self, prefix: Prefix)
+        requires room { length self.old < most_listed_prefixes }
+        ensures { self.new ≡ put prefix_cmp prefix tt self.old }
+    {
+        if let Ok(near) = self.table.put_near(self.near, prefix, ()) {
+            self.near = near;
+        }
+    }
+
+    /// The same. There is at most one prefix more.
+    fn insert(&mut self, prefix: Prefix)
+        requires room { length self.old < most_listed_prefixes }
+        ensures prefixes { self.new ≡ put prefix_cmp prefix tt self.old }
+        ensures few { length self.new ≤ length self.old + 1 }
+    {
+        self.put(prefix);
+    }
+
+    /// Adds the prefix of each selection.
+    fn insert_selections(&mut self, routes: &Routes)
+        requires room { length self.old + length routes.now.selections ≤ most_listed_prefixes }
+        ensures prefixes { self.new ≡ gathered (map (λ e. e.0) routes.now.selections) self.old }
+    {
+        for selection in routes.selections() {
+            self.insert(selection.0);
+        }
+    }
+
+    /// Adds the prefix of each route of the neighbour, unless its selection is current.
+    fn insert_stale_from<C: Costs>(
+        &mut self,
+        routes: &Routes,
+        peer: &Peer,
+        announced: &Announced,
+        sources: &Sources,
+        costs: &C,
+    )
+        requires room { length self.old + length routes.now.entries ≤ most_listed_prefixes }
+        ensures { self.new ≡ gathered (filter (is_stale sources.now (C.cost_of costs.now) announced.now routes.now) (prefixes_from peer.now routes.now.entries)) self.old }
+    {
+        let mut cursor = Cursor::new();
+        for route in routes.routes() {
+            if is_stale_from(
+                &route.0,
+                peer,
+                routes,
+                announced,
+                sources,
+                costs,
+                &mut cursor,
+            ) {
+                self.insert(route.0.prefix);
+            }
+        }
+    }
+
+    /// Adds the prefix of each route that is due.
+    fn insert_due(&mut self, routes: &Routes, now: u64)
+        requires room { length self.old + length routes.now.entries ≤ most_listed_prefixes }
+        ensures { self.new ≡ gathered (prefixes_due now routes.now.entries) self.old }
+    {
+        for route in routes.routes() {
+            if route.1.deadline <= now {
+                self.insert(route.0.prefix);
+            }
+        }
+    }
+
+    /// Adds the announced prefixes.
+    fn insert_announced(&mut self, announced: &Announced)
+        requires room { length self.old + length announced.now ≤ most_listed_prefixes }
+        ensures prefixes { self.new ≡ gathered (prefixes_in announced.now) self.old }
+        ensures few { length self.new ≤ length self.old + length announced.now }
+    {
+        for prefix in announced.prefixes() {
+            self.insert(prefix);
+        }
+    }
+
+    /// Adds the prefixes whose selection isn't current.
+    fn insert_stale<C: Costs>(
+        &mut self,
+        routes: &Routes,
+        announced: &Announced,
+        sources: &Sources,
+        costs: &C,
+    )
+        requires empty { self.old ≡ [] }
+        requires room { length routes.now.entries + length routes.now.selections ≤ most_listed_prefixes }
+        ensures { (prefix : PrefixValue) → has_prefix prefix (prefixes_in self.new) ≡ is_stale sources.now (C.cost_of costs.now) announced.now routes.now prefix }
+    {
+        let mut walk = routes.prefixes();
+        while let Some(prefix) = walk.prefix() {
+            let local = announced.contains(&prefix);
+            if !walk.pass(&prefix, local, sources, costs) {
+                self.insert(prefix);
+            }
+        }
+    }
+
+    /// Makes the set that of the prefixes whose selection isn't current. It is one merge of the entries and the
+    /// selections.
+    pub fn gather_stale<C: Costs>(
+        &mut self,
+        routes: &Routes,
+        announced: &Announced,
+        sources: &Sources,
+        costs: &C,
+    )
+        ensures in_order { IsTrue (is_sorted prefix_cmp self.new) }
+        ensures stale { (prefix : PrefixValue) → has_prefix prefix (prefixes_in self.new) ≡ is_stale sources.now (C.cost_of costs.now) announced.now routes.now prefix }
+    {
+        let _routes = routes.len();
+        let _selections = routes.selections();
+        self.clear();
+        self.insert_stale(routes, announced, sources, costs);
+        // The table is in order.
+        let _count = self.table.len();
+    }
+
+    /// Makes the set that of the prefixes to which the neighbour has a route and whose selection isn't current.
+    pub fn gather_stale_from<C: Costs>(
+        &mut self,
+        routes: &Routes,
+        peer: &Peer,
+        announced: &Announced,
+        sources: &Sources,
+        costs: &C,
+    )
+        ensures { self.new ≡ gathered (filter (is_stale sources.now (C.cost_of costs.now) announced.now routes.now) (prefixes_from peer.now routes.now.entries)) [] }
+    {
+        let _routes = routes.len();
+        self.clear();
+        self.insert_stale_from(routes, peer, announced, sources, costs);
+    }
+
+    /// Makes the set that of the prefixes that have a route which is due.
+    pub fn gather_expiring(&mut self, routes: &Routes, now: u64)
+        ensures { self.new ≡ gathered (prefixes_due now routes.now.entries) [] }
+    {
+        let _routes = routes.len();
+        self.clear();
+        self.insert_due(routes, now);
+    }
+
+    /// Makes the set that of the prefixes that are announced or selected.
+    #[tactic(auto, using(crate::proofs::Gathering::gathered_both))]
+    pub fn gather_reachable(&mut self, announced: &Announced, routes: &Routes)
+        ensures { self.new ≡ gathered (prefixes_in announced.now ++ map (λ e. e.0) routes.now.selections) [] }
+    {
+        let _announced = announced.len();
+        let _selections = routes.selections();
+        self.clear();
+        self.insert_announced(announced);
+        self.insert_selections(routes);
+    }
+}
+
+/// Whether the route is of the neighbour and the selection of its prefix isn't current. The searches begin at the
+/// cursor, which goes to the prefix.
+fn is_stale_from<C: Costs>(
+    route: &RouteKey,
+    peer: &Peer,
+    routes: &Routes,
+    announced: &Announced,
+    sources: &Sources,
+    costs: &C,
+    cursor: &mut Cursor,
+) -> bool
+    ensures { result ≡ (is_from peer.now route.now && is_stale sources.now (C.cost_of costs.now) announced.now routes.now route.now.prefix) }
+{
+    if !route.peer.cmp(peer).is_eq() {
+        return false;
+    }
+    let local = announced.contains(&route.prefix);
+    !routes.is_current_near(&route.prefix, local, sources, costs, cursor)
+}

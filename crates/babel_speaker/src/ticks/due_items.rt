@@ -1,0 +1,157 @@
+//! What a tick queues: requests again, and what the timers of interfaces ask for (RFC 8966, sections 3.4, 3.7.1 and 3.8.2.1).
+
+ghost use Rattle.std.specs.Prelude.{◌≡◌, ◌+◌, drop};
+ghost use Rattle.babel_state.specs.Queueing.{queued};
+ghost use Rattle.babel_state.specs.State.{prefixes_in};
+ghost use Rattle.babel_speaker.specs.TickItems.{repeats_of, all_repeats_of, ihus_of, updates_of, timers_of, all_timers_of};
+
+use crate::output::queueing::queue_requests_to_unfeasible;
+use crate::tables::timers::{is_due, is_last};
+use crate::tables::{Interfaces, PendingItems, RequestTable, Scratch};
+use babel_link::Neighbours;
+use babel_route::Routes;
+use babel_sources::Sources;
+use babel_state::{InterfaceEntry, Item, PendingRequest, REQUEST_HOPS, Resend, Target};
+use babel_value::Source;
+
+/// Queues a request again whose wait is over, but not for the last time.
+#[tactic(auto, unfolding(babel_state::specs::Queueing::queued))]
+fn queue_repeat(
+    pending: &mut PendingItems,
+    routes: &Routes,
+    sources: &Sources,
+    now: u64,
+    source: Source,
+    request: &PendingRequest,
+)
+    ensures { pending.new ≡ queued (repeats_of now sources.now routes.now.entries (source, request.now)) pending.old }
+{
+    if now < request.due || is_last(&request.resend, request.wait) {
+        return;
+    }
+    let seqno = request.seqno;
+    match request.resend {
+        Resend::Unfeasible => {
+            queue_requests_to_unfeasible(pending, routes, sources, source, seqno, REQUEST_HOPS);
+        }
+        Resend::Neighbour(peer) => pending.push(Item::Request {
+            peer,
+            source,
+            seqno,
+            hops: REQUEST_HOPS,
+        }),
+        Resend::Never => {}
+    }
+}
+
+/// The same of the request that exactly `index` others come before.
+fn queue_repeat_at(
+    pending: &mut PendingItems,
+    requests: &RequestTable,
+    routes: &Routes,
+    sources: &Sources,
+    now: u64,
+    index: usize,
+)
+    ensures { queued (all_repeats_of now sources.now routes.now.entries (drop (index + 1) requests.now)) pending.new ≡ queued (all_repeats_of now sources.now routes.now.entries (drop index requests.now)) pending.old }
+{
+    let Some((source, request)) = requests.at(index) else {
+        return;
+    };
+    queue_repeat(pending, routes, sources, now, source, &request);
+}
+
+/// Queues each request again whose wait is over, but not for the last time.
+#[tactic(auto, unfolding(babel_state::specs::Queueing::queued), using(crate::proofs::DueItems::nothing_repeated))]
+pub fn queue_repeats(
+    pending: &mut PendingItems,
+    requests: &RequestTable,
+    routes: &Routes,
+    sources: &Sources,
+    now: u64,
+)
+    ensures { pending.new ≡ queued (all_repeats_of now sources.now routes.now.entries requests.now) pending.old }
+{
+    for index in 0..requests.len() {
+        queue_repeat_at(pending, requests, routes, sources, now, index);
+    }
+}
+
+/// Queues an IHU about each neighbour of the interface.
+#[tactic(auto, unfolding(babel_state::specs::Queueing::queued))]
+fn queue_ihus(pending: &mut PendingItems, neighbours: &Neighbours, iface: u8)
+    ensures { pending.new ≡ queued (ihus_of iface neighbours.now) pending.old }
+{
+    for peer in neighbours.peers() {
+        if peer.iface == iface {
+            pending.push(Item::Ihu { peer });
+        }
+    }
+}
+
+/// Queues an update of each prefix to all on the interface.
+#[tactic(auto, unfolding(babel_state::specs::Queueing::queued))]
+fn queue_updates(pending: &mut PendingItems, prefixes: &Scratch, iface: u8)
+    ensures { pending.new ≡ queued (updates_of iface (prefixes_in prefixes.now)) pending.old }
+{
+    for prefix in prefixes.prefixes() {
+        let target = Target { iface, to: None };
+        pending.push(Item::Update { target, prefix });
+    }
+}
+
+/// Queues what the timers of an interface ask for.
+#[tactic(auto, unfolding(babel_state::specs::Queueing::queued), using(crate::proofs::DueItems::queued_both))]
+fn queue_timers(
+    pending: &mut PendingItems,
+    neighbours: &Neighbours,
+    prefixes: &Scratch,
+    now: u64,
+    iface: u8,
+    interface: &InterfaceEntry,
+)
+    ensures { pending.new ≡ queued (timers_of now neighbours.now (prefixes_in prefixes.now) iface interface.now) pending.old }
+{
+    if is_due(now, interface.hello_due) {
+        pending.push(Item::Hello { iface });
+    }
+    if is_due(now, interface.ihu_due) {
+        queue_ihus(pending, neighbours, iface);
+    }
+    if is_due(now, interface.update_due) {
+        queue_updates(pending, prefixes, iface);
+    }
+}
+
+/// The same of the interface of the number.
+fn queue_timers_at(
+    pending: &mut PendingItems,
+    interfaces: &Interfaces,
+    neighbours: &Neighbours,
+    prefixes: &Scratch,
+    now: u64,
+    iface: u8,
+)
+    ensures { queued (all_timers_of now neighbours.now (prefixes_in prefixes.now) (iface + 1) (drop (iface + 1) interfaces.now)) pending.new ≡ queued (all_timers_of now neighbours.now (prefixes_in prefixes.now) iface (drop iface interfaces.now)) pending.old }
+{
+    let Some(interface) = interfaces.get(iface) else {
+        return;
+    };
+    queue_timers(pending, neighbours, prefixes, now, iface, &interface);
+}
+
+/// Queues what the timers of all interfaces ask for.
+#[tactic(auto, unfolding(babel_state::specs::Queueing::queued), using(crate::proofs::DueItems::nothing_timed))]
+pub fn queue_all_timers(
+    pending: &mut PendingItems,
+    interfaces: &Interfaces,
+    neighbours: &Neighbours,
+    prefixes: &Scratch,
+    now: u64,
+)
+    ensures { pending.new ≡ queued (all_timers_of now neighbours.now (prefixes_in prefixes.now) 0 interfaces.now) pending.old }
+{
+    for iface in 0..interfaces.len() {
+        queue_timers_at(pending, interfaces, neighbours, prefixes, now, iface);
+    }
+}

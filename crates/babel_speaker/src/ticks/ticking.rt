@@ -1,0 +1,260 @@
+//! What time brings (RFC 8966, sections 3.4, 3.5.4, 3.7.1 and 3.8.2.1): the deadlines of each table.
+
+ghost use Rattle.std.specs.Prelude.{◌≡◌, [], IsTrue, IsFalse};
+ghost use Rattle.babel_value.specs.declared.keys.Peer.{Peer};
+ghost use Rattle.babel_link.specs.declared.changes.CostChanges.TheVariants.{Nothing, One};
+ghost use Rattle.babel_state.specs.Hellos.{forget_neighbour};
+ghost use Rattle.babel_state.specs.CurrentSelections.{AreCurrent, AreRoutesInOrder};
+ghost use Rattle.babel_state.specs.SettledLaws.{AreSelectionsInOrder};
+ghost use Rattle.babel_state.specs.KeptRoutes.{KeepsRoutes};
+ghost use Rattle.babel_state.specs.Restarts.{snapshot_of};
+ghost use Rattle.babel_speaker.specs.LinkChanges.{AreOthersCurrent};
+ghost use Rattle.babel_speaker.specs.TickItems.{all_timers_of};
+ghost use Rattle.babel_speaker.specs.DueRoutes.{prefixes_due};
+ghost use Rattle.babel_state.specs.Reselection.{reselect_all};
+ghost use Rattle.babel_state.specs.State.{gathered, prefixes_in};
+ghost use Rattle.babel_state.specs.Ticks.{all_timer_items, routes_selected, forget_each, links_ticked, routes_ticked, requests_ticked, interfaces_ticked, sources_ticked, ticked};
+
+use crate::state::Core;
+use crate::tables::{LinkChange, Scratch};
+use crate::ticks::due_items::{queue_all_timers, queue_repeats};
+use arrayvec::ArrayVec;
+use babel_link::CostChanges;
+use babel_value::Peer;
+
+impl Core {
+    /// Removes the routes of a neighbour.
+    fn forget_neighbour(&mut self, peer: &Peer)
+        ensures { self.new ≡ forget_neighbour peer.now self.old }
+    {
+        self.routes.forget(peer);
+    }
+
+    /// Removes the routes of each of the neighbours.
+    fn forget_each(&mut self, peers: &[Peer])
+        ensures { self.new ≡ forget_each peers.now self.old }
+    {
+        let mut left = peers;
+        while let Some((peer, rest)) = left.split_first() {
+            self.forget_neighbour(peer);
+            left = rest;
+        }
+    }
+
+    /// Takes the deadlines of Hellos and IHUs (RFC 8966, sections 3.4.1 and 3.4.2). Routes of flushed
+    /// neighbours are removed. Returns what changed: if nothing, all selections that were current are so, and the selected
+    /// routes are reported as before; if at most the cost of one link, the selections of the prefixes to which its neighbour
+    /// has no route stay current.
+    #[tactic(auto, unfolding(babel_state::specs::Ticks::links_ticked))]
+    pub(crate) fn tick_links(&mut self, now: u64) -> CostChanges
+        ensures state { self.new ≡ links_ticked now self.old }
+        ensures quiet { result ≡ Nothing → AreCurrent self.old → AreCurrent self.new }
+        ensures kept { result ≡ Nothing → KeepsRoutes self.old self.new }
+        ensures others { (peer : Peer) → result ≡ One peer → AreCurrent self.old → AreOthersCurrent peer self.new }
+    {
+        let changes = self.neighbours.cost_changes(now);
+        let mut gone = ArrayVec::new();
+        let _ = self.neighbours.tick(now, &mut gone);
+        self.forget_each(gone.as_slice());
+        changes
+    }
+
+    /// Selects routes again after the deadlines of Hellos and IHUs. It leaves what a reselection of all leaves. If the
+    /// speaker was settled and at most the cost of one link changed, it looks only at the prefixes to which its neighbour
+    /// has a route. If it returns `false`, nothing changed by it and no cost did either.
+    fn reselect_links(
+        &mut self,
+        changes: CostChanges,
+        settled: bool,
+        now: u64,
+        scratch: &mut Scratch,
+    ) -> bool
+        requires nothing { IsTrue settled → changes ≡ Nothing → AreCurrent self.old }
+        requires others { IsTrue settled → (peer : Peer) → changes ≡ One peer → AreOthersCurrent peer self.old }
+        ensures state { self.new ≡ reselect_all now self.old }
+        ensures current { AreCurrent self.new }
+        ensures quiet { IsFalse result → (changes ≡ Nothing) × (self.new ≡ self.old) }
+    {
+        match changes {
+            CostChanges::Nothing => self.reselect_after(false, settled, now, scratch),
+            CostChanges::One(peer) => {
+                self.reselect_link(LinkChange::Cost, settled, now, &peer, scratch)
+            }
+            CostChanges::Several => {
+                self.reselect_after(true, settled, now, scratch);
+                true
+            }
+        }
+    }
+
+    /// Whether a route may be due. If it returns `false`, none is.
+    #[tactic(auto, unfolding(babel_state::specs::Ticks::routes_ticked))]
+    fn may_expire(&self, now: u64) -> bool
+        ensures { IsFalse result → routes_ticked now self.now ≡ self.now }
+    {
+        self.routes.may_be_due(now)
+    }
+
+    /// Takes the deadlines of routes (RFC 8966, section 3.5.4).
+    #[tactic(auto, unfolding(babel_state::specs::Ticks::routes_ticked))]
+    fn tick_routes(&mut self, now: u64)
+        ensures { self.new ≡ routes_ticked now self.old }
+    {
+        let _ = self.routes.expire(now);
+    }
+
+    /// Makes the set that of the prefixes that have a route which is due.
+    fn gather_expiring(&self, now: u64, scratch: &mut Scratch)
+        ensures { scratch.new ≡ gathered (prefixes_due now self.now.routes.entries) [] }
+    {
+        scratch.gather_expiring(&self.routes, now);
+    }
+
+    /// The routes and the selections are in the order of their keys. The call does nothing.
+    fn tables_are_in_order(&self)
+        ensures routes { AreRoutesInOrder self.now }
+        ensures selections { AreSelectionsInOrder self.now }
+    {
+        let _count = self.routes.len();
+    }
+
+    /// Takes the deadlines of routes, and selects the routes of their prefixes again. All other selections stay current,
+    /// so that this leaves what a reselection of all leaves. If it returns `false`, no route is due, and nothing changed.
+    #[tactic(auto, using(crate::proofs::Expiries::expired_reselected, crate::proofs::Expiries::nothing_reselected, crate::proofs::Expiries::expired_current))]
+    fn expire_routes(&mut self, now: u64, scratch: &mut Scratch) -> bool
+        requires current { AreCurrent self.old }
+        ensures state { self.new ≡ reselect_all now (routes_ticked now self.old) }
+        ensures current { AreCurrent self.new }
+        ensures quiet { IsFalse result → self.new ≡ self.old }
+    {
+        self.tables_are_in_order();
+        if !self.may_expire(now) {
+            return false;
+        }
+        self.gather_expiring(now, scratch);
+        self.tick_routes(now);
+        self.tables_are_in_order();
+        self.reselect_each(now, scratch);
+        true
+    }
+
+    /// Collects the entries of the source table whose time has come, if the speaker does so (RFC 8966,
+    /// section 3.2.5). If it returns `false`, none was due, and nothing changed.
+    #[tactic(auto, unfolding(babel_state::specs::Ticks::sources_ticked))]
+    pub(crate) fn tick_sources(&mut self, now: u64) -> bool
+        ensures state { self.new ≡ sources_ticked now self.old }
+        ensures quiet { IsFalse result → self.new ≡ self.old }
+    {
+        if !self.collects {
+            return false;
+        }
+        let count = self.sources.len();
+        let _ = self.sources.collect(now);
+        self.sources.len() < count
+    }
+
+    /// Repeats the requests whose wait is over (RFC 8966, section 3.8.2.1). As long as none can be, it looks
+    /// at no request.
+    pub(crate) fn tick_requests(&mut self, now: u64)
+        ensures { self.new ≡ requests_ticked now self.old }
+    {
+        let due = self.requests.may_be_due(now);
+        if due {
+            self.repeat_requests(now);
+        }
+    }
+
+    /// Queues the requests again whose wait is over, and ends the waits.
+    #[tactic(auto, unfolding(babel_state::specs::Ticks::requests_ticked), using(crate::proofs::TickLists::same_repeats))]
+    fn repeat_requests(&mut self, now: u64)
+        ensures { self.new ≡ requests_ticked now self.old }
+    {
+        queue_repeats(
+            &mut self.pending,
+            &self.requests,
+            &self.routes,
+            &self.sources,
+            now,
+        );
+        self.requests.end_waits(now);
+    }
+
+    /// Queues what the timers of the interfaces ask for (RFC 8966, sections 3.4.1, 3.4.2 and 3.7.1).
+    #[tactic(auto, using(crate::proofs::QuietTicks::nothing_due))]
+    pub(crate) fn tick_interfaces(&mut self, now: u64, scratch: &mut Scratch)
+        ensures { self.new ≡ interfaces_ticked now self.old }
+    {
+        let due = self.interfaces.have_due_timer(now);
+        if due {
+            self.fire_timers(now, scratch);
+        }
+    }
+
+    /// Makes the set that of the prefixes of which an update is due. If none is due, it doesn't matter which they are.
+    #[tactic(auto, using(crate::proofs::QuietTicks::no_updates))]
+    fn gather_due(&self, now: u64, scratch: &mut Scratch)
+        ensures { all_timers_of now self.now.neighbours (prefixes_in scratch.new) 0 self.now.interfaces ≡ all_timer_items now self.now 0 self.now.interfaces }
+    {
+        let due = self.interfaces.have_due_update(now);
+        if due {
+            scratch.gather_reachable(&self.announced, &self.routes);
+        }
+    }
+
+    /// Queues what the timers that are due ask for, and sets their next moments.
+    #[tactic(auto, unfolding(babel_state::specs::Ticks::interfaces_ticked))]
+    fn fire_timers(&mut self, now: u64, scratch: &mut Scratch)
+        ensures { self.new ≡ interfaces_ticked now self.old }
+    {
+        self.gather_due(now, scratch);
+        queue_all_timers(
+            &mut self.pending,
+            &self.interfaces,
+            &self.neighbours,
+            scratch,
+            now,
+        );
+        self.interfaces.fire_all(now);
+    }
+
+    /// Takes the deadlines of Hellos, IHUs and routes, each followed by a reselection of all. If the speaker is
+    /// settled, it selects no route again unless a cost changes, a neighbour is flushed or a route is due, and only those of
+    /// one neighbour's prefixes if only the cost of its link changes. If it returns `false`, the selected routes are reported
+    /// as before.
+    #[tactic(auto, using(crate::proofs::Settling::still_current))]
+    fn tick_selections(&mut self, now: u64, settled: bool, scratch: &mut Scratch) -> bool
+        requires settled { IsTrue settled → AreCurrent self.old }
+        ensures state { self.new ≡ routes_selected now self.old }
+        ensures current { AreCurrent self.new }
+        ensures kept { IsFalse result → KeepsRoutes self.old self.new }
+    {
+        let changes = self.tick_links(now);
+        let selected = self.reselect_links(changes, settled, now, scratch);
+        let expired = self.expire_routes(now, scratch);
+        selected || expired
+    }
+
+    /// Takes all that is due (RFC 8966, sections 3.2.5, 3.4, 3.5.4, 3.7.1 and 3.8.2.1). Returns whether the
+    /// speaker is settled then: all its selections are current, and no source was collected, so that its snapshot is as
+    /// before. Unless `changed` is `true` then, the selected routes are reported as before.
+    #[tactic(auto, unfolding(babel_state::specs::Ticks::ticked), using(crate::proofs::Settling::timed_current))]
+    pub fn tick(
+        &mut self,
+        now: u64,
+        settled: bool,
+        changed: &mut bool,
+        scratch: &mut Scratch,
+    ) -> bool
+        requires settled { IsTrue settled → AreCurrent self.old }
+        ensures state { self.new ≡ ticked now self.old }
+        ensures current { IsTrue result → AreCurrent self.new }
+        ensures kept { IsFalse changed.new → KeepsRoutes self.old self.new }
+        ensures saved { IsTrue result → snapshot_of self.new ≡ snapshot_of self.old }
+    {
+        *changed = self.tick_selections(now, settled, scratch);
+        self.tick_requests(now);
+        self.tick_interfaces(now, scratch);
+        let collected = self.tick_sources(now);
+        !collected
+    }
+}
