@@ -88,11 +88,12 @@ class Lab:
         ll = f"fe80::{net:x}:{n:x}"
         self.ip(n, "link", "set", iface, "addrgenmode", "none")
         self.ip(n, "link", "set", iface, "address", f"02:00:00:00:{net:02x}:{n:02x}")
-        self.ip(n, "link", "set", iface, "up")
-        self.ip(n, "addr", "add", f"{ll}/64", "dev", iface, "nodad")
+        # The link-local address comes last: a router may use the interface from then on, and a later IPv4 address would be a change.
         a4 = f"192.168.{net}.{n}" if v4 else None
         if v4:
             self.ip(n, "addr", "add", f"{a4}/24", "dev", iface)
+        self.ip(n, "link", "set", iface, "up")
+        self.ip(n, "addr", "add", f"{ll}/64", "dev", iface, "nodad")
         self.nodes[n]["ifaces"][iface] = {"ll": ll, "v4": a4, "net": net}
         self.owner[ll] = n
         if a4:
