@@ -1,0 +1,31 @@
+//! The control socket of a running speaker, without the socket: octets of a client in, octets for it out.
+//!
+//! The protocol is that of babeld's local socket, with commands of our own. A client is greeted, sends commands, a line
+//! each, and gets lines that end with `ok`, `no` or `bad`. A client that monitors is also sent each change.
+//!
+//! - `commands`: what a line asks for.
+//! - `input`: the line that a client has sent so far. `output`: what waits for it. Both are bounded.
+//! - `views`: what the socket shows of a speaker and its devices.
+//! - `texts`: addresses, prefixes and router-ids, as babeld writes them. `lines`: the lines of the protocol.
+//! - `rows`: the speaker's tables as these lines show them, and `changes`: what changed of them.
+//! - `answers`: the answer to a command. `clients`: a client.
+#![tactic(auto)]
+
+mod answers;
+mod changes;
+mod clients;
+mod commands;
+mod input;
+mod lines;
+mod output;
+mod rows;
+mod texts;
+mod views;
+
+pub use changes::Changes;
+pub use clients::{Client, Monitoring, Wish, needs_tables};
+pub use commands::{Command, parse_command};
+pub use input::{InputLine, MAX_LINE, TakenOctet};
+pub use output::{MAX_OUTPUT, Output, OutputFull};
+pub use rows::{Installed, NeighbourRow, RouteRow, Rows, Tables};
+pub use views::{DeviceAddresses, DeviceView, Keeping, TurnCounts, View};

@@ -1,0 +1,51 @@
+//! Addresses, prefixes and router-ids, as babeld writes them.
+
+use babel_value::{Addr, Prefix, RouterId};
+use std::fmt;
+use std::net::{Ipv4Addr, Ipv6Addr};
+
+/// An address. One of IPv6 is in its short form (RFC 5952).
+#[derive(Clone, Copy)]
+pub(crate) struct AddrText<'t>(pub(crate) &'t Addr);
+
+impl fmt::Display for AddrText<'_> {
+    fn fmt<W: fmt::Write>(&self, f: &mut fmt::Formatter<W>) -> fmt::Result {
+        match self.0 {
+            Addr::V4(octets) => Ipv4Addr::from_octets(*octets).fmt(f),
+            Addr::V6(octets) => Ipv6Addr::from_octets(*octets).fmt(f),
+        }
+    }
+}
+
+/// A prefix, with the address in that form.
+#[derive(Clone, Copy)]
+pub(crate) struct PrefixText<'t>(pub(crate) &'t Prefix);
+
+impl fmt::Display for PrefixText<'_> {
+    fn fmt<W: fmt::Write>(&self, f: &mut fmt::Formatter<W>) -> fmt::Result {
+        let addr = self.0.addr();
+        let length = self.0.length();
+        let addr = AddrText(&addr);
+        write!(f, "{addr}/{length}")
+    }
+}
+
+/// The prefix of all sources, in the family of this one.
+pub(crate) fn all_sources(prefix: &Prefix) -> &'static str {
+    match prefix.addr() {
+        Addr::V4(_) => "0.0.0.0/0",
+        Addr::V6(_) => "::/0",
+    }
+}
+
+/// A router-id: eight octets with colons between them.
+#[derive(Clone, Copy)]
+pub(crate) struct RouterText(pub(crate) RouterId);
+
+impl fmt::Display for RouterText {
+    fn fmt<W: fmt::Write>(&self, f: &mut fmt::Formatter<W>) -> fmt::Result {
+        let [a, b, c, d, e, g, h, i] = self.0.octets();
+        write!(f, "{a:02x}:{b:02x}:{c:02x}:{d:02x}:")?;
+        write!(f, "{e:02x}:{g:02x}:{h:02x}:{i:02x}")
+    }
+}
