@@ -1,0 +1,132 @@
+//! A client with its stream.
+
+use babel_control::{Client, Command, Tables, View};
+use mio::unix::SourceFd;
+use mio::{Interest, Registry, Token};
+use std::alloc::Global;
+use std::io::{self, Read, Write};
+use std::os::fd::AsRawFd;
+use std::os::unix::net::UnixStream;
+
+/// How often a client is read from in a turn, and how many octets each time.
+const MAX_READS: u32 = 4;
+
+/// The same of writing.
+const MAX_WRITES: u32 = 16;
+
+/// The most octets of one read.
+const READ_ROOM: usize = 512;
+
+/// A command of the client with this number. `None` is one that there isn't.
+pub(crate) type Asked = (usize, Option<Command>);
+
+/// A client, and the stream that it is connected by.
+#[derive(Drop)]
+pub(crate) struct Connection {
+    stream: UnixStream,
+    token: usize,
+    pub(crate) client: Client,
+}
+
+/// What a read brought.
+#[derive(Clone, Copy, Debug, PartialEq, Eq)]
+enum Came {
+    /// So many octets.
+    Octets(usize),
+    /// Nothing waits.
+    Nothing,
+    /// The client has sent all.
+    End,
+    /// The connection failed.
+    Failure,
+}
+
+impl Connection {
+    /// Greets a new client, whose stream is watched with the token.
+    pub(crate) fn open<T: Tables>(
+        alloc: Global,
+        stream: UnixStream,
+        registry: &Registry,
+        token: usize,
+        view: &View<'_, T>,
+    ) -> io::Result<Connection> {
+        stream.set_nonblocking(true)?;
+        let fd = stream.as_raw_fd();
+        registry.register(&mut SourceFd(&fd), Token(token), both_ways())?;
+        let client = Client::new(alloc, view);
+        Ok(Connection {
+            stream,
+            token,
+            client,
+        })
+    }
+
+    /// Takes what the client sent, and adds its commands.
+    pub(crate) fn read(&mut self, number: usize, registry: &Registry, asked: &mut Vec<Asked>) {
+        let mut room = [0u8; READ_ROOM];
+        for _ in 0..MAX_READS {
+            match read_once(&mut self.stream, &mut room) {
+                Came::Octets(count) => {
+                    let octets = room.get(..count).unwrap_or(&[]);
+                    take_octets(&mut self.client, number, octets, asked);
+                }
+                Came::Nothing => return,
+                Came::End => return self.client.note_end(),
+                Came::Failure => return self.client.note_failure(),
+            }
+        }
+        // So that what is left is reported again.
+        let fd = self.stream.as_raw_fd();
+        let again = registry.reregister(&mut SourceFd(&fd), Token(self.token), both_ways());
+        if again.is_err() {
+            self.client.note_failure();
+        }
+    }
+
+    /// Sends what waits for the client, as far as the system takes it.
+    pub(crate) fn write(&mut self) {
+        for _ in 0..MAX_WRITES {
+            if self.client.waiting().is_empty() {
+                return;
+            }
+            match self.stream.write(self.client.waiting()) {
+                Ok(count) => self.client.note_sent(count),
+                Err(error) => return self.note_error(error),
+            }
+        }
+    }
+
+    fn note_error(&mut self, error: io::Error) {
+        match error.kind() {
+            io::ErrorKind::WouldBlock | io::ErrorKind::Interrupted => {}
+            _ => self.client.note_failure(),
+        }
+    }
+}
+
+fn both_ways() -> Interest {
+    Interest::READABLE | Interest::WRITABLE
+}
+
+fn read_once(stream: &mut UnixStream, room: &mut [u8]) -> Came {
+    match stream.read(room) {
+        Ok(0) => Came::End,
+        Ok(count) => Came::Octets(count),
+        Err(error) => match error.kind() {
+            io::ErrorKind::WouldBlock => Came::Nothing,
+            io::ErrorKind::Interrupted => Came::Octets(0),
+            _ => Came::Failure,
+        },
+    }
+}
+
+/// Takes octets of the client, and adds its commands.
+fn take_octets(client: &mut Client, number: usize, octets: &[u8], asked: &mut Vec<Asked>) {
+    for octet in octets {
+        if let Some(command) = client.take_octet(*octet) {
+            if asked.push((number, command)).is_err() {
+                client.note_failure();
+            }
+        }
+    }
+}

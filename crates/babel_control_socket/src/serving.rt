@@ -1,0 +1,188 @@
+//! All clients, served once a turn.
+
+use crate::bind_path;
+use crate::connections::{Asked, Connection};
+use babel_control::{Changes, Monitoring, Tables, View, Wish, needs_tables};
+use mio::unix::SourceFd;
+use mio::{Interest, Registry, Token};
+use std::alloc::{AllocError, Global};
+use std::fs::Files;
+use std::io;
+use std::net::Net;
+use std::os::fd::AsRawFd;
+use std::os::unix::net::UnixListener;
+
+/// The most clients at once. One more is closed at once.
+pub const MAX_CLIENTS: usize = 16;
+
+/// The most clients that are accepted in a turn.
+const MAX_ACCEPTED: u32 = 16;
+
+/// The control socket of a speaker, with its clients.
+#[derive(Drop)]
+pub struct ControlSocket {
+    alloc: Global,
+    listener: UnixListener,
+    /// The token of the listener. That of the client with number `n` is `n + 1` more.
+    token: usize,
+    clients: Vec<Option<Connection>>,
+    changes: Changes,
+}
+
+impl ControlSocket {
+    /// Makes the socket at the path, see [`bind_path`]. It and its clients are watched with `MAX_CLIENTS + 1` tokens.
+    ///
+    /// # Errors
+    ///
+    /// The socket can't be made or watched, something else is at the path, or an allocation failed.
+    pub fn open<R: Files + Net>(
+        alloc: Global,
+        rt: &R,
+        path: &str,
+        registry: &Registry,
+        token: usize,
+    ) -> io::Result<ControlSocket> {
+        let clients = no_clients(alloc)?;
+        let listener = bind_path(rt, path)?;
+        let fd = listener.as_raw_fd();
+        registry.register(&mut SourceFd(&fd), Token(token), Interest::READABLE)?;
+        Ok(ControlSocket {
+            alloc,
+            listener,
+            token,
+            clients,
+            changes: Changes::new(alloc),
+        })
+    }
+
+    /// Serves the clients. Bit 0 of `ready` is set if the listener was ready, and bit `n + 1` if the client with number `n` was.
+    /// Returns what a client wants of the speaker.
+    pub fn serve<T: Tables>(
+        &mut self,
+        ready: u64,
+        registry: &Registry,
+        view: &View<'_, T>,
+    ) -> Wish {
+        let mut asked = Vec::new(self.alloc);
+        read_all(&mut self.clients, ready, registry, &mut asked);
+        let wish = self.answer_all(&asked, view);
+        if ready % 2 == 1 {
+            self.accept(registry, view);
+        }
+        for slot in self.clients.iter_mut() {
+            write_to(slot);
+        }
+        wish
+    }
+
+    /// Writes the changes to the clients that monitor, and then the answers.
+    fn answer_all<T: Tables>(&mut self, asked: &[Asked], view: &View<'_, T>) -> Wish {
+        if has_monitor(&self.clients) || wants_tables(asked) {
+            let mut text = String::new(self.alloc);
+            let written = self.changes.write_changes(view, &mut text);
+            push_changes(&mut self.clients, written, &text);
+        }
+        let mut wish = Wish::Nothing;
+        for (number, command) in asked {
+            if let Some(Some(connection)) = self.clients.get_mut(*number) {
+                let answered = connection.client.answer(command, view, &self.changes);
+                if answered == Wish::Stop {
+                    wish = Wish::Stop;
+                }
+            }
+        }
+        wish
+    }
+
+    /// Takes the clients that wait at the listener.
+    fn accept<T: Tables>(&mut self, registry: &Registry, view: &View<'_, T>) {
+        for _ in 0..MAX_ACCEPTED {
+            let Ok((stream, _)) = self.listener.accept() else {
+                return;
+            };
+            let Some(number) = free_slot(&self.clients) else {
+                continue;
+            };
+            let token = self.token.saturating_add(number).saturating_add(1);
+            let opened = Connection::open(self.alloc, stream, registry, token, view);
+            if let (Some(slot), Ok(connection)) = (self.clients.get_mut(number), opened) {
+                *slot = Some(connection);
+            }
+        }
+        // So that those that are left are reported again.
+        let fd = self.listener.as_raw_fd();
+        let _ = registry.reregister(&mut SourceFd(&fd), Token(self.token), Interest::READABLE);
+    }
+}
+
+fn no_clients(alloc: Global) -> Result<Vec<Option<Connection>>, AllocError> {
+    let mut clients = Vec::new(alloc);
+    for _ in 0..MAX_CLIENTS {
+        clients.push(None)?;
+    }
+    Ok(clients)
+}
+
+/// Takes what the clients that are ready sent.
+fn read_all(
+    clients: &mut [Option<Connection>],
+    ready: u64,
+    registry: &Registry,
+    asked: &mut Vec<Asked>,
+) {
+    let mut bits = ready / 2;
+    for (number, slot) in clients.iter_mut().enumerate() {
+        if bits % 2 == 1 {
+            if let Some(connection) = slot {
+                connection.read(number, registry, asked);
+            }
+        }
+        bits /= 2;
+    }
+}
+
+fn has_monitor(clients: &[Option<Connection>]) -> bool {
+    clients.iter().any(|slot| match slot {
+        Some(connection) => connection.client.monitoring() == Monitoring::Yes,
+        None => false,
+    })
+}
+
+fn wants_tables(asked: &[Asked]) -> bool {
+    asked.iter().any(|(_, command)| needs_tables(command))
+}
+
+/// Adds the changes for each client that monitors. If they could not be written its connection is closed.
+fn push_changes(
+    clients: &mut [Option<Connection>],
+    written: Result<(), AllocError>,
+    changes: &str,
+) {
+    for slot in clients.iter_mut() {
+        if let Some(connection) = slot {
+            match written {
+                Ok(()) => connection.client.push_changes(changes),
+                Err(_) => connection.client.note_failure(),
+            }
+        }
+    }
+}
+
+/// The number of a client that there isn't.
+fn free_slot(clients: &[Option<Connection>]) -> Option<usize> {
+    clients.iter().position(|slot| slot.is_none())
+}
+
+/// Sends what waits for a client, and closes its connection if that has ended.
+fn write_to(slot: &mut Option<Connection>) {
+    let has_ended = match slot {
+        Some(connection) => {
+            connection.write();
+            connection.client.has_ended()
+        }
+        None => false,
+    };
+    if has_ended {
+        *slot = None;
+    }
+}
