@@ -29,6 +29,7 @@ pub(crate) const EACH_EVENT: &[u8] = br#"
 events = [
     "tick 0 18446744073709551615", "emit 1 2", "deliver 3 0 255 4", "cost 1 0 65535", "raise 1",
     "announce 0 10.1.2.3/16", "withdraw 1 fd00::/8", "restart 1 18446744073709551615",
+    "hear 1 255 fe80::1 18446744073709551615 2A02ff", "hear 0 0 192.168.0.9 0 -",
 ]
 [[node]]
 router-id = "0000000000000001"

@@ -13,6 +13,8 @@ mod machine_memory;
 #[cfg(test)]
 mod machines;
 #[cfg(test)]
+mod mixed_memory;
+#[cfg(test)]
 mod network_memory;
 #[cfg(test)]
 mod replay_memory;

@@ -44,7 +44,7 @@ const EVENTS: [Event; 14] = [
 ];
 
 /// 10.0.0.0/8.
-fn ten() -> Prefix {
+pub(crate) fn ten() -> Prefix {
     Prefix::new_unchecked(Addr::V4([10, 0, 0, 0]), 8)
 }
 
@@ -78,7 +78,7 @@ fn config(alloc: Global, number: u8, is_origin: bool) -> Result<Config, AllocErr
 }
 
 /// The routers 1 and 2 on one link.
-fn configs(alloc: Global) -> Result<Vec<Config>, AllocError> {
+pub(crate) fn configs(alloc: Global) -> Result<Vec<Config>, AllocError> {
     let mut configs = Vec::new(alloc);
     configs.push(config(alloc, 1, true)?)?;
     configs.push(config(alloc, 2, false)?)?;

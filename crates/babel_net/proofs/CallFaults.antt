@@ -13,7 +13,7 @@ use Rattle.babel_machine.specs.declared.errors.StepFault.TheVariants.{NoNode, No
 use Rattle.babel_net.specs.Networks.{NetworkState, SentOctets, with_speaker_state}
 use Rattle.babel_net.specs.Steps.{MakesCall, Makes, step_of}
 use Rattle.babel_net.specs.EventRefusals.{node_of, call_fault, event_fault, deliver_fault, interface_fault, fault_at, step_fault, IsFaultOrMemory, IsStepFault}
-use Rattle.babel_net.specs.Invariants.{IsNetwork}
+use Rattle.babel_net.specs.Invariants.{IsRunning}
 use Rattle.babel_net.proofs.SeenWorlds.{written_back}
 use Rattle.babel_net.proofs.HappeningEvents.{readable_at}
 
@@ -58,7 +58,7 @@ call_fault_is (events.Restart node now) n s c is = absurd is
 not_below : (a b : ℕ) → b ≤ a → nat_lt a b ≡ false
 not_below a b h = grind (arith, nat_tests)
 
-pub deliver_refused : (number node iface now : ℕ) (n : NetworkState) (s : State) (fault : StepFault) → IsNetwork n → IsFaultOrMemory (deliver_fault number iface s n) fault → IsStepFault (deliver_fault number iface s n) (events.Deliver number node iface now) n fault
+pub deliver_refused : (number node iface now : ℕ) (n : NetworkState) (s : State) (fault : StepFault) → IsRunning n → IsFaultOrMemory (deliver_fault number iface s n) fault → IsStepFault (deliver_fault number iface s n) (events.Deliver number node iface now) n fault
 deliver_refused number node iface now n s fault net h = by (slice_get n.sent number) refl (deliver_fault number iface s n) refl h
   where
     some : SentOctets
@@ -81,7 +81,7 @@ deliver_refused number node iface now n s fault net h = by (slice_get n.sent num
 pub speaker_read : (n : NetworkState) (node : ℕ) (s : State) → node < length n.speakers → s ≡ get_or n.speakers node s → slice_get n.speakers node ≡ Some s
 speaker_read n node s inside is = slice_get_read n.speakers (length n.speakers) node s refl inside is
 
-pub config_read : (n : NetworkState) (node : ℕ) (c : Config) → IsNetwork n → node < length n.speakers → c ≡ get_or n.configs node c → slice_get n.configs node ≡ Some c
+pub config_read : (n : NetworkState) (node : ℕ) (c : Config) → IsRunning n → node < length n.speakers → c ≡ get_or n.configs node c → slice_get n.configs node ≡ Some c
 config_read n node c net inside is = slice_get_read n.configs (length n.speakers) node c net.size inside is
 
 -- a node has a speaker and a configuration
@@ -91,7 +91,7 @@ record IsNode (n : NetworkState) (node : ℕ) : Type 0 where
   has_state : slice_get n.speakers node ≡ Some state
   has_config : slice_get n.configs node ≡ Some config
 
-node_is : (n : NetworkState) (node : ℕ) → IsNetwork n → node < length n.speakers → IsNode n node
+node_is : (n : NetworkState) (node : ℕ) → IsRunning n → node < length n.speakers → IsNode n node
 node_is n node net inside = by (slice_get_cases n.speakers node).1 (slice_get_cases n.configs node).1
   where
     by : (((s : State) × (node < length n.speakers) × (slice_get n.speakers node ≡ Some s) × (get_or n.speakers node s ≡ s)) ⊎ ((length n.speakers ≤ node) × (slice_get n.speakers node ≡ None)))
@@ -141,27 +141,27 @@ called_same (Err fault) event old new s t c at next same = next ∙ ap (with_spe
 
 -- ---- an event that takes memory
 
-emit_free : (node now : ℕ) (n : NetworkState) → IsNetwork n → node < length n.speakers → step_fault (events.Emit node now) n ≡ None
+emit_free : (node now : ℕ) (n : NetworkState) → IsRunning n → node < length n.speakers → step_fault (events.Emit node now) n ≡ None
 emit_free node now n net inside =
     let at = node_is n node net inside in
     fault_is (events.Emit node now) n at.state at.config at.has_state at.has_config
 
-pub emit_accepted : {T : Type 0} (r : Result T StepFault) (event : Event) (node now : ℕ) (n : NetworkState) → IsNetwork n → event ≡ events.Emit node now → node_of event < length n.speakers → OnOk r (step_fault event n ≡ None)
+pub emit_accepted : {T : Type 0} (r : Result T StepFault) (event : Event) (node now : ℕ) (n : NetworkState) → IsRunning n → event ≡ events.Emit node now → node_of event < length n.speakers → OnOk r (step_fault event n ≡ None)
 emit_accepted (Ok done) event node now n net is inside =
     subst (λ (e : Event). step_fault e n ≡ None) (sym is) (emit_free node now n net (subst (λ (e : Event). node_of e < length n.speakers) is inside))
 emit_accepted (Err fault) event node now n net is inside = tt
 
-restart_free : (node now : ℕ) (n : NetworkState) → IsNetwork n → node < length n.speakers → step_fault (events.Restart node now) n ≡ None
+restart_free : (node now : ℕ) (n : NetworkState) → IsRunning n → node < length n.speakers → step_fault (events.Restart node now) n ≡ None
 restart_free node now n net inside =
     let at = node_is n node net inside in
     fault_is (events.Restart node now) n at.state at.config at.has_state at.has_config
 
-pub restart_accepted : {T : Type 0} (r : Result T StepFault) (event : Event) (node now : ℕ) (n : NetworkState) → IsNetwork n → event ≡ events.Restart node now → node_of event < length n.speakers → OnOk r (step_fault event n ≡ None)
+pub restart_accepted : {T : Type 0} (r : Result T StepFault) (event : Event) (node now : ℕ) (n : NetworkState) → IsRunning n → event ≡ events.Restart node now → node_of event < length n.speakers → OnOk r (step_fault event n ≡ None)
 restart_accepted (Ok done) event node now n net is inside =
     subst (λ (e : Event). step_fault e n ≡ None) (sym is) (restart_free node now n net (subst (λ (e : Event). node_of e < length n.speakers) is inside))
 restart_accepted (Err fault) event node now n net is inside = tt
 
-pub deliver_refused_at : {T : Type 0} (r : Result T StepFault) (event : Event) (number node iface now : ℕ) (n : NetworkState) → IsNetwork n → event ≡ events.Deliver number node iface now → node_of event < length n.speakers → IfErr r (λ fault. (s : State) → slice_get n.speakers (node_of event) ≡ Some s → IsFaultOrMemory (deliver_fault number iface s n) fault) → IfErr r (IsStepFault (step_fault event n) event n)
+pub deliver_refused_at : {T : Type 0} (r : Result T StepFault) (event : Event) (number node iface now : ℕ) (n : NetworkState) → IsRunning n → event ≡ events.Deliver number node iface now → node_of event < length n.speakers → IfErr r (λ fault. (s : State) → slice_get n.speakers (node_of event) ≡ Some s → IsFaultOrMemory (deliver_fault number iface s n) fault) → IfErr r (IsStepFault (step_fault event n) event n)
 deliver_refused_at (Ok done) event number node iface now n net is inside h = tt
 deliver_refused_at (Err fault) event number node iface now n net is inside h =
     let within : node < length n.speakers = subst (λ (e : Event). node_of e < length n.speakers) is inside in

@@ -17,6 +17,7 @@ use Rattle.babel_net.specs.Steps.{MakesCall, MakesEmit, Makes, next_of, recorded
 use Rattle.babel_net.specs.EventRefusals.{node_of, step_fault, IsStepFault}
 use Rattle.babel_net.specs.Invariants.{IsNetwork}
 use Rattle.babel_net.specs.Laws.{EventsHappen, EventsKeepNetworks}
+use Rattle.babel_net.proofs.Running.{running}
 use Rattle.babel_net.specs.Promises.{MakeAll, last_network, RanBy, RunsTogether, Ran, StopsAt}
 
 -- ---- configurations stay
@@ -75,7 +76,7 @@ happen_all happens kept configs [] old [] same net h = tt
 happen_all happens kept configs [] old (n ∷ ns) same net h = absurd h
 happen_all happens kept configs (e ∷ es) old [] same net h = absurd h
 happen_all happens kept configs (e ∷ es) old (n ∷ ns) same net h =
-    (subst (λ (cs : List Config). Happens cs e (world_of old) (world_of n)) same (happens e old n net h.0 h.1), happen_all happens kept configs es n ns (same_configs e old n h.0 ∙ same) (kept e old n net h.0 h.1) h.2)
+    (subst (λ (cs : List Config). Happens cs e (world_of old) (world_of n)) same (happens e old n (running old net) h.0 h.1), happen_all happens kept configs es n ns (same_configs e old n h.0 ∙ same) (kept e old n net h.0 h.1) h.2)
 
 pub network_after : EventsKeepNetworks → (done : List Event) (old : NetworkState) (networks : List NetworkState) → IsNetwork old → MakeAll done old networks → IsNetwork (last_network old networks)
 network_after kept [] old [] net h = net

@@ -59,7 +59,7 @@ all_well laws (c ∷ cs) valid words =
     (laws.well_formed c (All-head (λ (d : Config). d.seqno < 65536) c cs words) (All-head (λ (d : Config). config_fault d ≡ None) c cs valid))
     (all_well laws cs (All-tail (λ (d : Config). config_fault d ≡ None) c cs valid) (All-tail (λ (d : Config). d.seqno < 65536) c cs words))
 
-is_first : FirstLaws → (configs : List Config) → IsFirst configs (world_of (first_network configs))
+pub is_first : FirstLaws → (configs : List Config) → IsFirst configs (world_of (first_network configs))
 is_first laws configs = record {
   size = length-map (map first_state configs) seen ∙ length-map configs first_state;
   new = λ node c is. subst (IsNew c) (sym (speaker_seen (first_network configs) node (first_state c) (slice_get-map first_state configs node ∙ ap (option_map first_state) is))) (laws.new c);

@@ -39,7 +39,7 @@ use Rattle.babel_machine.specs.Worlds.{World, SentDatagram, speaker_at, with_spe
 use Rattle.babel_net.specs.Networks.{NetworkState, SentOctets, with_speaker_state, with_octets, updates_read, datagram_seen, world_of}
 use Rattle.babel_net.specs.Steps.{MakesEmit, MakesDeliver, MakesRestart, IsSent, IsSentBy, Received, recorded, next_of}
 use Rattle.babel_net.specs.EventRefusals.{node_of, event_fault, fault_at, step_fault, cost_fault}
-use Rattle.babel_net.specs.Invariants.{IsNetwork, IsReadable}
+use Rattle.babel_net.specs.Invariants.{IsRunning, IsReadable}
 use Rattle.babel_net.specs.Laws.{EventsHappen}
 use Rattle.babel_net.proofs.SeenWorlds.{speaker_seen, node_inside, sent_seen, world_with_speaker, world_with_octets, written_back}
 use Rattle.babel_net.proofs.FewPrefixes.{not_too_many}
@@ -58,21 +58,21 @@ pub record SpeakerLaws : Type 0 where
 
 -- ---- what is known of a node
 
-pub well_at : (n : NetworkState) (node : ℕ) (s : State) → IsNetwork n → slice_get n.speakers node ≡ Some s → IsWellFormed s
+pub well_at : (n : NetworkState) (node : ℕ) (s : State) → IsRunning n → slice_get n.speakers node ≡ Some s → IsWellFormed s
 well_at n node s net is = All-contains IsWellFormed n.speakers s net.well_formed (node, slice_get_within n.speakers node s is, get_or_from_slice_get n.speakers node s s is)
 
 -- the configuration of a node has no fault
-pub valid_at : (n : NetworkState) (node : ℕ) (c : Config) → IsNetwork n → slice_get n.configs node ≡ Some c → config_fault c ≡ None
+pub valid_at : (n : NetworkState) (node : ℕ) (c : Config) → IsRunning n → slice_get n.configs node ≡ Some c → config_fault c ≡ None
 valid_at n node c net is =
     All-contains (λ (d : Config). config_fault d ≡ None) n.configs c net.valid (node, slice_get_within n.configs node c is, get_or_from_slice_get n.configs node c c is)
 
 -- and its router-id is the speaker's
-pub router_at : (n : NetworkState) (node : ℕ) (s : State) (c : Config) → IsNetwork n → slice_get n.speakers node ≡ Some s → slice_get n.configs node ≡ Some c → s.router ≡ c.router_id
+pub router_at : (n : NetworkState) (node : ℕ) (s : State) (c : Config) → IsRunning n → slice_get n.speakers node ≡ Some s → slice_get n.configs node ≡ Some c → s.router ≡ c.router_id
 unfolding seen
 router_at n node s c net is configured =
-    subst (λ (x : Seen). x.router ≡ c.router_id) (speaker_seen n node s is) (net.sound.holds.router node c configured)
+    subst (λ (x : Seen). x.router ≡ c.router_id) (speaker_seen n node s is) (net.holds.router node c configured)
 
-pub readable_at : (n : NetworkState) (number : ℕ) (d : SentOctets) → IsNetwork n → slice_get n.sent number ≡ Some d → IsReadable d
+pub readable_at : (n : NetworkState) (number : ℕ) (d : SentOctets) → IsRunning n → slice_get n.sent number ≡ Some d → IsReadable d
 readable_at n number d net is = All-contains IsReadable n.sent d net.readable (number, slice_get_within n.sent number d is, get_or_from_slice_get n.sent number d d is)
 
 -- The configuration of the event's node, which refuses nothing.
@@ -114,7 +114,7 @@ few_listed c none =
     let f = first_head (has_cause c) Prefixes (InterfaceAddresses ∷ []) e.1 in
     ltb-false 64 (length c.prefixes.items) (or_parts (nat_lt 64 (length c.prefixes.items)) (repeats c.prefixes.items) f.0).0
 
-pub room_to_announce : (n : NetworkState) (node : ℕ) (s : State) (c : Config) (prefix : PrefixValue) → IsNetwork n → slice_get n.speakers node ≡ Some s → slice_get n.configs node ≡ Some c → has_prefix prefix c.prefixes.items ≡ true → is_prefix_too_many prefix s ≡ false
+pub room_to_announce : (n : NetworkState) (node : ℕ) (s : State) (c : Config) (prefix : PrefixValue) → IsRunning n → slice_get n.speakers node ≡ Some s → slice_get n.configs node ≡ Some c → has_prefix prefix c.prefixes.items ≡ true → is_prefix_too_many prefix s ≡ false
 unfolding seen
 room_to_announce n node s c prefix net is config here =
     not_too_many prefix s c.prefixes.items (well_at n node s net is).tables.announced.in_order (few_listed c (valid_at n node c net config)) here all
@@ -123,7 +123,7 @@ room_to_announce n node s c prefix net is config here =
     of_this q l = subst (λ (d : Config). has_prefix q d.prefixes.items ≡ true) (same_Some l.0 c (sym l.1 ∙ config)) l.2
 
     all : (q : PrefixValue) → announces q s ≡ true → has_prefix q c.prefixes.items ≡ true
-    all q on = of_this q (net.sound.holds.announces node q (subst (λ (x : Seen). x.announces q ≡ true) (sym (speaker_seen n node s is)) on))
+    all q on = of_this q (net.holds.announces node q (subst (λ (x : Seen). x.announces q ≡ true) (sym (speaker_seen n node s is)) on))
 
 -- ---- calls without a datagram
 
@@ -151,7 +151,7 @@ no_count : (n : ℕ) → n < 2 ^ 64 → n ≡ counted n 0
 no_count n h = omega arith
 
 -- nothing is seen of a datagram that isn't there
-unmoved : (n : NetworkState) (node : ℕ) (s : State) (peer : Peer) → IsNetwork n → slice_get n.speakers node ≡ Some s → Moves peer [] 0 (seen s).announces (seen s) (seen s)
+unmoved : (n : NetworkState) (node : ℕ) (s : State) (peer : Peer) → IsRunning n → slice_get n.speakers node ≡ Some s → Moves peer [] 0 (seen s).announces (seen s) (seen s)
 unfolding seen
 unmoved n node s peer net is = record {
   router = refl;
@@ -164,10 +164,10 @@ unmoved n node s peer net is = record {
   sources = λ _ prefix router. refl;
   entries = λ prefix from h at. inl at;
   others = λ before. before;
-  selecting = subst IsSelecting (speaker_seen n node s is) (net.sound.holds.selecting node);
+  selecting = subst IsSelecting (speaker_seen n node s is) (net.holds.selecting node);
 }
 
-nothing_sent : (node : ℕ) (old new : NetworkState) (s t : State) → IsNetwork old → slice_get old.speakers node ≡ Some s → seen t ≡ seen s → new ≡ with_speaker_state old node t → StepsAlone node 0 (speaker_at (world_of old) node).announces (world_of old) (world_of new)
+nothing_sent : (node : ℕ) (old new : NetworkState) (s t : State) → IsRunning old → slice_get old.speakers node ≡ Some s → seen t ≡ seen s → new ≡ with_speaker_state old node t → StepsAlone node 0 (speaker_at (world_of old) node).announces (world_of old) (world_of new)
 nothing_sent node old new s t net is same next =
     alone node 0 announces_now old new s t is (λ peer. subst (λ (x : Seen). Moves peer [] 0 (seen s).announces (seen s) x) (sym same) (unmoved old node s peer net is)) next
 
@@ -179,7 +179,7 @@ transport_seen : (s : State) (iface : ℕ) (source : Addr) → transport_at ifac
 unfolding seen
 transport_seen s iface source is = is
 
-datagram_sent : SpeakerLaws → (node now : ℕ) (old new : NetworkState) (s : State) (target : Target) (d : SentOctets) → IsNetwork old → slice_get old.speakers node ≡ Some s → (next_of now s).target ≡ Some target → IsSentBy node s (next_of now s) target d → new ≡ with_octets (with_speaker_state old node (next_of now s).state) d → Emits node (world_of old) (world_of new)
+datagram_sent : SpeakerLaws → (node now : ℕ) (old new : NetworkState) (s : State) (target : Target) (d : SentOctets) → IsRunning old → slice_get old.speakers node ≡ Some s → (next_of now s).target ≡ Some target → IsSentBy node s (next_of now s) target d → new ≡ with_octets (with_speaker_state old node (next_of now s).state) d → Emits node (world_of old) (world_of new)
 datagram_sent laws node now old new s target d net is goes by_it next = record {
   inside = node_inside old node s is;
   iface = target.iface;
@@ -198,7 +198,7 @@ datagram_sent laws node now old new s target d net is goes by_it next = record {
         ap (λ (m : ℕ). let x : SentDatagram = record { node = m; source = d.source; updates = (datagram_seen d).updates } in x) by_it.sender
         ∙ ap (λ (us : List UpdateValue). let x : SentDatagram = record { node = node; source = d.source; updates = us } in x) (updates_meant d (next_of now s) by_it.means)
 
-emitted : SpeakerLaws → (node now : ℕ) (old new : NetworkState) → IsNetwork old → MakesEmit node now old new → Emits node (world_of old) (world_of new) ⊎ StepsAlone node 0 (speaker_at (world_of old) node).announces (world_of old) (world_of new)
+emitted : SpeakerLaws → (node now : ℕ) (old new : NetworkState) → IsRunning old → MakesEmit node now old new → Emits node (world_of old) (world_of new) ⊎ StepsAlone node 0 (speaker_at (world_of old) node).announces (world_of old) (world_of new)
 emitted laws node now old new net made = by (next_of now made.speaker).target refl made.sent made.is_sent made.next
   where
     s : State
@@ -217,12 +217,12 @@ encodable_as d placed can read =
     let same : can.placed ≡ placed = cc in
     subst (λ (ps : List Placed). AreEncodable (messages_of ps)) same can.encodable
 
-pub well_received : SpeakerLaws → (now iface : ℕ) (n : NetworkState) (node number : ℕ) (s t : State) (d : SentOctets) (fault : Option RecvFault) → IsNetwork n → slice_get n.speakers node ≡ Some s → slice_get n.sent number ≡ Some d → Received now iface d fault s t → IsWellFormed t
+pub well_received : SpeakerLaws → (now iface : ℕ) (n : NetworkState) (node number : ℕ) (s t : State) (d : SentOctets) (fault : Option RecvFault) → IsRunning n → slice_get n.speakers node ≡ Some s → slice_get n.sent number ≡ Some d → Received now iface d fault s t → IsWellFormed t
 well_received laws now iface n node number s t d None net is sent h =
     subst IsWellFormed (sym h.2) (laws.places now (record { iface = iface; addr = d.source }) h.0 s (encodable_as d h.0 (readable_at n number d net sent) h.1) (well_at n node s net is)).0
 well_received laws now iface n node number s t d (Some fault) net is sent next = subst IsWellFormed (sym next) (well_at n node s net is)
 
-delivered : SpeakerLaws → (number node iface now : ℕ) (old new : NetworkState) → IsNetwork old → MakesDeliver number node iface now old new → Receives number node iface (world_of old) (world_of new) ⊎ (world_of new ≡ world_of old)
+delivered : SpeakerLaws → (number node iface now : ℕ) (old new : NetworkState) → IsRunning old → MakesDeliver number node iface now old new → Receives number node iface (world_of old) (world_of new) ⊎ (world_of new ≡ world_of old)
 delivered laws number node iface now old new net made = by (source_fault iface made.datagram.source made.speaker) made.received
   where
     d : SentOctets
@@ -250,7 +250,7 @@ delivered laws number node iface now old new net made = by (source_fault iface m
 
 -- ---- a restart
 
-restarts : SpeakerLaws → (node now : ℕ) (old new : NetworkState) → IsNetwork old → MakesRestart node now old new → Restarts old.configs node (world_of old) (world_of new)
+restarts : SpeakerLaws → (node now : ℕ) (old new : NetworkState) → IsRunning old → MakesRestart node now old new → Restarts old.configs node (world_of old) (world_of new)
 restarts laws node now old new net made = record {
   inside = node_inside old node made.speaker made.is;
   config = made.config;

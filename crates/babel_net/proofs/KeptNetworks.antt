@@ -25,11 +25,12 @@ use Rattle.babel_machine.specs.Owners.{AreApart}
 use Rattle.babel_net.specs.Networks.{NetworkState, SentOctets, with_speaker_state, with_octets, world_of}
 use Rattle.babel_net.specs.Steps.{MakesCall, MakesEmit, MakesDeliver, MakesRestart, Makes, IsSent, IsSentBy, recorded, next_of, step_of}
 use Rattle.babel_net.specs.EventRefusals.{node_of, step_fault}
-use Rattle.babel_net.specs.Invariants.{IsNetwork, IsReadable}
+use Rattle.babel_net.specs.Invariants.{IsRunning, IsReadable}
 use Rattle.babel_net.specs.Laws.{EventsKeepNetworks}
+use Rattle.babel_net.proofs.Running.{running}
 use Rattle.babel_net.proofs.HappeningEvents.{SpeakerLaws, happens, well_at, well_received, allowed_at, no_cost_fault, if_listed, room_to_announce, valid_at}
 
--- What is proved of one speaker's state, and of networks that are seen.
+-- What is proved of one speaker's state.
 pub record StateLaws : Type 0 where
   pub speaker : SpeakerLaws
   pub tick : TicksKeepWellFormed
@@ -40,16 +41,15 @@ pub record StateLaws : Type 0 where
   pub raise : RaisingKeepsWellFormed
   pub restart : RestartsAreWellFormed
   pub encodable : DatagramsAreEncodable
-  pub sound : EventsAreSound
 
 -- all of it but what is seen
-record IsBuilt (n : NetworkState) : Type 0 where
-  size : length n.speakers ≡ length n.configs
-  valid : All (λ (c : Config). config_fault c ≡ None) n.configs
-  well_formed : All IsWellFormed n.speakers
-  readable : All IsReadable n.sent
+pub record IsBuilt (n : NetworkState) : Type 0 where
+  pub size : length n.speakers ≡ length n.configs
+  pub valid : All (λ (c : Config). config_fault c ≡ None) n.configs
+  pub well_formed : All IsWellFormed n.speakers
+  pub readable : All IsReadable n.sent
 
-built_with_speaker : (n : NetworkState) (node : ℕ) (t : State) → IsNetwork n → IsWellFormed t → IsBuilt (with_speaker_state n node t)
+pub built_with_speaker : (n : NetworkState) (node : ℕ) (t : State) → IsRunning n → IsWellFormed t → IsBuilt (with_speaker_state n node t)
 built_with_speaker n node t net well = record {
   size = length-set n.speakers node t ∙ net.size;
   valid = net.valid;
@@ -67,7 +67,7 @@ built_with_octets n d built can = record {
 
 -- ---- the node's speaker stays well formed
 
-well_called : StateLaws → (event : Event) (old : NetworkState) (s : State) → IsNetwork old → slice_get old.speakers (node_of event) ≡ Some s → step_fault event old ≡ None → IsWellFormed (step_of event s)
+well_called : StateLaws → (event : Event) (old : NetworkState) (s : State) → IsRunning old → slice_get old.speakers (node_of event) ≡ Some s → step_fault event old ≡ None → IsWellFormed (step_of event s)
 well_called laws (events.Tick node now) old s net is ok = laws.tick now s (well_at old node s net is)
 well_called laws (events.Emit node now) old s net is ok = well_at old node s net is
 well_called laws (events.Deliver number node iface now) old s net is ok = well_at old node s net is
@@ -83,11 +83,11 @@ well_called laws (events.Restart node now) old s net is ok = well_at old node s 
 
 -- ---- each event
 
-record IsBuiltFrom (old new : NetworkState) : Type 0 where
-  configs : new.configs ≡ old.configs
-  built : IsBuilt new
+pub record IsBuiltFrom (old new : NetworkState) : Type 0 where
+  pub configs : new.configs ≡ old.configs
+  pub built : IsBuilt new
 
-built_call : StateLaws → (event : Event) (old new : NetworkState) → IsNetwork old → MakesCall (node_of event) event old new → step_fault event old ≡ None → IsBuiltFrom old new
+built_call : StateLaws → (event : Event) (old new : NetworkState) → IsRunning old → MakesCall (node_of event) event old new → step_fault event old ≡ None → IsBuiltFrom old new
 built_call laws event old new net made ok = record {
   configs = ap (λ (n : NetworkState). n.configs) made.next;
   built = subst IsBuilt (sym made.next) (built_with_speaker old (node_of event) (step_of event made.speaker) net (well_called laws event old made.speaker net made.is ok));
@@ -104,7 +104,7 @@ readable_sent laws node now s target d well by_it = record {
     all_from : (ms : List Message) → are_encodable ms ≡ true → AreEncodable ms
     all_from ms h = AllPass-from_list_all is_encodable ms h
 
-built_emit : StateLaws → (node now : ℕ) (old new : NetworkState) → IsNetwork old → MakesEmit node now old new → IsBuiltFrom old new
+built_emit : StateLaws → (node now : ℕ) (old new : NetworkState) → IsRunning old → MakesEmit node now old new → IsBuiltFrom old new
 built_emit laws node now old new net made = by made.sent (next_of now made.speaker).target made.is_sent made.next
   where
     after : NetworkState
@@ -125,19 +125,19 @@ built_emit laws node now old new net made = by made.sent (next_of now made.speak
       built = subst IsBuilt (sym next) (built_with_octets (with_speaker_state old node (next_of now made.speaker).state) d built (readable_sent laws node now made.speaker target d (well_at old node made.speaker net made.is) is_sent));
     }
 
-built_deliver : StateLaws → (number node iface now : ℕ) (old new : NetworkState) → IsNetwork old → MakesDeliver number node iface now old new → IsBuiltFrom old new
+built_deliver : StateLaws → (number node iface now : ℕ) (old new : NetworkState) → IsRunning old → MakesDeliver number node iface now old new → IsBuiltFrom old new
 built_deliver laws number node iface now old new net made = record {
   configs = ap (λ (n : NetworkState). n.configs) made.next;
   built = subst IsBuilt (sym made.next) (built_with_speaker old node made.after net (well_received laws.speaker now iface old node number made.speaker made.after made.datagram (source_fault iface made.datagram.source made.speaker) net made.is made.was_sent made.received));
 }
 
-built_restart : StateLaws → (node now : ℕ) (old new : NetworkState) → IsNetwork old → MakesRestart node now old new → IsBuiltFrom old new
+built_restart : StateLaws → (node now : ℕ) (old new : NetworkState) → IsRunning old → MakesRestart node now old new → IsBuiltFrom old new
 built_restart laws node now old new net made = record {
   configs = ap (λ (n : NetworkState). n.configs) made.next;
   built = subst IsBuilt (sym made.next) (built_with_speaker old node (restarted now made.config made.speaker) net (laws.restart now made.config made.speaker (well_at old node made.speaker net made.is) (valid_at old node made.config net made.configured)));
 }
 
-built_from : StateLaws → (event : Event) (old new : NetworkState) → IsNetwork old → Makes event old new → step_fault event old ≡ None → IsBuiltFrom old new
+pub built_from : StateLaws → (event : Event) (old new : NetworkState) → IsRunning old → Makes event old new → step_fault event old ≡ None → IsBuiltFrom old new
 built_from laws (events.Tick node now) old new net made ok = built_call laws (events.Tick node now) old new net made ok
 built_from laws (events.Emit node now) old new net made ok = built_emit laws node now old new net made
 built_from laws (events.Deliver number node iface now) old new net made ok = built_deliver laws number node iface now old new net made
@@ -147,10 +147,11 @@ built_from laws (events.Announce node prefix) old new net made ok = built_call l
 built_from laws (events.Withdraw node prefix) old new net made ok = built_call laws (events.Withdraw node prefix) old new net made ok
 built_from laws (events.Restart node now) old new net made ok = built_restart laws node now old new net made
 
-pub kept : StateLaws → EventsKeepNetworks
-kept laws event old new net made ok =
-    let from = built_from laws event old new net made ok in
-    let sound = laws.sound old.configs event (world_of old) (world_of new) net.apart net.sound (happens laws.speaker event old new net made ok) in
+pub kept : StateLaws → EventsAreSound → EventsKeepNetworks
+kept laws are_sound event old new net made ok =
+    let run : IsRunning old = running old net in
+    let from = built_from laws event old new run made ok in
+    let sound = are_sound old.configs event (world_of old) (world_of new) net.apart net.sound (happens laws.speaker event old new run made ok) in
     record {
       size = from.built.size;
       valid = from.built.valid;

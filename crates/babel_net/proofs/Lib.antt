@@ -1,5 +1,6 @@
 mod SeenWorlds
 mod FewPrefixes
+mod Running
 mod HappeningEvents
 mod KeptNetworks
 mod FirstNetworks
@@ -11,3 +12,6 @@ mod Recorded
 mod Chains
 mod NextHops
 mod CallFaults
+mod MixedNetworks
+mod HeardUpdates
+mod HeardNetworks

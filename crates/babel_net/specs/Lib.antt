@@ -8,3 +8,6 @@ pub mod Owned
 pub mod Making
 pub mod Shared
 pub mod Recording
+pub mod Hearing
+pub mod HearFaults
+pub mod Mixed

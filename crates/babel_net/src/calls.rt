@@ -10,13 +10,17 @@ ghost use Rattle.babel_state.specs.State.{announces};
 ghost use Rattle.babel_state.specs.Invariants.{IsWellFormed};
 ghost use Rattle.babel_state.specs.Sameness.{has_prefix};
 ghost use Rattle.babel_net.specs.EventRefusals.{node_of, call_fault, cost_fault, interface_fault, IsFaultOrMemory};
+ghost use Rattle.babel_net.specs.HearFaults.{iface_fault, IsHearFault};
+ghost use Rattle.babel_net.specs.Hearing.{HearsAs};
 ghost use Rattle.babel_net.specs.Invariants.{IsReadable};
 ghost use Rattle.babel_net.specs.Steps.{step_of, next_of, IsSent, Received};
 
+use crate::hearing::{HearFault, Heard, Hearing};
 use crate::node_speakers::NodeSpeaker;
 use crate::sent::Sent;
 use arrayvec::ArrayVec;
 use babel_machine::{Event, StepFault};
+use babel_message::Refusal;
 use babel_state::laws::{datagrams_send, items_mean_messages};
 use babel_state::{Config, ConfigFault, RecvFault, RestoreFault, SetCostFault};
 use babel_tlv::DATAGRAM_LEN;
@@ -168,6 +172,23 @@ pub(crate) fn receive(
         Err(RecvFault::ForeignSource) => Ok(()),
         Err(RecvFault::OwnSource) => Ok(()),
         Err(RecvFault::Refused(_)) => Err(StepFault::Memory),
+    }
+}
+
+/// The speaker receives octets from an address that no node has. It refuses those from an address
+/// that the interface takes no datagrams from, and those that can't be read.
+#[tactic(auto, unfolding(babel_state::specs::Addresses::source_fault))]
+pub(crate) fn hear(speaker: &mut NodeSpeaker, heard: &Heard<'_>) -> Result<Hearing, HearFault>
+    ensures ok { IfOk result (λ hearing. HearsAs hearing heard.entry.now speaker.old speaker.new) }
+    ensures accepted { OnOk result (iface_fault heard.entry.now.iface speaker.old ≡ None) }
+    ensures refused { IfErr result (IsHearFault (iface_fault heard.entry.now.iface speaker.old)) }
+    ensures err { OnErr result (speaker.new ≡ speaker.old) }
+{
+    match speaker.receive(heard.now, heard.iface, heard.source, heard.octets) {
+        Ok(_) => Ok(Hearing::Received),
+        Err(RecvFault::NoInterface) => Err(HearFault::NoInterface),
+        Err(RecvFault::Refused(Refusal::Memory)) => Err(HearFault::Memory),
+        Err(_) => Ok(Hearing::Refused),
     }
 }
 

@@ -4,7 +4,10 @@
 
 mod acceptance;
 mod calls;
+mod hearing;
 pub mod laws;
+mod mixed;
+pub mod mixed_laws;
 mod network;
 mod node_speakers;
 mod nodes;
@@ -14,4 +17,6 @@ mod sent;
 pub use babel_machine::machine::Machine;
 pub use babel_machine::{Event, MachineFault, NetFault, StepFault};
 pub use calls::node_of;
+pub use hearing::{HearFault, Heard, HeardUpdate};
+pub use mixed::MixedNetwork;
 pub use network::Network;

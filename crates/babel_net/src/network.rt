@@ -200,7 +200,7 @@ impl Network {
 }
 
 /// The node that has the address of the selected route's neighbour.
-fn hop_of(owners: &Owners, selected: Option<Selected>) -> Option<usize>
+pub(crate) fn hop_of(owners: &Owners, selected: Option<Selected>) -> Option<usize>
     ensures { result ≡ option_and_then (λ (route : Selected). get addr_cmp owners.now.nodes route.peer.addr) selected }
 {
     match selected {
@@ -210,7 +210,7 @@ fn hop_of(owners: &Owners, selected: Option<Selected>) -> Option<usize>
 }
 
 /// The router-id of the selected route.
-fn router_of(selected: Option<Selected>) -> Option<RouterId>
+pub(crate) fn router_of(selected: Option<Selected>) -> Option<RouterId>
     ensures { result ≡ option_map (λ (route : Selected). route.router) selected }
 {
     match selected {

@@ -1,6 +1,6 @@
 //! The speaker of a node, of which a network sees the state.
 
-ghost use Rattle.std.specs.Prelude.{◌≡◌, ◌↔◌, true, false, Some, slice_get, IsOk, IsErr, IsNone, IfOk, IfErr, IfSome, OnOk, OnErr};
+ghost use Rattle.std.specs.Prelude.{◌≡◌, ◌↔◌, true, false, Some, slice_get, is_some, IsOk, IsErr, IsNone, IfOk, IfErr, IfSome, OnOk, OnErr};
 ghost use Rattle.babel_packet.specs.Meaning.{meaning};
 ghost use Rattle.babel_state.specs.Addresses.{source_fault, transport_at};
 ghost use Rattle.babel_state.specs.Calls.{set_cost_fault, cost_set, first_state, is_prefix_too_many, announced_also, withdrawn, selected_route};
@@ -9,7 +9,7 @@ ghost use Rattle.babel_state.specs.Messages.{Receives, IsRecvFault};
 ghost use Rattle.babel_state.specs.NextDatagram.{next_datagram};
 ghost use Rattle.babel_state.specs.Restarts.{snapshot_of, restored};
 ghost use Rattle.babel_state.specs.SeqnoRequests.{raised};
-ghost use Rattle.babel_state.specs.State.{announces};
+ghost use Rattle.babel_state.specs.State.{announces, interface_at};
 ghost use Rattle.babel_state.specs.Ticks.{ticked};
 ghost use Rattle.babel_snapshot.specs.Octets.{snapshot_octets};
 ghost use Rattle.babel_snapshot.specs.Reading.{restore_fault, snapshot_in};
@@ -148,6 +148,12 @@ impl NodeSpeaker {
         ensures { result ≡ transport_at iface self.now }
     {
         self.speaker.transport(iface)
+    }
+
+    pub(crate) fn has_interface(&self, iface: u8) -> bool
+        ensures { result ≡ is_some (interface_at iface self.now) }
+    {
+        self.speaker.interface(iface).is_some()
     }
 
     pub(crate) fn selected(&self, prefix: &Prefix) -> Option<Selected>

@@ -8,12 +8,15 @@ ghost use Rattle.babel_state.specs.State.{State};
 ghost use Rattle.babel_state.specs.Calls.{first_state, selected_route};
 ghost use Rattle.babel_machine.specs.Acceptance.{first_bad_from};
 ghost use Rattle.babel_net.specs.EventRefusals.{deliver_fault, step_fault, IsFaultOrMemory, IsStepFault};
-ghost use Rattle.babel_net.specs.Invariants.{IsNetwork};
+ghost use Rattle.babel_net.specs.HearFaults.{place_fault};
+ghost use Rattle.babel_net.specs.Hearing.{HearsAt};
+ghost use Rattle.babel_net.specs.Invariants.{IsRunning};
 ghost use Rattle.babel_net.specs.Making.{IsOutOfMemory};
 ghost use Rattle.babel_net.specs.Promises.{first_network};
 ghost use Rattle.babel_net.specs.Steps.{Makes, MakesEmit, MakesDeliver, MakesRestart};
 
-use crate::calls::{call, node_of, receive, restart};
+use crate::calls::{call, hear, node_of, receive, restart};
+use crate::hearing::{HearFault, Heard, Hearing};
 use crate::node_speakers::NodeSpeaker;
 use crate::sent::Record;
 use babel_choice::Selection;
@@ -70,7 +73,7 @@ impl Nodes {
     /// Makes the event's step, or refuses it and changes nothing.
     #[tactic(auto, unfolding(crate::specs::EventRefusals::step_fault))]
     pub fn step(&mut self, event: &Event) -> Result<(), StepFault>
-        requires { IsNetwork self.old }
+        requires { IsRunning self.old }
         ensures ok { OnOk result (Makes event.now self.old self.new) }
         ensures accepted { OnOk result (step_fault event.now self.old ≡ None) }
         ensures refused { IfErr result (IsStepFault (step_fault event.now self.old) event.now self.old) }
@@ -96,7 +99,7 @@ impl Nodes {
     /// The node's next datagram is recorded, if there is one.
     fn emit(&mut self, node: usize, now: u64) -> Result<(), StepFault>
         requires inside { node < length self.old.speakers }
-        requires sound { IsNetwork self.old }
+        requires sound { IsRunning self.old }
         ensures ok { OnOk result (MakesEmit node now self.old self.new) }
         ensures refused { IfErr result (λ fault. fault ≡ StepFault.Memory) }
         ensures err { OnErr result (self.new ≡ self.old) }
@@ -110,7 +113,7 @@ impl Nodes {
     /// The node receives the recorded datagram.
     fn deliver(&mut self, number: usize, node: usize, iface: u8, now: u64) -> Result<(), StepFault>
         requires inside { node < length self.old.speakers }
-        requires sound { IsNetwork self.old }
+        requires sound { IsRunning self.old }
         ensures ok { OnOk result (MakesDeliver number node iface now self.old self.new) }
         ensures accepted { OnOk result ((speaker : State) → slice_get self.old.speakers node ≡ Some speaker → deliver_fault number iface speaker self.old ≡ None) }
         ensures refused { IfErr result (λ fault. (speaker : State) → slice_get self.old.speakers node ≡ Some speaker → IsFaultOrMemory (deliver_fault number iface speaker self.old) fault) }
@@ -122,10 +125,32 @@ impl Nodes {
         receive(&mut self.speakers[node], &sent, iface, now)
     }
 
+    /// Whether the node has the interface.
+    pub fn can_hear(&self, node: usize, iface: u8) -> Result<(), HearFault>
+        ensures ok { OnOk result (place_fault iface (slice_get self.now.speakers node) ≡ None) }
+        ensures refused { IfErr result (λ fault. place_fault iface (slice_get self.now.speakers node) ≡ Some fault) }
+    {
+        match self.speakers.get(node) {
+            Some(speaker) if speaker.has_interface(iface) => Ok(()),
+            Some(_) => Err(HearFault::NoInterface),
+            None => Err(HearFault::NoNode),
+        }
+    }
+
+    /// The node receives octets from an address that no node has.
+    pub fn hear(&mut self, heard: &Heard<'_>) -> Result<Hearing, HearFault>
+        requires { place_fault heard.now.iface (slice_get self.old.speakers heard.now.node) ≡ None }
+        ensures ok { IfOk result (λ hearing. HearsAt heard.entry.now hearing self.old self.new) }
+        ensures refused { IfErr result (λ fault. fault ≡ HearFault.Memory) }
+        ensures err { OnErr result (self.new ≡ self.old) }
+    {
+        hear(&mut self.speakers[heard.node], heard)
+    }
+
     /// The node's speaker is saved, and restored with its configuration.
     fn restart(&mut self, node: usize, now: u64) -> Result<(), StepFault>
         requires inside { node < length self.old.speakers }
-        requires sound { IsNetwork self.old }
+        requires sound { IsRunning self.old }
         ensures ok { OnOk result (MakesRestart node now self.old self.new) }
         ensures refused { IfErr result (λ fault. fault ≡ StepFault.Memory) }
         ensures err { OnErr result (self.new ≡ self.old) }

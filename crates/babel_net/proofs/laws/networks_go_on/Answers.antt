@@ -36,5 +36,4 @@ returns-clause-kept c = kept (record {
   raise = c.states_are_well_formed.ensures.raise;
   restart = c.restarts_are_seen.ensures.restarted_well_formed;
   encodable = c.items_mean_messages.ensures.datagrams;
-  sound = c.events_keep_the_invariant.ensures;
-})
+}) c.events_keep_the_invariant.ensures

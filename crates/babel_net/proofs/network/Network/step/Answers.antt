@@ -1,6 +1,10 @@
 use Rattle.babel_net.specs.Networks.{world_of}
 use Rattle.babel_net.proofs.Chains.{after_step}
+use Rattle.babel_net.proofs.Running.{running}
 use Rattle.babel_net.proofs.network.Network.step.Goals as goal
+
+pub step-requires : goal.step-requires
+step-requires c = running c.self.inside.nodes c.self.invariant.0
 
 pub returns-clause-one_origin : goal.returns-clause-one_origin
 returns-clause-one_origin c =
