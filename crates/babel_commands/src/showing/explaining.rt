@@ -34,26 +34,45 @@ pub(crate) fn explain_meaning<W: Write, E: Write>(
     err: &mut E,
 ) -> Result<(), LineFault> {
     match meaning {
-        Ok(placed) => {
-            for place in placed.as_slice() {
-                let Content::Ignored(reason) = place.content else {
-                    continue;
-                };
-                let code = ReportCode::from(reason);
-                if seen.add(code) {
-                    out.flush().map_err(LineFault::of_writing)?;
-                    // If writing the sentence fails, the lines are whole all the same.
-                    let _ = writeln!(err, "{origin}: offset {}: {code}", place.offset);
-                }
-            }
+        Ok(placed) => explain_places(placed.as_slice(), origin, seen, out, err),
+        Err(refusal) => explain_refusal(*refusal, origin, seen, out, err),
+    }
+}
+
+/// The same of a datagram that can be read.
+pub(crate) fn explain_places<W: Write, E: Write>(
+    placed: &[Placed],
+    origin: Origin,
+    seen: &mut SeenCodes,
+    out: &mut W,
+    err: &mut E,
+) -> Result<(), LineFault> {
+    for place in placed {
+        let Content::Ignored(reason) = place.content else {
+            continue;
+        };
+        let code = ReportCode::from(reason);
+        if seen.add(code) {
+            out.flush().map_err(LineFault::of_writing)?;
+            // If writing the sentence fails, the lines are whole all the same.
+            let _ = writeln!(err, "{origin}: offset {}: {code}", place.offset);
         }
-        Err(refusal) => {
-            let code = ReportCode::from(*refusal);
-            if seen.add(code) {
-                out.flush().map_err(LineFault::of_writing)?;
-                let _ = writeln!(err, "{origin}: {code}");
-            }
-        }
+    }
+    Ok(())
+}
+
+/// The same of a refused datagram.
+pub(crate) fn explain_refusal<W: Write, E: Write>(
+    refusal: Refusal,
+    origin: Origin,
+    seen: &mut SeenCodes,
+    out: &mut W,
+    err: &mut E,
+) -> Result<(), LineFault> {
+    let code = ReportCode::from(refusal);
+    if seen.add(code) {
+        out.flush().map_err(LineFault::of_writing)?;
+        let _ = writeln!(err, "{origin}: {code}");
     }
     Ok(())
 }

@@ -1,14 +1,14 @@
 //! `babel show --stdin`: what many datagrams mean, one a line.
 
-use crate::showing::explaining::{Origin, explain_meaning};
-use crate::showing::one::{read_source, write_meaning};
+use crate::showing::explaining::{Origin, explain_places, explain_refusal};
+use crate::showing::one::{read_source, write_places, write_refusal};
 use crate::showing::reading::{flush_before_waiting, is_skipped, parse_line, read_line, skip_line};
 use crate::showing::{Details, LineCode, READ_LEN, Status, refuse, report};
 use babel_line_details::{LineDetail, LineProblem, SeenCodes, explain_shown_line};
 use babel_message::{Placed, Refusal};
-use babel_packet::decode;
+use babel_packet::decode_into;
 use babel_text::{LineFault, MAX_LINE_LEN, parse_octets};
-use babel_value::Addr;
+use babel_value::{Addr, Line};
 use std::alloc::Global;
 use std::io::{BufReader, Read, Write};
 
@@ -105,6 +105,10 @@ struct Shower {
     line: Vec<u8>,
     /// Room for the octets of its datagram.
     octets: Vec<u8>,
+    /// What its datagram means.
+    placed: Vec<Placed>,
+    /// A line of what is shown.
+    shown: Line,
 }
 
 impl Shower {
@@ -126,6 +130,8 @@ impl Shower {
             has_bad_line: false,
             line,
             octets,
+            placed: Vec::new(alloc),
+            shown: Line::new(),
         })
     }
 
@@ -222,27 +228,40 @@ impl Shower {
             return Err(LineFault::Hex);
         };
         self.heads.write(self.number, source, out)?;
-        match decode(self.alloc, datagram, source) {
+        match decode_into(datagram, source, &mut self.placed) {
+            Ok(()) => self.show_places(out, err),
             Err(Refusal::Memory) => Err(LineFault::Memory),
-            meaning => {
-                write_meaning(&meaning, out)?;
-                self.explain(&meaning, out, err)
-            }
+            Err(refusal) => self.show_refusal(refusal, out, err),
         }
     }
 
-    /// Writes the sentence of each code of the datagram's lines, if it is wanted and new.
-    fn explain<W: Write, E: Write>(
+    /// Writes a line for each place of the datagram, and the sentence of each of their codes, if it is wanted and new.
+    fn show_places<W: Write, E: Write>(
         &mut self,
-        meaning: &Result<Vec<Placed>, Refusal>,
         out: &mut W,
         err: &mut E,
     ) -> Result<(), LineFault> {
+        write_places(self.placed.as_slice(), &mut self.shown, out)?;
         if self.details == Details::Hidden {
             return Ok(());
         }
         let origin = Origin::Line(self.number);
-        explain_meaning(meaning, origin, &mut self.seen, out, err)
+        explain_places(self.placed.as_slice(), origin, &mut self.seen, out, err)
+    }
+
+    /// Writes the line of a refused datagram, and the sentence of its code, if it is wanted and new.
+    fn show_refusal<W: Write, E: Write>(
+        &mut self,
+        refusal: Refusal,
+        out: &mut W,
+        err: &mut E,
+    ) -> Result<(), LineFault> {
+        write_refusal(refusal, out)?;
+        if self.details == Details::Hidden {
+            return Ok(());
+        }
+        let origin = Origin::Line(self.number);
+        explain_refusal(refusal, origin, &mut self.seen, out, err)
     }
 
     /// Writes the line's number and code, and the sentence if it is wanted. If writing fails, the

@@ -6,7 +6,7 @@ use babel_line_details::SeenCodes;
 use babel_message::{Placed, Refusal};
 use babel_packet::decode;
 use babel_text::LineFault;
-use babel_value::Addr;
+use babel_value::{Addr, Line};
 use std::alloc::Global;
 use std::io::Write;
 
@@ -94,19 +94,38 @@ fn read_octets(alloc: Global, text: &str) -> Result<Vec<u8>, LineFault> {
 }
 
 /// Writes the lines of a datagram.
-pub(crate) fn write_meaning<W: Write>(
+fn write_meaning<W: Write>(
     meaning: &Result<Vec<Placed>, Refusal>,
     out: &mut W,
 ) -> Result<(), LineFault> {
     match meaning {
-        Ok(placed) => {
-            for place in placed.as_slice() {
-                writeln!(out, "{place}").map_err(LineFault::of_writing)?;
-            }
-        }
-        Err(refusal) => {
-            writeln!(out, "refused {}", refusal.code()).map_err(LineFault::of_writing)?;
-        }
+        Ok(placed) => write_places(placed.as_slice(), &mut Line::new(), out),
+        Err(refusal) => write_refusal(*refusal, out),
+    }
+}
+
+/// Writes a line for each place. Each is put together in `line` and written as octets, since a text would be tested
+/// for UTF-8.
+pub(crate) fn write_places<W: Write>(
+    placed: &[Placed],
+    line: &mut Line,
+    out: &mut W,
+) -> Result<(), LineFault> {
+    for place in placed {
+        set_place(line, place);
+        out.write_all(line.octets()).map_err(LineFault::of_writing)?;
     }
     Ok(())
+}
+
+/// Sets the line of a place, with its line feed.
+fn set_place(line: &mut Line, place: &Placed) {
+    line.truncate(0);
+    place.push_to(line);
+    line.push_str("\n");
+}
+
+/// Writes the line of a refused datagram.
+pub(crate) fn write_refusal<W: Write>(refusal: Refusal, out: &mut W) -> Result<(), LineFault> {
+    writeln!(out, "refused {}", refusal.code()).map_err(LineFault::of_writing)
 }

@@ -3,6 +3,7 @@
 use crate::showing::one::read_source;
 use babel_text::{LineFault, MAX_LINE_LEN};
 use babel_value::Addr;
+use memchr::memchr;
 use std::io::{BufRead, BufReader, Read, Write};
 
 /// How many octets a command reads at a time.
@@ -13,7 +14,7 @@ pub(crate) fn flush_before_waiting<R: Read, W: Write>(
     input: &BufReader<R>,
     out: &mut W,
 ) -> Result<(), LineFault> {
-    if input.buffer().contains(&b'\n') {
+    if memchr(b'\n', input.buffer()).is_some() {
         return Ok(());
     }
     out.flush().map_err(LineFault::of_writing)
