@@ -133,7 +133,7 @@ def make_log(chance, datagrams):
     return "\n".join(lines).encode() + b"\n", places
 
 
-WORDS = [b"in", b"tick", b"cost", b"-", b"#", b"", b"emit", b"deliver", b"raise", b"announce", b"withdraw", b"10.0.0.0/8", b"2001:db8::/32", b"0.0.0.0/0"]
+WORDS = [b"in", b"tick", b"cost", b"-", b"#", b"", b"emit", b"deliver", b"raise", b"announce", b"withdraw", b"hear", b"10.0.0.0/8", b"2001:db8::/32", b"0.0.0.0/0"]
 WORDS += [b"::/0", b"fe80::1", b"fe80::2/64", b"192.168.0.1", b"192.168.0.9/24", b"127.0.0.1/8", b"255.255.255.255/32", b"::ffff:1.2.3.4", b"1:2:3:4:5:6:7::", b"1::2::3"]
 WORDS += [b"true", b"false", b"'", b'"', b'""', b"[]", b"[[]]", b"{}", b"=", b"cost = 1", b"hello = 4000", b"seqno = 65535", b"collect = true", b"[[interface]]", b"[[node]]"]
 WORDS += [b"[[node.interface]]", b'transport = "ipv6"', b'router-id = "ffffffffffffffff"', b"-1", b"+1", b"1.5", b"0x10", b"1e9", b"1979-05-27", b"inf", b"\\u0041", b"01"]
@@ -270,6 +270,8 @@ def make_event(chance, nodes, now):
     kinds = [f"cost {node} {chance.choice([0, 0, 1])} {chance.choice([1, 96, 500, 65534, 65535])}", f"raise {node}", f"emit {node} {now}"]
     if "restart" in EVENTS:
         kinds.append(f"restart {node} {now}")
+    if "hear" in EVENTS:
+        kinds.append(f"hear {node} {chance.choice([0, 0, 0, 1])} {chance.choice(SOURCES)} {now} {make_datagram(chance).hex() or '-'}")
     kinds += [f"announce {node} 10.0.0.0/8", f"withdraw {node} 10.0.0.0/8", f"deliver {chance.choice(NUMBERS[:-6])} {node} 0 {now}"]
     return chance.choice(kinds)
 

@@ -34,7 +34,9 @@ EXPLAINED = re.compile(
     f"source (?:none|{NUMBER} {NUMBER}) (?:local|infinite|unfeasible|unreachable|selected|candidate)"
 )
 HOP = re.compile(f"({NUMBER}) hop ({NUMBER}) ({PREFIX}) -> (?:none|({NUMBER}) router ({ROUTER}))")
-NET_END = re.compile(f"end ({NUMBER}) events {NUMBER} datagrams|{NUMBER} refused N[1-57]")
+# A route over a router that is no node.
+FOREIGN = re.compile(f"({NUMBER}) hop ({NUMBER}) ({PREFIX}) -> ({ADDR}) router ({ROUTER}) next-hop ({ADDR})(?: node ({NUMBER}))?")
+NET_END = re.compile(f"end ({NUMBER}) events {NUMBER} datagrams|{NUMBER} refused N[1-578]")
 
 
 def refusal(octets):
@@ -260,6 +262,20 @@ def config_codes(octets):
 
 EVENTS = {"tick": "nt", "emit": "nt", "deliver": "nnit", "cost": "nic", "raise": "n", "announce": "np", "withdraw": "np"}
 MOST = {"n": 2**64 - 1, "t": 2**64 - 1, "i": 255, "c": 65_535}
+DATAGRAM_LEN = 65_535
+
+
+def is_hex(text):
+    """Whether the text is that of the octets of a datagram."""
+    return text == "-" or (bool(re.fullmatch("(?:[0-9a-fA-F]{2})+", text, re.ASCII)) and len(text) <= 2 * DATAGRAM_LEN)
+
+
+def is_field(kind, text):
+    if kind == "p":
+        return read_prefix(text) is not None
+    if kind == "a":
+        return is_addr(text)
+    return is_hex(text) if kind == "h" else not number_fault(text, MOST[kind])
 
 
 def is_event(text):
@@ -267,7 +283,7 @@ def is_event(text):
     kinds = EVENTS.get(word, "-")
     if len(kinds) != len(fields) or kinds == "-":
         return False
-    return all(read_prefix(field) is not None if kind == "p" else not number_fault(field, MOST[kind]) for kind, field in zip(kinds, fields))
+    return all(is_field(kind, field) for kind, field in zip(kinds, fields))
 
 
 def network_code(configs):

@@ -15,8 +15,8 @@ use Rattle.babel_config.specs.Values.{IsText, IsRequired, IsOptional, IsGivenOr,
 use Rattle.babel_config.specs.Faults.{HasFormFault, HasTextFault, HasListFault, HasRequiredFault, HasGivenFault}
 use Rattle.babel_config.specs.Scalars.{IsNumber, IsFlag, IsTransport, IsIpv4NetworkText, IsIpv6AddrText}
 use Rattle.babel_config.specs.Configs.{IsInterface, IsConfig, HasInterfaceFault, HasConfigFault}
-use Rattle.babel_machine.specs.declared.events.Event.{Event}
-use Rattle.babel_config.specs.Events.{IsEventText}
+use Rattle.babel_config.specs.declared.scenario_events.ScenarioEvent.{ScenarioEvent}
+use Rattle.babel_config.specs.ScenarioEvents.{IsScenarioEventText}
 use Rattle.babel_config.specs.Scenarios.{IsScenario, HasEventFault, HasScenarioFault}
 use Rattle.babel_config.proofs.Faults.{items_read}
 
@@ -31,7 +31,7 @@ text : {A : Type 0} (Spells : List ℕ → A → Type 0) (d : Data) (fault : Fil
 text Spells d fault (inl (is, none)) a (t, some, spelled) = absurd (cc)
 text Spells d fault (inr (is, (t, some, never))) a (u, other, spelled) = let same : u ≡ t = cc in never a (rw same at spelled)
 
-event : (n : ℕ) (d : Data) (fault : FileFault) → HasEventFault n d fault → (e : Event) → ¬ (IsText IsEventText d e)
+event : (n : ℕ) (d : Data) (fault : FileFault) → HasEventFault n d fault → (e : ScenarioEvent) → ¬ (IsText IsScenarioEventText d e)
 event n d fault (inl (is, none)) e (t, some, spelled) = absurd (cc)
 event n d fault (inr (is, (t, some, never))) e (u, other, spelled) = let same : u ≡ t = cc in never e (rw same at spelled)
 
@@ -82,5 +82,5 @@ config d fault h c k =
 pub scenario : (d : Data) (fault : FileFault) → HasScenarioFault d fault → (s : Scenario) → ¬ (IsScenario d s)
 scenario d fault h s k =
     first_or_later h (λ other. both_ways (is_table_of kinds.Scenario d) other.1 k.keys) (λ at_events.
-    first_or_later at_events (given (IsList (IsText IsEventText)) (HasListFault (IsText IsEventText) HasEventFault) (list (IsText IsEventText) HasEventFault event) (get (codes "events") d) fault [] s.events.items k.events) (λ at_node.
+    first_or_later at_events (given (IsList (IsText IsScenarioEventText)) (HasListFault (IsText IsScenarioEventText) HasEventFault) (list (IsText IsScenarioEventText) HasEventFault event) (get (codes "events") d) fault [] s.events.items k.events) (λ at_node.
     first_or_later at_node (given (IsList IsConfig) (HasListFault IsConfig (λ _. HasConfigFault)) (list IsConfig (λ _. HasConfigFault) (λ _. config)) (get (codes "node") d) fault [] s.configs.items k.configs) (λ none. none)))

@@ -4,3 +4,4 @@ pub mod Faults
 pub mod Excluded
 pub mod EventTexts
 pub mod FileReading
+pub mod HeardTexts

@@ -1,25 +1,17 @@
-//! The texts of events.
+//! The texts of the events of a network's own nodes.
 
-ghost use Rattle.std.specs.Prelude.{◌≡◌, IfOk, IfErr, IfSome, None};
-ghost use Rattle.toml.specs.View.{view};
+ghost use Rattle.std.specs.Prelude.{◌≡◌, IfSome, None};
 ghost use Rattle.babel_text.specs.Readings.{Reads};
 ghost use Rattle.babel_text.specs.Numbers.{IsNumberText};
 ghost use Rattle.babel_text.specs.Prefixes.{IsPrefixText};
-ghost use Rattle.babel_config.specs.Values.{IsText, IsList};
-ghost use Rattle.babel_config.specs.Faults.{IsCaused, HasListFault};
 ghost use Rattle.babel_config.specs.Events.{HasBlank, before_blank, after_blank, IsPair, IsLong, IsEventText};
-ghost use Rattle.babel_config.specs.Scenarios.{HasEventFault};
 
-use crate::FileFault;
-use crate::values::FromToml;
 use babel_machine::Event;
 use babel_text::{parse_prefix, parse_u8, parse_u16, parse_u64};
 use babel_value::Prefix;
-use std::alloc::Global;
-use toml::Value;
 
 /// The number of a node or of a datagram.
-fn parse_usize(text: &str) -> Option<usize>
+pub(crate) fn parse_usize(text: &str) -> Option<usize>
     ensures { Reads (IsNumberText 64) text.now result }
 {
     let number = parse_u64(text)?;
@@ -27,7 +19,7 @@ fn parse_usize(text: &str) -> Option<usize>
 }
 
 /// The text before the first blank, and the text after it.
-fn split_word(text: &str) -> Option<(&str, &str)>
+pub(crate) fn split_word(text: &str) -> Option<(&str, &str)>
     ensures parted { IfSome result (λ parts. HasBlank text.now) }
     ensures word { IfSome result (λ parts. parts.0.now ≡ before_blank text.now) }
     ensures rest { IfSome result (λ parts. parts.1.now ≡ after_blank text.now) }
@@ -133,49 +125,4 @@ pub(crate) fn parse_event(text: &str) -> Option<Event>
         }
         _ => None,
     }
-}
-
-/// The events of a scenario.
-#[derive(Drop)]
-pub(crate) struct Events(pub(crate) Vec<Event>);
-
-/// A list of the texts of events.
-impl FromToml for Events {
-    ghost use Rattle.babel_config.specs.Values.{IsText, IsList};
-    ghost use Rattle.babel_config.specs.Faults.{HasListFault};
-    ghost use Rattle.babel_config.specs.Events.{IsEventText};
-    ghost use Rattle.babel_config.specs.Scenarios.{HasEventFault};
-
-    ghost means = { λ d events. IsList (IsText IsEventText) d events.0.items };
-
-    ghost fault = { HasListFault (IsText IsEventText) HasEventFault };
-
-    fn from_toml(alloc: Global, value: &Value) -> Result<Events, FileFault> {
-        Ok(Events(read_events(alloc, value)?))
-    }
-}
-
-/// Reads a list of the texts of events.
-fn read_events(alloc: Global, value: &Value) -> Result<Vec<Event>, FileFault>
-    ensures ok { IfOk result (λ events. IsList (IsText IsEventText) (view value.now) events.items) }
-    ensures refused { IfErr result (IsCaused (HasListFault (IsText IsEventText) HasEventFault (view value.now))) }
-{
-    let Some(items) = value.as_array() else {
-        return Err(FileFault::Form);
-    };
-    let mut events = Vec::new(alloc);
-    for number in 0..items.len() {
-        let event = read_event(number, &items[number])?;
-        events.push(event)?;
-    }
-    Ok(events)
-}
-
-/// Reads the text of the event of this number.
-fn read_event(number: usize, value: &Value) -> Result<Event, FileFault>
-    ensures ok { IfOk result (IsText IsEventText (view value.now)) }
-    ensures refused { IfErr result (HasEventFault number (view value.now)) }
-{
-    let text = value.as_str().ok_or(FileFault::Form)?;
-    parse_event(text).ok_or(FileFault::Event(number))
 }

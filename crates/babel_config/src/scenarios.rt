@@ -6,10 +6,9 @@ ghost use Rattle.babel_config.specs.Scenarios.{IsScenario, HasScenarioFault};
 ghost use Rattle.babel_config.specs.Faults.{IsCaused};
 
 use crate::FileFault;
-use crate::events::Events;
 use crate::keys::{TableKind, is_table_of};
+use crate::scenario_events::{Events, ScenarioEvent};
 use crate::values::optional;
-use babel_machine::Event;
 use babel_state::Config;
 use std::alloc::Global;
 use toml::Value;
@@ -20,7 +19,7 @@ pub struct Scenario {
     /// The configurations of the nodes, by their numbers from 0 on.
     pub configs: Vec<Config>,
     /// The events, in order.
-    pub events: Vec<Event>,
+    pub events: Vec<ScenarioEvent>,
 }
 
 /// Reads the table of a scenario.

@@ -1,6 +1,7 @@
 //! What is wrong with an event of a scenario, as a sentence.
 
 use crate::ranges::AddrRange;
+use babel_value::Addr;
 use std::fmt;
 
 /// What is wrong with an event. Its text is that of the finding.
@@ -22,6 +23,8 @@ pub(crate) enum EventProblem {
     NotListed(usize, AddrRange),
     /// N7: the node doesn't announce the prefix now.
     NotAnnounced(usize, AddrRange),
+    /// N8: the source address is one of this node.
+    OwnAddress(Addr, usize),
     /// N6: an allocation failed.
     Memory,
 }
@@ -37,10 +40,11 @@ pub(crate) enum EventWord {
     Announce,
     Withdraw,
     Restart,
+    Hear,
 }
 
 impl EventWord {
-    pub(crate) const ALL: [EventWord; 8] = [
+    pub(crate) const ALL: [EventWord; 9] = [
         EventWord::Tick,
         EventWord::Emit,
         EventWord::Deliver,
@@ -49,6 +53,7 @@ impl EventWord {
         EventWord::Announce,
         EventWord::Withdraw,
         EventWord::Restart,
+        EventWord::Hear,
     ];
 
     /// The word as it is written.
@@ -62,6 +67,7 @@ impl EventWord {
             EventWord::Announce => "announce",
             EventWord::Withdraw => "withdraw",
             EventWord::Restart => "restart",
+            EventWord::Hear => "hear",
         }
     }
 
@@ -73,6 +79,18 @@ impl EventWord {
             EventWord::Cost => "N I C",
             EventWord::Raise => "N",
             EventWord::Announce | EventWord::Withdraw => "N P",
+            EventWord::Hear => "N I A T HEX",
+        }
+    }
+
+    /// How the fields are written.
+    fn advice(self) -> &'static str {
+        match self {
+            EventWord::Hear => {
+                "write one blank between words, numbers without leading zeros, A as 192.168.0.9 or fe80::9, \
+                 and HEX with two digits for each of at most 65535 octets"
+            }
+            _ => "write one blank between words, and numbers without leading zeros",
         }
     }
 }
@@ -87,9 +105,10 @@ pub(crate) fn write_event<W: fmt::Write>(
         EventProblem::UnknownWord(near) => write_unknown_word(text, near, f),
         EventProblem::Form(word) => write!(
             f,
-            "it is not of the form '{} {}'; write one blank between words, and numbers without leading zeros",
+            "it is not of the form '{} {}'; {}",
             word.name(),
-            word.fields()
+            word.fields(),
+            word.advice()
         ),
         EventProblem::NoNode(node, count) => write!(
             f,
@@ -110,6 +129,10 @@ pub(crate) fn write_event<W: fmt::Write>(
         EventProblem::NotAnnounced(node, prefix) => {
             write!(f, "node {node} does not announce {prefix} now")
         }
+        EventProblem::OwnAddress(addr, node) => write!(
+            f,
+            "{addr} is an address of node {node}; hear is for routers that are no nodes, and deliver for what a node sent"
+        ),
         EventProblem::Memory => f.write_str("out of memory; give the process more of it"),
     }
 }
@@ -124,7 +147,7 @@ fn write_unknown_word<W: fmt::Write>(
     match near {
         Some(near) => write!(f, "did you mean '{}'?", near.name()),
         None => f.write_str(
-            "the events are tick, emit, deliver, cost, raise, announce, withdraw and restart",
+            "the events are tick, emit, deliver, cost, raise, announce, withdraw, restart and hear",
         ),
     }
 }

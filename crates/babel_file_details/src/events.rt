@@ -5,10 +5,14 @@ use crate::findings::Finding;
 use crate::keys::Key;
 use crate::locations::{Location, Owner};
 use crate::nearest::Nearest;
+use crate::networks::{ipv4_of, ipv6_of, is_same};
 use crate::problems::Problem;
 use crate::ranges::AddrRange;
-use babel_config::Scenario;
+use babel_config::{HeardDatagram, Scenario, ScenarioEvent};
 use babel_machine::{Event, StepFault};
+use babel_net::HearFault;
+use babel_state::{Config, Interface};
+use babel_value::Addr;
 use std::alloc::Global;
 
 /// Why the text is no event.
@@ -31,13 +35,68 @@ pub(crate) fn refused_event<'a>(
     text: &'a str,
     fault: StepFault,
 ) -> Option<Finding<'a>> {
-    let event = scenario.events.get(number)?;
-    let problem = step_problem(scenario, event, fault)?;
-    Some(Finding {
+    match scenario.events.get(number)? {
+        ScenarioEvent::Ours(event) => {
+            Some(of_event(number, text, step_problem(scenario, event, fault)?))
+        }
+        ScenarioEvent::Heard(_) => None,
+    }
+}
+
+/// Why the datagram that the event of this number brings isn't heard. `text` is that of the event.
+pub(crate) fn refused_hearing<'a>(
+    scenario: &Scenario,
+    number: usize,
+    text: &'a str,
+    fault: HearFault,
+) -> Option<Finding<'a>> {
+    match scenario.events.get(number)? {
+        ScenarioEvent::Heard(heard) => {
+            Some(of_event(number, text, hear_problem(scenario, heard, fault)?))
+        }
+        ScenarioEvent::Ours(_) => None,
+    }
+}
+
+/// The problem of the event of this number.
+fn of_event<'a>(number: usize, text: &'a str, problem: EventProblem) -> Finding<'a> {
+    Finding {
         at: Location::of_element(Owner::FILE, Key::Events, number),
         text,
         problem: Problem::Event(number, problem),
-    })
+    }
+}
+
+fn hear_problem(
+    scenario: &Scenario,
+    heard: &HeardDatagram,
+    fault: HearFault,
+) -> Option<EventProblem> {
+    let node = heard.node;
+    match fault {
+        HearFault::OwnAddress => Some(EventProblem::OwnAddress(
+            heard.source,
+            owner_of(scenario.configs.as_slice(), heard.source)?,
+        )),
+        HearFault::NoNode => Some(EventProblem::NoNode(node, scenario.configs.len())),
+        HearFault::NoInterface => {
+            let count = scenario.configs.get(node)?.interfaces.len();
+            Some(EventProblem::NoInterface(node, heard.iface, count))
+        }
+        HearFault::Memory => Some(EventProblem::Memory),
+    }
+}
+
+/// The node that has the address.
+fn owner_of(configs: &[Config], addr: Addr) -> Option<usize> {
+    configs.iter().position(|config| config
+        .interfaces
+        .iter()
+        .any(|interface| has(interface, addr)))
+}
+
+fn has(interface: &Interface, addr: Addr) -> bool {
+    is_same(addr, ipv4_of(interface)) || is_same(addr, ipv6_of(interface))
 }
 
 fn step_problem(scenario: &Scenario, event: &Event, fault: StepFault) -> Option<EventProblem> {

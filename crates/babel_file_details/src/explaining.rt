@@ -1,15 +1,16 @@
 //! The calls of this crate: a fault becomes a line.
 
 use crate::configs::{config_problem, ipv6_transport};
-use crate::events::refused_event;
+use crate::events::{refused_event, refused_hearing};
 use crate::findings::Finding;
 use crate::locations::Owner;
 use crate::networks::network_problem;
 use crate::problems::Problem;
 use crate::schema::Schema;
 use crate::warnings::warnings_of;
-use babel_config::{FileFault, read_config, read_scenario};
+use babel_config::{FileFault, Scenario, read_config, read_scenario};
 use babel_machine::{NetFault, StepFault};
+use babel_net::HearFault;
 use babel_state::ConfigFault;
 use babel_toml_places::{FileText, Position, Step, locate};
 use std::alloc::Global;
@@ -109,7 +110,7 @@ pub fn explain_network<W: Write>(
     writeln!(out, "{}: {fault}", file.name)
 }
 
-/// Writes why an event of a scenario is refused: N1 to N7.
+/// Writes why an event of a scenario's nodes is refused: N1 to N7.
 pub fn explain_event<W: Write>(
     alloc: Global,
     file: FileText<'_>,
@@ -117,17 +118,39 @@ pub fn explain_event<W: Write>(
     fault: StepFault,
     out: &mut W,
 ) -> io::Result<()> {
-    if let Ok(table) = toml::table_from_slice(alloc, file.octets) {
-        let table = Value::Table(table);
+    if let Some((table, scenario)) = read_twice(alloc, file.octets) {
         if let Some(text) = event_text(&table, number) {
-            if let Ok(scenario) = read_scenario(alloc, file.octets) {
-                if let Some(finding) = refused_event(&scenario, number, text, fault) {
-                    return write_finding(alloc, file, &finding, out);
-                }
+            if let Some(finding) = refused_event(&scenario, number, text, fault) {
+                return write_finding(alloc, file, &finding, out);
             }
         }
     }
     writeln!(out, "{}: event {number}: {fault}", file.name)
+}
+
+/// Writes why a node of a scenario doesn't hear the datagram of an event: N8, N1, N3 or N6.
+pub fn explain_hearing<W: Write>(
+    alloc: Global,
+    file: FileText<'_>,
+    number: usize,
+    fault: HearFault,
+    out: &mut W,
+) -> io::Result<()> {
+    if let Some((table, scenario)) = read_twice(alloc, file.octets) {
+        if let Some(text) = event_text(&table, number) {
+            if let Some(finding) = refused_hearing(&scenario, number, text, fault) {
+                return write_finding(alloc, file, &finding, out);
+            }
+        }
+    }
+    writeln!(out, "{}: event {number}: {fault}", file.name)
+}
+
+/// The table of the file, and the scenario that it is.
+fn read_twice(alloc: Global, octets: &[u8]) -> Option<(Value, Scenario)> {
+    let table = toml::table_from_slice(alloc, octets).ok()?;
+    let scenario = read_scenario(alloc, octets).ok()?;
+    Some((Value::Table(table), scenario))
 }
 
 /// The text of an event.

@@ -24,6 +24,6 @@ mod warnings;
 
 pub use babel_toml_places::FileText;
 pub use explaining::{
-    FileKind, Part, explain_config, explain_event, explain_file, explain_network,
+    FileKind, Part, explain_config, explain_event, explain_file, explain_hearing, explain_network,
     explain_transport, position_at, write_warnings,
 };

@@ -1,7 +1,7 @@
 //! The lines of the reports, and the object that each becomes.
 
 use crate::objects::{Object, Value};
-use crate::shapes::{EXPLAINED, Field, HOP, Kind, SELECTED, Shape};
+use crate::shapes::{EXPLAINED, FOREIGN_HOP, Field, HOP, Kind, SELECTED, Shape};
 use crate::words::Words;
 
 /// Whose lines are read: each command has lines of its own.
@@ -313,17 +313,30 @@ fn refused_event<'a>(words: &mut Words<'a>, event: u64) -> Option<Object<'a>> {
     Some(object)
 }
 
-/// The line of a next hop.
+/// The line of a next hop: none, a node's number, or the address of a router that is no node.
 fn hop<'a>(words: &mut Words<'a>, event: u64) -> Option<Object<'a>> {
-    let mut object = Object::new("hop");
-    object.number("event", event);
-    object.number("node", words.number()?);
-    object.text("prefix", words.word()?);
+    let node = words.number()?;
+    let prefix = words.word()?;
     if !words.skip("->") {
         return None;
     }
-    put_fields_or_none(&mut object, words, &HOP)?;
+    if words.peek_number().is_some() || words.peek() == Some("none") {
+        let mut object = hop_head("hop", event, node, prefix);
+        put_fields_or_none(&mut object, words, &HOP)?;
+        return Some(object);
+    }
+    let mut object = hop_head("foreign-hop", event, node, prefix);
+    put_fields(&mut object, words, &FOREIGN_HOP)?;
+    object.number_or_null("next", number_after(words, "node"));
     Some(object)
+}
+
+fn hop_head<'a>(kind: &'static str, event: u64, node: u64, prefix: &'a str) -> Object<'a> {
+    let mut object = Object::new(kind);
+    object.number("event", event);
+    object.number("node", node);
+    object.text("prefix", prefix);
+    object
 }
 
 /// The last line of `net`.

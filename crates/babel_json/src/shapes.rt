@@ -197,3 +197,6 @@ pub(crate) static EXPLAINED: [Field; 8] = [
 
 /// The fields of a next hop after its prefix and the arrow.
 pub(crate) static HOP: [Field; 2] = [Field::Next, Field::Router];
+
+/// The fields of a next hop over a router that is no node, after its prefix and the arrow.
+pub(crate) static FOREIGN_HOP: [Field; 3] = [Field::Neighbour, Field::Router, Field::NextHop];

@@ -36,9 +36,14 @@ impl<'a> Words<'a> {
 
     /// Takes the next word if it is a number.
     pub(crate) fn optional_number(&mut self) -> Option<u64> {
-        let number = parse_u64(self.peek()?)?;
+        let number = self.peek_number()?;
         let _ = self.word();
         Some(number)
+    }
+
+    /// The next word, which isn't taken, if it is a number.
+    pub(crate) fn peek_number(&self) -> Option<u64> {
+        parse_u64(self.peek()?)
     }
 
     /// The next word, which isn't taken.

@@ -16,7 +16,9 @@ mod replaying;
 mod seen;
 mod stepping;
 
-pub use babel_config::{FileFault, Scenario, read_config, read_scenario};
+pub use babel_config::{
+    FileFault, HeardDatagram, Scenario, ScenarioEvent, read_config, read_scenario,
+};
 pub use babel_text::{Action, Event, LineFault, MAX_LINE_LEN, parse_line};
 pub use errors::ReplayFault;
 pub use explaining::explain;

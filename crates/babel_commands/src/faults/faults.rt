@@ -1,8 +1,9 @@
 //! Why a command refuses.
 
+use crate::hops::EventFault;
 use crate::showing::LineCode;
 use babel_config::FileFault;
-use babel_machine::{NetFault, StepFault};
+use babel_machine::NetFault;
 use babel_replay::ReplayFault;
 use babel_snapshot_file::{RestoreCode, SnapshotFileFault};
 use babel_state::{ConfigFault, RestoreFault};
@@ -23,8 +24,8 @@ pub enum Fault {
     Restore(RestoreFault),
     /// M1 to M7: no network can be made of the configurations.
     Net(NetFault),
-    /// N1 to N7: the event of this number is refused. The output has its line.
-    Event(usize, StepFault),
+    /// N1 to N8: the event of this number is refused. The output has its line.
+    Event(usize, EventFault),
     /// L1 to L8, at the line of this number.
     Line(u64, LineFault),
     /// L3, L4, L7 and L8: an argument can't be read, writing failed, or an allocation failed.

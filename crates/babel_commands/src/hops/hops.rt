@@ -1,21 +1,21 @@
 //! The next hops that were printed last.
 
+use crate::hops::networks::{Hop, Runs};
 use babel_choice::Selection;
-use babel_machine::Event;
-use babel_net::{Network, node_of};
 use babel_state::Config;
 use babel_text::LineFault;
-use babel_value::{Peer, Prefix, RouterId};
+use babel_value::{Addr, Peer, Prefix, RouterId};
 use indexmap::IndexSet;
 use std::alloc::{AllocError, Global};
 use std::cmp::Ordering;
+use std::fmt;
 use std::io::Write;
 
-/// The next hop of a selected route.
+/// What is printed of a selected route.
 #[derive(Clone, Copy, Debug, PartialEq, Eq)]
-struct Hop {
-    /// The node that the route leads over.
-    node: usize,
+struct Printed {
+    /// The router that the route leads over.
+    hop: Hop,
     /// The router that announces the prefix.
     router: RouterId,
 }
@@ -25,6 +25,8 @@ struct Hop {
 struct Route {
     /// The neighbour that the route leads over.
     peer: Peer,
+    /// The next hop that the neighbour advertised.
+    next_hop: Addr,
     /// The router that announces the prefix.
     router: RouterId,
 }
@@ -37,7 +39,7 @@ struct Kept {
     /// Whether the event changed the route.
     is_changed: bool,
     /// The next hop that was printed last.
-    printed: Option<Hop>,
+    printed: Option<Printed>,
 }
 
 /// For each node and then each prefix the next hop that was printed last.
@@ -68,16 +70,15 @@ impl Hops {
         })
     }
 
-    /// Writes each next hop of the event's node that changed in the event. It is called after each event that may have
-    /// changed a selected route.
-    pub(crate) fn write_changes<W: Write>(
+    /// Writes each next hop of the node of the event of this number that changed in the event. It is called after each event
+    /// that may have changed a selected route.
+    pub(crate) fn write_changes<N: Runs, W: Write>(
         &mut self,
         number: usize,
-        event: &Event,
-        network: &Network,
+        node: usize,
+        network: &N,
         out: &mut W,
     ) -> Result<(), LineFault> {
-        let node = node_of(event);
         let Some(hops) = self.nodes.get_mut(node) else {
             return Ok(());
         };
@@ -87,10 +88,10 @@ impl Hops {
         for (prefix, kept) in self.prefixes.iter().zip(hops.iter_mut()) {
             if kept.is_changed {
                 kept.is_changed = false;
-                let hop = hop_of(network, node, prefix);
-                if hop != kept.printed {
-                    kept.printed = hop;
-                    write_hop(number, node, prefix, hop, out)?;
+                let printed = printed_of(network, node, prefix);
+                if printed != kept.printed {
+                    kept.printed = printed;
+                    write_hop(number, node, prefix, printed, out)?;
                 }
             }
         }
@@ -136,8 +137,8 @@ fn no_hops(alloc: Global, prefixes: usize) -> Result<Vec<Kept>, AllocError> {
 }
 
 /// Looks at all selected routes of the node, in one walk over them. Returns whether one changed.
-fn see_routes(
-    network: &Network,
+fn see_routes<N: Runs>(
+    network: &N,
     node: usize,
     ascending: &[(Prefix, usize)],
     kept: &mut [Kept],
@@ -163,7 +164,9 @@ fn is_same(one: &Option<Route>, other: &Option<Route>) -> bool {
     match (one, other) {
         (None, None) => true,
         (Some(one), Some(other)) => {
-            one.peer.cmp(&other.peer).is_eq() && one.router.cmp(&other.router).is_eq()
+            one.peer.cmp(&other.peer).is_eq()
+                && one.router.cmp(&other.router).is_eq()
+                && one.next_hop.cmp(&other.next_hop).is_eq()
         }
         _ => false,
     }
@@ -171,15 +174,23 @@ fn is_same(one: &Option<Route>, other: &Option<Route>) -> bool {
 
 /// The node's selected route to the prefix, if `place` is no greater than its place among the selections. The next
 /// greater prefix is then at `place` or after it.
-fn next_route(network: &Network, node: usize, prefix: &Prefix, place: &mut usize) -> Option<Route> {
+fn next_route<N: Runs>(
+    network: &N,
+    node: usize,
+    prefix: &Prefix,
+    place: &mut usize,
+) -> Option<Route> {
     for at in *place..usize::MAX {
         let (selected, Selection { peer, entry }) = network.selection_at(node, at)?;
         match selected.cmp(prefix) {
             Ordering::Less => {}
             Ordering::Equal => {
                 *place = at + 1;
-                let router = entry.router;
-                return Some(Route { peer, router });
+                return Some(Route {
+                    peer,
+                    next_hop: entry.next_hop,
+                    router: entry.router,
+                });
             }
             Ordering::Greater => return None,
         }
@@ -187,9 +198,9 @@ fn next_route(network: &Network, node: usize, prefix: &Prefix, place: &mut usize
     None
 }
 
-fn hop_of(network: &Network, node: usize, prefix: &Prefix) -> Option<Hop> {
-    Some(Hop {
-        node: network.next_hop(node, prefix)?,
+fn printed_of<N: Runs>(network: &N, node: usize, prefix: &Prefix) -> Option<Printed> {
+    Some(Printed {
+        hop: network.hop(node, prefix)?,
         router: network.router(node, prefix)?,
     })
 }
@@ -198,16 +209,32 @@ fn write_hop<W: Write>(
     number: usize,
     node: usize,
     prefix: &Prefix,
-    hop: Option<Hop>,
+    printed: Option<Printed>,
     out: &mut W,
 ) -> Result<(), LineFault> {
-    let written = match hop {
-        Some(hop) => writeln!(
-            out,
-            "{number} hop {node} {prefix} -> {} router {}",
-            hop.node, hop.router
-        ),
+    let written = match printed {
+        Some(printed) => writeln!(out, "{number} hop {node} {prefix} -> {printed}"),
         None => writeln!(out, "{number} hop {node} {prefix} -> none"),
     };
     written.map_err(LineFault::of_writing)
+}
+
+impl fmt::Display for Printed {
+    fn fmt<W: fmt::Write>(&self, f: &mut fmt::Formatter<W>) -> fmt::Result {
+        let router = self.router;
+        match self.hop {
+            Hop::Ours(node) => write!(f, "{node} router {router}"),
+            Hop::Foreign {
+                neighbour,
+                next_hop,
+                node,
+            } => {
+                write!(f, "{neighbour} router {router} next-hop {next_hop}")?;
+                match node {
+                    Some(node) => write!(f, " node {node}"),
+                    None => Ok(()),
+                }
+            }
+        }
+    }
 }

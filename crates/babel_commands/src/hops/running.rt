@@ -2,12 +2,13 @@
 
 use crate::faults::{Fault, end};
 use crate::hops::hops::Hops;
+use crate::hops::networks::{EventFault, Runs};
 use crate::showing::Status;
-use babel_config::{Scenario, read_file, read_scenario};
-use babel_machine::{Event, StepFault};
-use babel_net::{Network, node_of};
+use babel_config::{Scenario, ScenarioEvent, read_file, read_scenario};
+use babel_machine::Event;
+use babel_net::{MixedNetwork, Network};
 use babel_text::LineFault;
-use std::alloc::Global;
+use std::alloc::{AllocError, Global};
 use std::io::{Read, Write};
 
 /// Runs the network of the scenario in the file. After each event it writes the next hops that changed, and
@@ -30,11 +31,40 @@ pub fn try_net<R: Read + Drop, W: Write>(
 ) -> Result<(), Fault> {
     let octets = read_file(alloc, scenario)?;
     let Scenario { configs, events } = read_scenario(alloc, octets.as_slice())?;
-    let mut hops = Hops::new(alloc, configs.as_slice())?;
-    let mut network = Network::new(alloc, configs)?;
+    let hops = Hops::new(alloc, configs.as_slice())?;
+    match ours_alone(alloc, events.as_slice())? {
+        Some(ours) => run(Network::new(alloc, configs)?, ours.as_slice(), hops, out),
+        None => run(
+            MixedNetwork::new(alloc, configs)?,
+            events.as_slice(),
+            hops,
+            out,
+        ),
+    }
+}
+
+/// The events, if each is one of our nodes.
+fn ours_alone(alloc: Global, events: &[ScenarioEvent]) -> Result<Option<Vec<Event>>, AllocError> {
+    let mut ours = Vec::with_capacity(alloc, events.len())?;
+    for event in events {
+        match event {
+            ScenarioEvent::Ours(event) => ours.push(*event)?,
+            ScenarioEvent::Heard(_) => return Ok(None),
+        }
+    }
+    Ok(Some(ours))
+}
+
+/// Runs the events on a new network.
+fn run<N: Runs + Drop, W: Write>(
+    mut network: N,
+    events: &[N::Event],
+    mut hops: Hops,
+    out: &mut W,
+) -> Result<(), Fault> {
     // Without the room each datagram takes its own, and is refused if there is none.
-    let _ = network.reserve(count_emits(events.as_slice()));
-    let outcome = write_events(events.as_slice(), &mut network, &mut hops, out)?;
+    let _ = network.reserve(count_emits::<N>(events));
+    let outcome = write_events(events, &mut network, &mut hops, out)?;
     out.flush().map_err(LineFault::of_writing)?;
     match outcome {
         Outcome::AllRun => Ok(()),
@@ -43,10 +73,10 @@ pub fn try_net<R: Read + Drop, W: Write>(
 }
 
 /// How many datagrams the events may send.
-fn count_emits(events: &[Event]) -> usize {
+fn count_emits<N: Runs>(events: &[N::Event]) -> usize {
     let mut count = 0usize;
     for event in events {
-        if let Event::Emit { .. } = event {
+        if let Some(Event::Emit { .. }) = N::ours(event) {
             count = count.saturating_add(1);
         }
     }
@@ -59,28 +89,29 @@ enum Outcome {
     /// Each was run.
     AllRun,
     /// The one of this number was refused.
-    Refused(usize, StepFault),
+    Refused(usize, EventFault),
 }
 
 /// Runs the events, up to the first that is refused.
-fn write_events<W: Write>(
-    events: &[Event],
-    network: &mut Network,
+fn write_events<N: Runs, W: Write>(
+    events: &[N::Event],
+    network: &mut N,
     hops: &mut Hops,
     out: &mut W,
 ) -> Result<Outcome, LineFault> {
     let mut datagrams = 0;
     for (number, event) in events.iter().enumerate() {
-        let version = network.routes_version(node_of(event));
+        let node = N::node_of(event);
+        let version = network.routes_version(node);
         if let Err(fault) = network.step(event) {
             write_refused(number, fault, out)?;
             return Ok(Outcome::Refused(number, fault));
         }
-        if network.sent(datagrams).is_some() {
+        if network.is_sent(datagrams) {
             datagrams = datagrams.saturating_add(1);
         }
         if may_differ(event, version, network) {
-            hops.write_changes(number, event, network, out)?;
+            hops.write_changes(number, node, network, out)?;
         }
     }
     writeln!(out, "end {} events {datagrams} datagrams", events.len()).map_err(
@@ -91,14 +122,14 @@ fn write_events<W: Write>(
 
 /// Whether the selected routes of the event's node may be others than when its count of their changes was this. A restart
 /// makes the count again, and at its greatest value it can't grow.
-fn may_differ(event: &Event, version: Option<u64>, network: &Network) -> bool {
-    if let Event::Restart { .. } = event {
+fn may_differ<N: Runs>(event: &N::Event, version: Option<u64>, network: &N) -> bool {
+    if let Some(Event::Restart { .. }) = N::ours(event) {
         return true;
     }
-    let now = network.routes_version(node_of(event));
+    let now = network.routes_version(N::node_of(event));
     now != version || now == Some(u64::MAX)
 }
 
-fn write_refused<W: Write>(number: usize, fault: StepFault, out: &mut W) -> Result<(), LineFault> {
+fn write_refused<W: Write>(number: usize, fault: EventFault, out: &mut W) -> Result<(), LineFault> {
     writeln!(out, "{number} refused {}", fault.code()).map_err(LineFault::of_writing)
 }

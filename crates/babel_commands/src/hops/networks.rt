@@ -1,0 +1,182 @@
+//! The networks that run a scenario: one of our nodes alone, or one among routers of others.
+
+use babel_choice::Selection;
+use babel_config::{HeardDatagram, ScenarioEvent};
+use babel_machine::{Event, StepFault};
+use babel_net::{HearFault, Heard, MixedNetwork, Network, node_of};
+use babel_value::{Addr, Memory, Prefix, RouterId};
+
+/// Why an event of a scenario is refused.
+#[derive(Clone, Copy, Debug, PartialEq, Eq)]
+pub enum EventFault {
+    /// N1 to N7: an event of our nodes.
+    Ours(StepFault),
+    /// N8, N1, N3 and N6: a datagram of a router that is no node.
+    Heard(HearFault),
+}
+
+impl EventFault {
+    /// The code, from `N1` to `N8`.
+    pub fn code(self) -> &'static str {
+        match self {
+            EventFault::Ours(fault) => fault.code(),
+            EventFault::Heard(fault) => fault.code(),
+        }
+    }
+}
+
+/// A router over which a route leads.
+#[derive(Clone, Copy, Debug, PartialEq, Eq)]
+pub(crate) enum Hop {
+    /// A node, by its number.
+    Ours(usize),
+    /// A router that is no node.
+    Foreign {
+        /// Its address.
+        neighbour: Addr,
+        /// The next hop that it advertised: packets are sent there.
+        next_hop: Addr,
+        /// The node that has the address of the next hop.
+        node: Option<usize>,
+    },
+}
+
+/// A network that runs the events of a scenario.
+pub(crate) trait Runs {
+    /// One of its events.
+    type Event;
+
+    /// The node of the event.
+    fn node_of(event: &Self::Event) -> usize;
+
+    /// The event, if it is one of our nodes.
+    fn ours(event: &Self::Event) -> Option<&Event>;
+
+    /// Makes the step of the event, or refuses it and changes nothing.
+    fn step(&mut self, event: &Self::Event) -> Result<(), EventFault>;
+
+    /// Reserves the room for so many more datagrams.
+    fn reserve(&mut self, datagrams: usize) -> Result<(), Memory>;
+
+    /// A count that grows whenever a selected route of the node may differ.
+    fn routes_version(&self, node: usize) -> Option<u64>;
+
+    /// The node's selection at this place, with its prefix.
+    fn selection_at(&self, node: usize, place: usize) -> Option<(Prefix, Selection)>;
+
+    /// The router over which the node's selected route to the prefix leads.
+    fn hop(&self, node: usize, prefix: &Prefix) -> Option<Hop>;
+
+    /// The router that announces the prefix of the node's selected route.
+    fn router(&self, node: usize, prefix: &Prefix) -> Option<RouterId>;
+
+    /// Whether a datagram of this number was sent.
+    fn is_sent(&self, number: usize) -> bool;
+}
+
+impl Runs for Network {
+    type Event = Event;
+
+    fn node_of(event: &Event) -> usize {
+        node_of(event)
+    }
+
+    fn ours(event: &Event) -> Option<&Event> {
+        Some(event)
+    }
+
+    fn step(&mut self, event: &Event) -> Result<(), EventFault> {
+        self.step(event).map_err(EventFault::Ours)
+    }
+
+    fn reserve(&mut self, datagrams: usize) -> Result<(), Memory> {
+        self.reserve(datagrams)
+    }
+
+    fn routes_version(&self, node: usize) -> Option<u64> {
+        self.routes_version(node)
+    }
+
+    fn selection_at(&self, node: usize, place: usize) -> Option<(Prefix, Selection)> {
+        self.selection_at(node, place)
+    }
+
+    fn hop(&self, node: usize, prefix: &Prefix) -> Option<Hop> {
+        Some(Hop::Ours(self.next_hop(node, prefix)?))
+    }
+
+    fn router(&self, node: usize, prefix: &Prefix) -> Option<RouterId> {
+        self.router(node, prefix)
+    }
+
+    fn is_sent(&self, number: usize) -> bool {
+        self.sent(number).is_some()
+    }
+}
+
+impl Runs for MixedNetwork {
+    type Event = ScenarioEvent;
+
+    fn node_of(event: &ScenarioEvent) -> usize {
+        match event {
+            ScenarioEvent::Ours(event) => node_of(event),
+            ScenarioEvent::Heard(heard) => heard.node,
+        }
+    }
+
+    fn ours(event: &ScenarioEvent) -> Option<&Event> {
+        match event {
+            ScenarioEvent::Ours(event) => Some(event),
+            ScenarioEvent::Heard(_) => None,
+        }
+    }
+
+    fn step(&mut self, event: &ScenarioEvent) -> Result<(), EventFault> {
+        match event {
+            ScenarioEvent::Ours(event) => self.step(event).map_err(EventFault::Ours),
+            ScenarioEvent::Heard(heard) => self.hear(&heard_of(heard)).map_err(EventFault::Heard),
+        }
+    }
+
+    fn reserve(&mut self, datagrams: usize) -> Result<(), Memory> {
+        self.reserve(datagrams)
+    }
+
+    fn routes_version(&self, node: usize) -> Option<u64> {
+        self.routes_version(node)
+    }
+
+    fn selection_at(&self, node: usize, place: usize) -> Option<(Prefix, Selection)> {
+        self.selection_at(node, place)
+    }
+
+    fn hop(&self, node: usize, prefix: &Prefix) -> Option<Hop> {
+        if let Some(next) = self.next_hop(node, prefix) {
+            return Some(Hop::Ours(next));
+        }
+        let selected = self.selected(node, prefix)?;
+        Some(Hop::Foreign {
+            neighbour: selected.peer.addr,
+            next_hop: selected.next_hop,
+            node: self.gateway(node, prefix),
+        })
+    }
+
+    fn router(&self, node: usize, prefix: &Prefix) -> Option<RouterId> {
+        self.router(node, prefix)
+    }
+
+    fn is_sent(&self, number: usize) -> bool {
+        self.sent(number).is_some()
+    }
+}
+
+fn heard_of(heard: &HeardDatagram) -> Heard<'_> {
+    Heard {
+        node: heard.node,
+        iface: heard.iface,
+        source: heard.source,
+        octets: heard.octets.as_slice(),
+        now: heard.now,
+    }
+}

@@ -1,9 +1,0 @@
--- The events so far are spelled by the texts so far.
-use Rattle.std.proofs.Common.{take}
-use Rattle.toml.specs.View.{items_view}
-use Rattle.babel_config.specs.Values.{IsText, IsItems}
-use Rattle.babel_config.specs.Events.{IsEventText}
-use Rattle.babel_config.proofs.events.read_events.Given as goal
-
-abbrev pub invariant-loop-number : goal.invariant-loop-number
-invariant-loop-number l = IsItems (IsText IsEventText) (items_view (take l.number l.items.items)) l.events.items
