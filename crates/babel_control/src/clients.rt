@@ -2,7 +2,7 @@
 
 ghost use Rattle.std.specs.Prelude.{◌≡◌, ◌≢◌, drop, length, true};
 
-use crate::answers::{monitoring_after, push_answer, push_welcome, shows_tables};
+use crate::replies::{monitoring_after, push_answer, push_welcome, shows_tables};
 use crate::{Changes, Command, InputLine, Output, Tables, TakenOctet, View, parse_command};
 use std::alloc::{AllocError, Global};
 
@@ -131,7 +131,7 @@ impl Client {
         }
     }
 
-    /// Answers a command. `None` is one that there isn't.
+    /// Replies to a command. `None` is one that there isn't.
     pub fn answer<T: Tables>(
         &mut self,
         command: &Option<Command>,
@@ -168,7 +168,7 @@ impl Client {
     }
 }
 
-/// Whether the tables have to be looked at before the command is answered.
+/// Whether the tables have to be looked at before the reply to the command.
 pub fn needs_tables(command: &Option<Command>) -> bool {
     match command {
         Some(command) => shows_tables(command),

@@ -8,16 +8,16 @@
 //! - `views`: what the socket shows of a speaker and its devices.
 //! - `texts`: addresses, prefixes and router-ids, as babeld writes them. `lines`: the lines of the protocol.
 //! - `rows`: the speaker's tables as these lines show them, and `changes`: what changed of them.
-//! - `answers`: the answer to a command. `clients`: a client.
+//! - `replies`: the reply to a command. `clients`: a client.
 #![tactic(auto)]
 
-mod answers;
 mod changes;
 mod clients;
 mod commands;
 mod input;
 mod lines;
 mod output;
+mod replies;
 mod rows;
 mod texts;
 mod views;

@@ -43,7 +43,7 @@ pub(crate) fn push_greeting(
 ) -> Result<(), AllocError> {
     let router = RouterText(router);
     writeln!(out, "BABEL 1.0")?;
-    writeln!(out, "version babel-0.3.0")?;
+    writeln!(out, "version babel-0.4.0")?;
     writeln!(out, "host {host}")?;
     writeln!(out, "my-id {router}")
 }

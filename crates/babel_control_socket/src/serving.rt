@@ -75,7 +75,7 @@ impl ControlSocket {
         wish
     }
 
-    /// Writes the changes to the clients that monitor, and then the answers.
+    /// Writes the changes to the clients that monitor, and then the replies.
     fn answer_all<T: Tables>(&mut self, asked: &[Asked], view: &View<'_, T>) -> Wish {
         if has_monitor(&self.clients) || wants_tables(asked) {
             let mut text = String::new(self.alloc);

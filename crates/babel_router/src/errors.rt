@@ -38,6 +38,9 @@ pub enum RunFault {
     /// W6: what the system reports of devices can't be read.
     #[error("/proc/net/if_inet6 or /proc/net/igmp6 can't be read")]
     System,
+    /// W7: the control socket can't be made.
+    #[error("can't be made a control socket: another process listens there, or the path can't be used")]
+    Control,
     /// K8, K9, K10 and L8: the file of the snapshot can't be read, kept or locked.
     #[error("{0}")]
     SnapshotFile(#[from] SnapshotFileFault),
@@ -103,6 +106,7 @@ impl fmt::Display for RunCode {
             RunFault::Device(_, DeviceFault::Tentative) => f.write_str("W4"),
             RunFault::Device(_, DeviceFault::NotMember) => f.write_str("W5"),
             RunFault::System => f.write_str("W6"),
+            RunFault::Control => f.write_str("W7"),
             RunFault::SnapshotFile(fault) => f.write_str(fault.code()),
             RunFault::Restore(fault) => write!(f, "{}", RestoreCode { fault }),
             RunFault::Output(fault) => f.write_str(fault.code()),

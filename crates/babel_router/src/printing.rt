@@ -91,6 +91,16 @@ impl<'s, 'a, W: Write, E: Write> Printer<'s, 'a, W, E> {
         }
     }
 
+    /// The speaker was made again: all of its routes are looked at in the next turn.
+    pub(crate) fn note_restart(&mut self) {
+        if let Some(commands) = &mut self.commands {
+            commands.note_restart();
+        }
+        if let Some(routes) = &mut self.routes {
+            routes.note_restart();
+        }
+    }
+
     /// A device may have another number. `ip` keeps the numbers that it has seen; this command lets it read them again.
     pub(crate) fn list_devices(&mut self) {
         if self.commands.is_some() && self.written.is_ok() {
@@ -127,18 +137,18 @@ impl<'s, 'a, W: Write, E: Write> Printer<'s, 'a, W, E> {
     /// # Errors
     ///
     /// L7 or L8 of a change before, or L7.
-    pub(crate) fn end(&mut self) -> Result<(), LineFault> {
-        let ended = self.write_end();
+    pub(crate) fn end(&mut self, speaker: &Speaker) -> Result<(), LineFault> {
+        let ended = self.write_end(speaker);
         self.written?;
         ended
     }
 
-    fn write_end(&mut self) -> Result<(), LineFault> {
+    fn write_end(&mut self, speaker: &Speaker) -> Result<(), LineFault> {
         if self.commands.is_none() {
-            return write_table(&self.routes, self.out);
+            return write_table(&self.routes, speaker, self.out);
         }
         remove_routes(&self.commands, self.out)?;
-        write_table(&self.routes, self.err)
+        write_table(&self.routes, speaker, self.err)
     }
 
     /// The counts of all turns.
@@ -173,10 +183,11 @@ fn write_if_some<W: Write>(
 
 fn write_table<W: Write>(
     selections: &Option<Selections<'_>>,
+    speaker: &Speaker,
     out: &mut W,
 ) -> Result<(), LineFault> {
     match selections {
-        Some(selections) => selections.write_table(out),
+        Some(selections) => selections.write_table(speaker, out),
         None => Ok(()),
     }
 }

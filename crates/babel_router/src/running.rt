@@ -1,5 +1,6 @@
 //! `babel run DEVICE..`: a speaker on real links.
 
+use crate::controlling::{close_control, open_control};
 use crate::devices::Lists;
 use crate::links::LinkWire;
 use crate::printing::Printer;
@@ -47,6 +48,8 @@ pub struct RunOptions<'a> {
     pub turns: u64,
     /// Where the snapshot is kept before anything is sent. Without it nothing is kept over a restart.
     pub keep: Option<Kept<'a>>,
+    /// Where the control socket is. Without it nobody can ask the speaker anything.
+    pub control: Option<&'a str>,
     /// Each change of a selected route, and all of them at the end.
     pub routes: Printed,
     /// Each change of a selected route, as a command for `ip -force -batch -`.
@@ -62,7 +65,7 @@ pub struct RunOptions<'a> {
 ///
 /// # Errors
 ///
-/// W6, W3, W4 or W5 for the first device that can't be used, C1 to C7, K10, K8, K9, K1 to K7, and W2, before anything
+/// W6, W3, W4 or W5 for the first device that can't be used, C1 to C7, K10, K8, K9, K1 to K7, W2 and W7, before anything
 /// is sent. Then K9, L7 and L8, and C1 to C7 if a device gets another address.
 pub fn run<R: AllocGlobal + Net + Clock + Files, I: Read + AsRawFd, W: Write, E: Write>(
     rt: &R,
@@ -163,14 +166,18 @@ where
 {
     let Started { speaker, devices } = started;
     let mut driver = DurableDriver::new(alloc, MAX_DATAGRAM_LEN)?;
+    let mut control = open_control(alloc, options.control, &wire.wire)?;
     let mut router = Router {
         alloc,
         settings: options.settings,
         speaker,
         driver: &mut driver,
         devices,
+        control: &mut control,
     };
-    router.take_turns(options.turns, wire, printer)
+    let ended = router.take_turns(options.turns, wire, printer);
+    close_control(options.control, wire.wire.system());
+    ended
 }
 
 /// Opens the sockets of each device.

@@ -2,12 +2,14 @@
 
 ghost use Rattle.std.specs.Prelude.{◌≡◌};
 
+use crate::controlling::{Control, Service, serve_clients, views_of};
 use crate::devices::Lists;
 use crate::links::LinkWire;
 use crate::printing::{Note, Printer};
 use crate::settings::{Settings, config_of};
 use crate::tracking::{Step, Tracked, hear};
 use crate::{DeviceFault, RunFault};
+use babel_control::{Keeping, Wish};
 use babel_durable::{DurableDriver, DurableReport, Keeper, drive_durable};
 use babel_snapshot_file::{LockFile, SnapshotFileFault};
 use babel_speaker::Speaker;
@@ -36,6 +38,7 @@ pub(crate) struct Router<'d, 'a> {
     pub(crate) driver: &'d mut DurableDriver,
     /// By the numbers of the interfaces.
     pub(crate) devices: &'d mut [Tracked<'a>],
+    pub(crate) control: &'d mut Option<Control>,
 }
 
 impl Router<'_, '_> {
@@ -56,7 +59,7 @@ impl Router<'_, '_> {
             ended?;
         }
         // The kernel's routes are taken away also if a change couldn't be written.
-        printer.end()?;
+        printer.end(self.speaker)?;
         printer.write_counts(counts)?;
         ended
     }
@@ -87,6 +90,9 @@ impl Router<'_, '_> {
             }
             counts.add(turn);
             printer.note_keeping(turn);
+            if self.serve_control(wire, *counts, turn) == Wish::Stop {
+                return Ok(());
+            }
         }
         Ok(())
     }
@@ -105,6 +111,38 @@ impl Router<'_, '_> {
             return None;
         }
         Some(drive_durable(self.speaker, self.driver, wire, printer, 1))
+    }
+
+    /// Serves the clients of the control socket.
+    fn serve_control<'r, R: Net + Clock + Files, I: Read + AsRawFd>(
+        &mut self,
+        wire: &mut KeptWire<'r, LinkWire<'r, R, I>, R>,
+        counts: Counts,
+        turn: DurableReport,
+    ) -> Wish
+    where
+        R::File: LockFile,
+    {
+        let ready = wire.wire.take_ready();
+        if self.control.is_none() {
+            return Wish::Nothing;
+        }
+        let keeping = match wire.store {
+            None => Keeping::Never,
+            Some(_) if turn.failed_keeps > 0 => Keeping::Failed,
+            Some(_) => Keeping::Kept,
+        };
+        // Without memory for them nobody is served in this turn.
+        let Ok(devices) = views_of(self.alloc, self.devices) else {
+            return Wish::Nothing;
+        };
+        let service = Service {
+            ready,
+            counts,
+            keeping,
+        };
+        let registry = wire.wire.registry();
+        serve_clients(self.control, self.speaker, &devices, registry, service)
     }
 
     /// Opens and closes the sockets of devices that have changed. If an address is another one, the speaker starts again.
@@ -129,6 +167,7 @@ impl Router<'_, '_> {
         }
         wire.wire.note_look();
         if self.take_addresses(printer) {
+            printer.note_restart();
             return self.restart(wire.now());
         }
         Ok(())

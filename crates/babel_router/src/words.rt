@@ -47,6 +47,8 @@ pub struct RunWords<'a> {
     pub turns: u64,
     /// Where the snapshot is kept.
     pub keep: Option<Kept<'a>>,
+    /// Where the control socket is.
+    pub control: Option<&'a str>,
     /// Each change of a selected route, and all of them at the end.
     pub routes: Printed,
     /// Each change of a selected route, as a command for `ip -force -batch -`.
@@ -127,6 +129,7 @@ fn options_of<'x>(
         port: words.port,
         turns: words.turns,
         keep,
+        control: words.control,
         routes: words.routes,
         commands: words.commands,
     }

@@ -120,7 +120,7 @@ where
     let mut printer = Printer::new(alloc, options.routes, out, err)?;
     let mut driver = DurableDriver::new(alloc, MAX_DATAGRAM_LEN)?;
     take_turns(options.turns, started, &mut driver, &mut printer)?;
-    Ok(printer.end()?)
+    Ok(printer.end(&started.speaker)?)
 }
 
 /// Drives the speaker turn by turn, until its lines can't be written.
@@ -200,10 +200,10 @@ impl<'s, W: Write, E: Write> Printer<'s, W, E> {
     /// # Errors
     ///
     /// L7 or L8 of a change before, or L7.
-    fn end(&mut self) -> Result<(), LineFault> {
+    fn end(&mut self, speaker: &Speaker) -> Result<(), LineFault> {
         self.written?;
         if let Some(routes) = &self.routes {
-            routes.write_table(self.out)?;
+            routes.write_table(speaker, self.out)?;
         }
         self.counts.write_to(self.out)
     }

@@ -128,12 +128,16 @@ impl<'a> RouteLines<'a> {
     }
 }
 
-/// The prefixes to which the speaker has a route, selected or not, in the order in which it had one first.
-/// Of each, the selected route that was printed last is kept.
+/// A prefix, and the selected route that was printed last. It is none only while changes are written.
+type PrintedRoute = (Prefix, Option<Selected>);
+
+/// The prefixes of which a selected route was printed, in ascending order.
 #[derive(Drop)]
 pub struct Selections<'a> {
     lines: RouteLines<'a>,
-    printed: Vec<(Prefix, Option<Selected>)>,
+    printed: Vec<PrintedRoute>,
+    /// The count of the speaker's routes when they were looked at last. They are looked at again only if it is another.
+    version: Option<u64>,
 }
 
 /// How many prefixes a speaker may have a route to, or a selected one.
@@ -148,26 +152,15 @@ impl<'a> Selections<'a> {
     pub fn new(alloc: Global, lines: RouteLines<'a>) -> Result<Selections<'a>, AllocError> {
         let mut printed = Vec::new(alloc);
         printed.reserve(MAX_PREFIXES)?;
-        Ok(Selections { lines, printed })
+        Ok(Selections {
+            lines,
+            printed,
+            version: None,
+        })
     }
 
-    /// Adds the prefixes that are new.
-    fn add_new(&mut self, speaker: &Speaker) -> Result<(), AllocError> {
-        let mut after: Option<Prefix> = None;
-        for _ in 0..MAX_PREFIXES {
-            let Some(prefix) = speaker.next_prefix(after.as_ref()) else {
-                return Ok(());
-            };
-            if !self.printed.iter().any(|(known, _)| *known == prefix) {
-                self.printed.push((prefix, None))?;
-            }
-            after = Some(prefix);
-        }
-        Ok(())
-    }
-
-    /// Writes a line for each prefix whose selected route is another than the one that was printed last.
-    /// Returns whether there was one.
+    /// Writes a line for each prefix whose selected route is another than the one that was printed last, in the order
+    /// of the prefixes. Returns whether there was one.
     ///
     /// # Errors
     ///
@@ -178,20 +171,26 @@ impl<'a> Selections<'a> {
         moment: u64,
         out: &mut W,
     ) -> Result<bool, LineFault> {
-        self.add_new(speaker)?;
+        let version = speaker.routes_version();
+        if self.version == Some(version) && version < u64::MAX {
+            return Ok(false);
+        }
+        add_new(&mut self.printed, speaker)?;
         let has_changed = write_changed(&self.lines, &mut self.printed, speaker, moment, out)?;
-        self.printed
-            .retain(|(prefix, printed)| has_route(speaker, prefix, *printed));
+        self.printed.retain(|(_, printed)| printed.is_some());
+        self.version = Some(version);
         Ok(has_changed)
     }
 
     /// Forgets what was printed of the routes over an interface, so that each is printed again.
     pub fn forget(&mut self, iface: u8) {
-        for entry in self.printed.iter_mut() {
-            if entry.1.is_some_and(|route| route.peer.iface == iface) {
-                entry.1 = None;
-            }
-        }
+        self.printed.retain(|(_, printed)| printed.is_some_and(|route| route.peer.iface != iface));
+        self.version = None;
+    }
+
+    /// The speaker was made again, and counts the changes of its routes from the beginning.
+    pub fn note_restart(&mut self) {
+        self.version = None;
     }
 
     /// Writes a line that takes each selected route away.
@@ -210,34 +209,80 @@ impl<'a> Selections<'a> {
         Ok(())
     }
 
-    /// Writes the selected route of each prefix, for people.
+    /// Writes the selected route of each prefix to which the speaker has a route, selected or not, for people.
     ///
     /// # Errors
     ///
     /// L7 if writing fails.
-    pub fn write_table<W: Write>(&self, out: &mut W) -> Result<(), LineFault> {
-        for (prefix, printed) in &self.printed {
+    pub fn write_table<W: Write>(&self, speaker: &Speaker, out: &mut W) -> Result<(), LineFault> {
+        let mut after: Option<Prefix> = None;
+        for _ in 0..MAX_PREFIXES {
+            let Some(prefix) = speaker.next_prefix(after.as_ref()) else {
+                return Ok(());
+            };
             let route = SelectedText {
                 lines: self.lines,
-                route: printed,
+                route: &speaker.selected(&prefix),
             };
             writeln!(out, "table {prefix} {route}").map_err(LineFault::of_writing)?;
+            after = Some(prefix);
         }
         Ok(())
     }
 }
 
+/// Adds the prefixes that have a selected route now: one walk over both lists.
+fn add_new(printed: &mut Vec<PrintedRoute>, speaker: &Speaker) -> Result<(), AllocError> {
+    let mut index = 0;
+    for place in 0..MAX_PREFIXES {
+        let Some((prefix, _)) = speaker.selection_at(place) else {
+            return Ok(());
+        };
+        index = index_near(printed, index, &prefix);
+        insert_near(printed, index, prefix)?;
+    }
+    Ok(())
+}
+
+/// The index of the first of the prefixes, from the index on, that isn't lesser than this one.
+fn index_near(printed: &[PrintedRoute], index: usize, prefix: &Prefix) -> usize {
+    for place in index..printed.len() {
+        match printed.get(place) {
+            Some((known, _)) if known.cmp(prefix).is_lt() => {}
+            _ => return place,
+        }
+    }
+    printed.len()
+}
+
+/// Inserts the prefix at the index, unless it is there.
+fn insert_near(
+    printed: &mut Vec<PrintedRoute>,
+    index: usize,
+    prefix: Prefix,
+) -> Result<(), AllocError> {
+    if printed
+        .get(index)
+        .is_some_and(|(known, _)| *known == prefix)
+    {
+        return Ok(());
+    }
+    printed.insert(index.min(printed.len()), (prefix, None))?;
+    Ok(())
+}
+
 /// Writes a line for each of the prefixes whose selected route is another one. Returns whether there was one.
 fn write_changed<W: Write>(
     lines: &RouteLines<'_>,
-    printed: &mut [(Prefix, Option<Selected>)],
+    printed: &mut [PrintedRoute],
     speaker: &Speaker,
     moment: u64,
     out: &mut W,
 ) -> Result<bool, LineFault> {
     let mut has_changed = false;
+    let mut place = 0;
     for entry in printed.iter_mut() {
-        let selected = speaker.selected(&entry.0);
+        let selected = selected_near(speaker, &mut place, &entry.0);
         if !lines.are_same(&selected, &entry.1) {
             lines
                 .write_change(moment, &entry.0, &selected, out)
@@ -249,7 +294,19 @@ fn write_changed<W: Write>(
     Ok(has_changed)
 }
 
-/// Whether the speaker has a route to the prefix, selected or not.
-fn has_route(speaker: &Speaker, prefix: &Prefix, printed: Option<Selected>) -> bool {
-    printed.is_some() || speaker.entry(prefix, 0).is_some()
+/// The selected route of the prefix. Its selection is at the index, which then goes to the next one, or there is none.
+fn selected_near(speaker: &Speaker, place: &mut usize, prefix: &Prefix) -> Option<Selected> {
+    let (found, selection) = speaker.selection_at(*place)?;
+    if found != *prefix {
+        return None;
+    }
+    *place = place.saturating_add(1);
+    let entry = selection.entry;
+    Some(Selected {
+        peer: selection.peer,
+        next_hop: entry.next_hop,
+        router: entry.router,
+        distance: entry.distance,
+        metric: entry.distance.metric.add(speaker.cost(&selection.peer)),
+    })
 }

@@ -144,6 +144,6 @@ fn speak_with_routes<R: Net + Clock, W: Write>(
             out.flush().map_err(LineFault::of_writing)?;
         }
     }
-    selections.write_table(out)?;
+    selections.write_table(speaker, out)?;
     Ok(report)
 }

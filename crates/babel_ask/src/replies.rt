@@ -1,0 +1,123 @@
+//! A whole reply.
+
+use crate::Question;
+use crate::columns::{ColumnKind, neighbour_columns, route_columns};
+use crate::objects::{write_objects, write_value};
+use crate::reasons::{write_reason_objects, write_reasons};
+use crate::tables::write_table;
+use std::io::{self, Write};
+use thiserror::Error;
+
+/// In which form a reply is shown.
+#[derive(Clone, Copy, Debug, PartialEq, Eq)]
+pub enum AnswerForm {
+    /// For people.
+    Text,
+    /// An object a line.
+    Json,
+}
+
+/// Why a reply isn't shown.
+#[derive(Clone, Copy, Debug, PartialEq, Eq, Error)]
+pub enum AskFault {
+    /// No speaker of Babel replied.
+    #[error("is no control socket of a Babel speaker")]
+    Foreign,
+    /// The speaker doesn't know the command, or can't read the prefix.
+    #[error("the speaker can't answer that")]
+    Refused,
+    /// The reply can't be written.
+    #[error("the answer can't be written")]
+    Output,
+}
+
+/// Writes the reply of the control socket to a question.
+///
+/// # Errors
+///
+/// It is no reply, it is a refusal, or writing fails.
+pub fn show_answer<W: Write>(
+    question: &Question<'_>,
+    form: AnswerForm,
+    answer: &str,
+    out: &mut W,
+) -> Result<(), AskFault> {
+    if !answer.starts_with("BABEL 1.") {
+        return Err(AskFault::Foreign);
+    }
+    if answer.lines().any(|line| line == "bad") {
+        return Err(AskFault::Refused);
+    }
+    match write_answer(question, form, answer, out) {
+        Ok(()) => Ok(()),
+        Err(_) => Err(AskFault::Output),
+    }
+}
+
+fn write_answer<W: Write>(
+    question: &Question<'_>,
+    form: AnswerForm,
+    answer: &str,
+    out: &mut W,
+) -> io::Result<()> {
+    match form {
+        AnswerForm::Text => write_text(question, answer, out)?,
+        AnswerForm::Json => write_json(question, answer, out)?,
+    }
+    out.flush()
+}
+
+fn write_text<W: Write>(question: &Question<'_>, answer: &str, out: &mut W) -> io::Result<()> {
+    match *question {
+        Question::Neighbours => write_table(answer, "neighbour", &neighbour_columns(), out),
+        Question::Routes => write_table(answer, "route", &route_columns(), out),
+        Question::Why(prefix) => write_reasons(answer, prefix, out),
+        Question::Counts => write_counts(answer, out),
+    }
+}
+
+fn write_json<W: Write>(question: &Question<'_>, answer: &str, out: &mut W) -> io::Result<()> {
+    match *question {
+        Question::Neighbours => write_objects(answer, "neighbour", &neighbour_columns(), out),
+        Question::Routes => write_objects(answer, "route", &route_columns(), out),
+        Question::Why(_) => write_reason_objects(answer, out),
+        Question::Counts => write_counts_object(answer, out),
+    }
+}
+
+/// The words of the line of counts: names, each with a number.
+fn counts_in(answer: &str) -> &str {
+    for line in answer.lines() {
+        if let Some(counts) = line.strip_prefix("counts ") {
+            return counts;
+        }
+    }
+    ""
+}
+
+fn write_counts<W: Write>(answer: &str, out: &mut W) -> io::Result<()> {
+    let mut words = counts_in(answer).split_ascii_whitespace();
+    for _ in 0..u64::MAX {
+        let (Some(name), Some(count)) = (words.next(), words.next()) else {
+            return Ok(());
+        };
+        writeln!(out, "{name:<10}  {count:>10}")?;
+    }
+    Ok(())
+}
+
+fn write_counts_object<W: Write>(answer: &str, out: &mut W) -> io::Result<()> {
+    let mut words = counts_in(answer).split_ascii_whitespace();
+    write!(out, "{{")?;
+    for number in 0..u64::MAX {
+        let (Some(name), Some(count)) = (words.next(), words.next()) else {
+            break;
+        };
+        if number > 0 {
+            write!(out, ",")?;
+        }
+        write!(out, "\"{name}\":")?;
+        write_value(count, ColumnKind::Number, out)?;
+    }
+    writeln!(out, "}}")
+}
