@@ -1,0 +1,148 @@
+//! Where in a file a fault is.
+
+use babel_toml_places::{Position, Step, locate};
+use babel_topology::TopologyFault;
+use babel_topology_file::{Cause, Part, Problem};
+use std::alloc::{AllocError, Global};
+use toml::{Table, Value};
+
+/// Whether the position of a key or of its value is looked for.
+#[derive(Clone, Copy, Debug, PartialEq, Eq)]
+pub(crate) enum Side {
+    /// That of the key.
+    Key,
+    /// That of the value.
+    Value,
+}
+
+/// A list of the file, an element of it, and the key in a table there.
+#[derive(Clone, Copy, Debug)]
+pub(crate) struct Element {
+    /// The key of the list.
+    pub(crate) list: &'static str,
+    /// The number of the element, from 0 on.
+    pub(crate) number: usize,
+    /// The key in the element.
+    pub(crate) key: Option<&'static str>,
+}
+
+impl Element {
+    fn new(list: &'static str, number: usize) -> Element {
+        Element {
+            list,
+            number,
+            key: None,
+        }
+    }
+
+    fn key(list: &'static str, number: usize, key: &'static str) -> Element {
+        Element {
+            list,
+            number,
+            key: Some(key),
+        }
+    }
+
+    /// The text in the file, if it is a text.
+    pub(crate) fn text<'t>(&self, file: &'t Table) -> Option<&'t str> {
+        let Some(Value::Array(items)) = file.get(self.list) else {
+            return None;
+        };
+        let item = items.get(self.number)?;
+        match self.key {
+            Some(key) => item.get(key)?.as_str(),
+            None => item.as_str(),
+        }
+    }
+
+    /// Its position in the text of the file.
+    pub(crate) fn position(&self, alloc: Global, octets: &[u8]) -> Option<Position> {
+        match self.steps(alloc) {
+            Ok(steps) => position_at(alloc, octets, &steps, Side::Value),
+            Err(_) => None,
+        }
+    }
+
+    fn steps(&self, alloc: Global) -> Result<Vec<Step<'static>>, AllocError> {
+        let mut steps = Vec::new(alloc);
+        steps.push(Step::Key(self.list))?;
+        steps.push(Step::Index(self.number))?;
+        if let Some(key) = self.key {
+            steps.push(Step::Key(key))?;
+        }
+        Ok(steps)
+    }
+}
+
+/// The element of the file that the fault is about.
+pub(crate) fn element_of(fault: TopologyFault) -> Option<Element> {
+    match fault {
+        TopologyFault::BadName(number) | TopologyFault::RepeatedName(number) => {
+            Some(Element::key("node", number, "name"))
+        }
+        TopologyFault::BadRouterId(number) => Some(Element::new("node", number)),
+        TopologyFault::UnknownEnd(number)
+        | TopologyFault::SameEnds(number)
+        | TopologyFault::RepeatedLink(number)
+        | TopologyFault::TooManyCosts(number) => Some(Element::new("link", number)),
+        TopologyFault::BadStep(number)
+        | TopologyFault::EarlyStep(number)
+        | TopologyFault::LateStep(number)
+        | TopologyFault::SharedCost(number) => Some(Element::new("plan", number)),
+        TopologyFault::BadExpectation(number) | TopologyFault::LateExpectation(number) => {
+            Some(Element::new("expect", number))
+        }
+        _ => None,
+    }
+}
+
+/// The position of a problem in the text of the file.
+pub(crate) fn position_of(alloc: Global, octets: &[u8], problem: &Problem<'_>) -> Option<Position> {
+    let side = match problem.cause {
+        Cause::UnknownKey => Side::Key,
+        _ => Side::Value,
+    };
+    match steps_of(alloc, problem) {
+        Ok(steps) => position_at(alloc, octets, &steps, side),
+        Err(_) => None,
+    }
+}
+
+/// The steps from the table of the file to the value. A key that is missing has the steps to its table.
+fn steps_of<'a>(alloc: Global, problem: &Problem<'a>) -> Result<Vec<Step<'a>>, AllocError> {
+    let mut steps = Vec::new(alloc);
+    match problem.part {
+        Part::File => {}
+        Part::Node(number) => {
+            steps.push(Step::Key("node"))?;
+            steps.push(Step::Index(number))?;
+        }
+        Part::Link(number) => {
+            steps.push(Step::Key("link"))?;
+            steps.push(Step::Index(number))?;
+        }
+    }
+    if problem.cause != Cause::MissingKey {
+        steps.push(Step::Key(problem.key))?;
+    }
+    if let Some(index) = problem.index {
+        steps.push(Step::Index(index))?;
+    }
+    Ok(steps)
+}
+
+/// The position of what the steps lead to. `None` if it isn't there, or if an allocation fails.
+fn position_at(alloc: Global, octets: &[u8], steps: &[Step<'_>], side: Side) -> Option<Position> {
+    let Ok(text) = str::from_utf8(octets) else {
+        return None;
+    };
+    if steps.is_empty() {
+        return None;
+    }
+    let place = locate(alloc, text, steps)?;
+    let rest = match side {
+        Side::Key => place.key,
+        Side::Value => place.value,
+    };
+    Some(Position::after(octets, text.len().saturating_sub(rest.len())))
+}

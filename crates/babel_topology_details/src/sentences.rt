@@ -1,0 +1,159 @@
+//! The sentence about a file that is refused.
+
+use crate::places::{element_of, position_of};
+use babel_line_details::Excerpt;
+use babel_toml_places::{FileText, Position};
+use babel_topology::TopologyFault;
+use babel_topology_file::{Cause, FILE_KEYS, LINK_KEYS, NODE_KEYS, Part, Problem, first_problem};
+use std::alloc::Global;
+use std::fmt;
+use std::io::{self, Write};
+use toml::Table;
+
+/// Writes why the file is refused: T1 to T19. If the cause isn't found, the sentence is that of the code.
+pub fn explain_topology<W: Write>(
+    alloc: Global,
+    file: FileText<'_>,
+    fault: TopologyFault,
+    out: &mut W,
+) -> io::Result<()> {
+    match toml::table_from_slice(alloc, file.octets) {
+        Ok(table) => write_refusal(alloc, file, &table, fault, out),
+        Err(error) => match error.span() {
+            Some(span) => {
+                let position = Position::after(file.octets, span.start);
+                writeln!(out, "{}:{position}: {}", file.name, error.message())
+            }
+            None => writeln!(out, "{}: {fault}", file.name),
+        },
+    }
+}
+
+fn write_refusal<W: Write>(
+    alloc: Global,
+    file: FileText<'_>,
+    table: &Table,
+    fault: TopologyFault,
+    out: &mut W,
+) -> io::Result<()> {
+    match fault {
+        TopologyFault::Form | TopologyFault::Text => match first_problem(table) {
+            Some(problem) => write_problem(alloc, file, &problem, out),
+            None => writeln!(out, "{}: {fault}", file.name),
+        },
+        _ => write_fault(alloc, file, table, fault, out),
+    }
+}
+
+fn write_problem<W: Write>(
+    alloc: Global,
+    file: FileText<'_>,
+    problem: &Problem<'_>,
+    out: &mut W,
+) -> io::Result<()> {
+    let name = file.name;
+    match position_of(alloc, file.octets, problem) {
+        Some(position) => writeln!(out, "{name}:{position}: {}", Sentence(problem)),
+        None => writeln!(out, "{name}: {}", Sentence(problem)),
+    }
+}
+
+fn write_fault<W: Write>(
+    alloc: Global,
+    file: FileText<'_>,
+    table: &Table,
+    fault: TopologyFault,
+    out: &mut W,
+) -> io::Result<()> {
+    write!(out, "{}", file.name)?;
+    if let Some(element) = element_of(fault) {
+        if let Some(position) = element.position(alloc, file.octets) {
+            write!(out, ":{position}")?;
+        }
+        if let Some(text) = element.text(table) {
+            write!(out, ": {}", Excerpt(text))?;
+        }
+    }
+    writeln!(out, ": {fault}; {}", advice(fault))
+}
+
+/// What to do about a fault.
+fn advice(fault: TopologyFault) -> &'static str {
+    match fault {
+        TopologyFault::NodeCount => "write a [[node]] for each",
+        TopologyFault::BadName(_) => "choose a name such as 'a' or 'roof_2'",
+        TopologyFault::RepeatedName(_) => "give each node a name of its own",
+        TopologyFault::BadRouterId(_) => {
+            "give it another one, such as \"02000000000000aa\"; a node without one gets its number"
+        }
+        TopologyFault::UnknownEnd(_) => "'a' and 'b' are names of nodes of this file",
+        TopologyFault::SameEnds(_) => "'a' and 'b' are two nodes",
+        TopologyFault::RepeatedLink(_) => "two nodes have at most one link",
+        TopologyFault::TooManyCosts(_) => {
+            "a node has 8 interfaces; from 9 links on, links of one cost share one: use at most 8 costs at a node"
+        }
+        TopologyFault::BadStep(_) => STEP_FORM,
+        TopologyFault::EarlyStep(_) => "write the steps in the order of their times",
+        TopologyFault::LateStep(_) | TopologyFault::LateExpectation(_) => {
+            "make 'duration' longer, or the time earlier"
+        }
+        TopologyFault::SharedCost(_) => {
+            "a node with more than 8 links shares an interface between links of one cost; give the link another cost \
+             from the start, or the node fewer links"
+        }
+        TopologyFault::BadExpectation(_) => {
+            "write TIME NODE PREFIX via NODE, or TIME NODE PREFIX none, as '30 s b 10.0.0.0/8 via a'"
+        }
+        TopologyFault::Memory => "give the process more of it",
+        _ => "see the page about topologies",
+    }
+}
+
+/// The forms of a step.
+const STEP_FORM: &str =
+    "write 'at TIME' and 'cut A-B', 'join A-B', 'cost A-B N' (1 to 65534), 'lossy A-B N %' (0 to 100), \
+'announce A PREFIX', 'withdraw A PREFIX', 'restart A' or 'crash A'";
+
+/// A problem, as it is written.
+#[derive(Clone, Copy, Debug)]
+struct Sentence<'a>(&'a Problem<'a>);
+
+impl fmt::Display for Sentence<'_> {
+    fn fmt<W: fmt::Write>(&self, f: &mut fmt::Formatter<W>) -> fmt::Result {
+        let key = self.0.key;
+        match self.0.cause {
+            Cause::UnknownKey => write!(
+                f,
+                "unknown key '{key}' in {}; the keys are {}",
+                TableName(self.0.part),
+                keys_of(self.0.part)
+            ),
+            Cause::MissingKey => write!(f, "{} has no key '{key}'", TableName(self.0.part)),
+            Cause::WrongKind(kind) => write!(f, "'{key}' must be {kind}"),
+            Cause::OutOfRange(number, kind) => write!(f, "{key} = {number} is not {kind}"),
+            Cause::BadText(text, kind) => write!(f, "{key} {} is not {kind}", Excerpt(text)),
+        }
+    }
+}
+
+/// The name of a table, as it is written.
+#[derive(Clone, Copy, Debug)]
+struct TableName(Part);
+
+impl fmt::Display for TableName {
+    fn fmt<W: fmt::Write>(&self, f: &mut fmt::Formatter<W>) -> fmt::Result {
+        match self.0 {
+            Part::File => f.write_str("the file"),
+            Part::Node(number) => write!(f, "node {number}"),
+            Part::Link(number) => write!(f, "link {number}"),
+        }
+    }
+}
+
+fn keys_of(part: Part) -> &'static str {
+    match part {
+        Part::File => FILE_KEYS,
+        Part::Node(_) => NODE_KEYS,
+        Part::Link(_) => LINK_KEYS,
+    }
+}
