@@ -3,7 +3,7 @@ _babel() {
     local word=${COMP_WORDS[COMP_CWORD]} last=${COMP_WORDS[COMP_CWORD-1]}
     COMPREPLY=()
     if [ "$COMP_CWORD" -eq 1 ]; then
-        COMPREPLY=($(compgen -W "show check replay explain net speak run -h --help -V --version" -- "$word"))
+        COMPREPLY=($(compgen -W "show check replay explain net speak run ask -h --help -V --version" -- "$word"))
         return
     fi
     case "${COMP_WORDS[1]}" in
@@ -65,9 +65,17 @@ _babel() {
         --port) compopt +o default 2>/dev/null; return ;;
         --turns) compopt +o default 2>/dev/null; return ;;
         --keep) COMPREPLY=(); return ;;
+        --control) compopt +o default 2>/dev/null; return ;;
         esac
-        if [[ $word == -* ]]; then COMPREPLY=($(compgen -W "--router-id --announce --ipv4 --cost --hello --config --port --turns --keep --new --routes --ip --details -h --help" -- "$word")); return; fi
+        if [[ $word == -* ]]; then COMPREPLY=($(compgen -W "--router-id --announce --ipv4 --cost --hello --config --port --turns --keep --new --control --routes --ip --details -h --help" -- "$word")); return; fi
         COMPREPLY=($(compgen -W "$(ls /sys/class/net)" -- "$word"))
+        ;;
+    ask)
+        case "$last" in
+        --control) compopt +o default 2>/dev/null; return ;;
+        esac
+        if [[ $word == -* ]]; then COMPREPLY=($(compgen -W "--control --json --details -h --help" -- "$word")); return; fi
+        compopt +o default 2>/dev/null
         ;;
     esac
 }

@@ -1,6 +1,7 @@
 //! The command line.
 
 use crate::arguments::{details_arg, flag, option, positional};
+use crate::asking::{ask_command, run_ask};
 use crate::details::{details_of, explain_absence, explain_fault, explain_output, warn};
 use crate::forms::{
     Output, fault_form, files_of, form_of, json_arg, of_prefix_arg, only_arg, prefix_of,
@@ -194,6 +195,9 @@ where
         let mut input = input;
         return run_router(rt, arguments, &mut input, out, err);
     }
+    if command == "ask" {
+        return run_ask(rt, arguments, out, err);
+    }
     let details = details_of(arguments, err);
     // If writing the sentence fails, the status still reports the fault.
     match run_one(rt, command, arguments, out, err) {
@@ -382,7 +386,7 @@ fn run_net<F: AllocGlobal + Files, W: Write>(
 /// The commands and their arguments.
 fn command<'a>(alloc: Global) -> Result<Command<'a>, AllocError> {
     Command::new(alloc, "babel")
-        .version("0.3.0")
+        .version("0.4.0")
         .about("Shows what Babel (RFC 8966) datagrams mean, and what a speaker makes of them")
         .after_help(help::PROGRAM)
         .subcommand_required(true)
@@ -393,7 +397,8 @@ fn command<'a>(alloc: Global) -> Result<Command<'a>, AllocError> {
         .subcommand(explain_command(alloc)?)?
         .subcommand(net_command(alloc)?)?
         .subcommand(speak_command(alloc)?)?
-        .subcommand(router_command(alloc)?)
+        .subcommand(router_command(alloc)?)?
+        .subcommand(ask_command(alloc)?)
 }
 
 fn source_arg<'a>(alloc: Global) -> Arg<'a> {

@@ -2,11 +2,11 @@
 
 use crate::files::{FileFailure, MAX_TEXT_LEN, failure_of, log_line, octets_of, open_again};
 use crate::forms::until_of;
-use babel_commands::{Absence, Details, Fault, Log, absence_of};
+use babel_commands::{Absence, Details, EventFault, Fault, Log, absence_of};
 use babel_config::FileFault;
 use babel_file_details::{
-    FileKind, FileText, explain_config, explain_event, explain_file, explain_network,
-    explain_transport, write_warnings,
+    FileKind, FileText, explain_config, explain_event, explain_file, explain_hearing,
+    explain_network, explain_transport, write_warnings,
 };
 use babel_line_details::{LineProblem, ReportCode, explain_hex, explain_log_line};
 use babel_snapshot_file::{MAX_SNAPSHOT_LEN, SnapshotFileFault};
@@ -169,7 +169,12 @@ fn explain_text<F: AllocGlobal + Files, E: Write>(
         Fault::File(fault) => explain_file(rt.alloc(), file, kind, fault, err),
         Fault::Config(fault) => explain_config(rt.alloc(), file, fault, err),
         Fault::Net(fault) => explain_network(rt.alloc(), file, fault, err),
-        Fault::Event(number, fault) => explain_event(rt.alloc(), file, number, fault, err),
+        Fault::Event(number, EventFault::Ours(fault)) => {
+            explain_event(rt.alloc(), file, number, fault, err)
+        }
+        Fault::Event(number, EventFault::Heard(fault)) => {
+            explain_hearing(rt.alloc(), file, number, fault, err)
+        }
         Fault::Transport => explain_transport(rt.alloc(), file, err),
         _ => Ok(()),
     }
@@ -181,7 +186,12 @@ fn write_phrase<E: Write>(name: &str, fault: Fault, err: &mut E) -> io::Result<(
         Fault::File(fault) => writeln!(err, "{name}: {fault}"),
         Fault::Config(fault) => writeln!(err, "{name}: {fault}"),
         Fault::Net(fault) => writeln!(err, "{name}: {fault}"),
-        Fault::Event(number, fault) => writeln!(err, "{name}: event {number}: {fault}"),
+        Fault::Event(number, EventFault::Ours(fault)) => {
+            writeln!(err, "{name}: event {number}: {fault}")
+        }
+        Fault::Event(number, EventFault::Heard(fault)) => {
+            writeln!(err, "{name}: event {number}: {fault}")
+        }
         Fault::Transport => writeln!(err, "{name}: an interface has IPv6 transport"),
         _ => Ok(()),
     }

@@ -365,7 +365,10 @@ each next hop that changed, and at the end the numbers of events and of recorded
 datagrams:
   <event> hop <node> <prefix> -> <node> router <router-id>
   <event> hop <node> <prefix> -> none
+  <event> hop <node> <prefix> -> <address> router <router-id> next-hop <address>
   end <n> events <n> datagrams
+The third form is that of a route over a router that is no node, by its address.
+Its packets go to the next hop; node <node> follows if that is a node's address.
 An event that is refused is the last line: <event> refused <code>. Nodes, events
 and datagrams count from 0. Moments are in centiseconds. With --json each line
 is an object, and so is a fault on standard error (docs/JSON.md).
@@ -385,7 +388,11 @@ Events:
   announce N P      node N announces the prefix P, which its configuration lists
   withdraw N P      node N announces the prefix P no longer
   restart N T       node N is saved, and restored at the moment T
-A datagram may be delivered to any node, late, more than once, or never.
+  hear N I A T HEX  node N receives a datagram of a router that is no node, over
+                    its interface I from the address A: HEX are its octets, at
+                    most 65535, or - for none
+A datagram may be delivered to any node, late, more than once, or never. One that
+the node's speaker refuses (S2 and S3, P1 to P5) changes nothing.
 
 Exit status:
   0  all events were run
@@ -396,8 +403,8 @@ Codes of a refused event:
   N1  no such node                  N4  a cost outside 1 to 65534
   N2  no such datagram              N5  the node's configuration does not list
   N3  no such interface                 the prefix
-                                    N6  out of memory
-                                    N7  the prefix is not announced
+  N8  hear: the address is a        N6  out of memory
+      node's; tested before N1      N7  the prefix is not announced
 
 Codes of a network:
   M1  two interfaces with one       M5  more than 64 nodes
@@ -448,6 +455,9 @@ left out:
   [device.eth0]
   cost = 96    hello = 400    ipv4 = \"192.168.0.1/24\"
 
+With --control PATH the speaker answers on a Unix socket at PATH, as babeld does
+on its own (docs/CONTROL.md). `babel ask` asks it.
+
 A device that goes down and comes back, or is created again, is opened again. If
 it gets another address, the speaker starts again from its snapshot. Each change
 is a line on standard error.
@@ -478,4 +488,28 @@ that can't be read, then
   K9  FILE is there, with --new; or FILE or FILE.lock can't be written
   K1 to K7  as in babel check --help
   W2  a socket can't be made
+  W7  the control socket can't be made
   L7  writing failed                L8  out of memory";
+
+/// After the help of `ask`.
+pub(crate) const ASK: &str = "The speaker has to run with --control PATH. The questions are
+  neighbours    each neighbour, its Hellos as 16 bits with the newest first, and
+                the costs of receiving, sending and the link
+  routes        each route, its metric and the one that was advertised
+  why PREFIX    a sentence for each route of the prefix: whether it is used, or
+                why not
+  counts        what was counted since the speaker started
+
+Examples:
+  babel ask --control babel.sock neighbours
+  babel ask --control babel.sock why 10.1.0.0/16
+  babel ask --control babel.sock routes --json | jq -r .prefix
+
+Exit status:
+  0  answered
+  1  refused: the code is on standard error
+  2  the command line is not one of the commands
+
+Codes:
+  F3  the prefix can't be read      L7  writing failed
+  W7  no speaker answers at PATH    L8  out of memory";

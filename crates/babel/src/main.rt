@@ -5,6 +5,7 @@
 #![tactic(auto)]
 
 mod arguments;
+mod asking;
 mod command_line;
 mod details;
 mod files;

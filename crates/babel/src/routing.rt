@@ -113,6 +113,10 @@ fn explain_run<E: Write>(
             let name = names.get(number).copied().unwrap_or("");
             writeln!(err, "device {} {fault}", Excerpt(name))
         }
+        RunFault::Control => {
+            let path = arguments.get_str("control").unwrap_or("");
+            writeln!(err, "--control {} {fault}", Excerpt(path))
+        }
         RunFault::SnapshotFile(_) | RunFault::Restore(_) => {
             let name = arguments.get_str("keep").unwrap_or("");
             writeln!(err, "{name}: {fault}")
@@ -135,6 +139,7 @@ fn words_of<'m>(arguments: &'m ArgMatches<'_>) -> RunWords<'m> {
         port: arguments.get_one::<u16>("port").unwrap_or(DEFAULT_PORT),
         turns: arguments.get_one::<u64>("turns").unwrap_or(u64::MAX),
         keep,
+        control: arguments.get_str("control"),
         routes: printed(arguments, "routes"),
         commands: printed(arguments, "ip"),
     }

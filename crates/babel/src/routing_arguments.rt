@@ -108,10 +108,15 @@ fn with_output<'a>(alloc: Global, command: Command<'a>) -> Result<Command<'a>, A
         .arg(details_arg(alloc))
 }
 
-/// Where its snapshot is kept.
+/// Where its snapshot is kept, and where it can be asked.
 fn with_keep<'a>(alloc: Global, command: Command<'a>) -> Result<Command<'a>, AllocError> {
     let new = new_arg(alloc)?;
-    command.arg(keep_arg(alloc))?.arg(new)
+    command.arg(keep_arg(alloc))?.arg(new)?.arg(option(
+        alloc,
+        "control",
+        "PATH",
+        "A Unix socket on which the running speaker answers, as babeld's does",
+    ))
 }
 
 /// The arguments of the command.
