@@ -10,13 +10,13 @@ ghost use Rattle.babel_build.specs.Built.{is_room};
 
 use crate::states::{gives_router, next_hop_is_set, router_is_set, set_default, set_origin};
 use crate::tlvs::{
-    Datagram, put_ack, put_ack_request, put_dump_request, put_hello, put_ihu, put_next_hop,
-    put_retract_all, put_route_request, put_router_id, put_seqno_request, put_update,
+    Advertised, Datagram, put_ack, put_ack_request, put_dump_request, put_hello, put_ihu,
+    put_next_hop, put_retract_all, put_route_request, put_router_id, put_seqno_request, put_update,
 };
 use babel_message::Message;
 use babel_message::layout::update::{SETS_PREFIX, SETS_ROUTER_ID};
 use babel_packet::ParserState;
-use babel_value::{Addr, Metric, Prefix, RouterId, Seqno};
+use babel_value::{Addr, HelloKind, Prefix, RouterId};
 
 /// Appends the TLVs of a message, if they fit. Otherwise some of them may have been appended.
 pub(crate) fn put_message(
@@ -37,7 +37,7 @@ pub(crate) fn put_message(
             unicast,
             seqno,
             interval,
-        } => put_hello(datagram, unicast, seqno, interval),
+        } => put_hello(datagram, HelloKind::of(unicast), seqno, interval),
         Message::Ihu {
             to,
             rxcost,
@@ -50,9 +50,20 @@ pub(crate) fn put_message(
             seqno,
             metric,
             interval,
-        } => put_finite(
-            datagram, state, prefix, router, next_hop, seqno, metric, interval,
-        ),
+        } => {
+            let advertised = Advertised {
+                interval,
+                seqno,
+                metric,
+            };
+            put_finite(
+                datagram,
+                state,
+                prefix,
+                Origin { router, next_hop },
+                advertised,
+            )
+        }
         Message::Retraction { prefix, interval } => {
             put_retraction(datagram, state, prefix, interval)
         }
@@ -68,30 +79,35 @@ pub(crate) fn put_message(
     }
 }
 
+/// What the parser state may give an Update: the router-id and the next hop.
+#[derive(Clone, Copy, Debug)]
+struct Origin {
+    router: RouterId,
+    next_hop: Addr,
+}
+
 /// Appends an Update, after a Router-Id and a Next Hop if the reader needs them.
 #[inline]
 fn put_finite(
     datagram: &mut Datagram,
     state: &mut ParserState,
     prefix: Prefix,
-    router: RouterId,
-    next_hop: Addr,
-    seqno: Seqno,
-    metric: Metric,
-    interval: u16,
+    origin: Origin,
+    advertised: Advertised,
 ) -> bool
-    ensures fits { result ≡ is_room datagram.old.items (compressed.compressed state.old (messages.Update prefix router next_hop seqno metric interval)) }
+    ensures fits { result ≡ is_room datagram.old.items (compressed.compressed state.old (messages.Update prefix origin.router origin.next_hop advertised.seqno advertised.metric advertised.interval)) }
     ensures appended { OnTrue result (datagram.new.items
-        ≡ datagram.old.items ++ compressed.compressed state.old (messages.Update prefix router next_hop seqno metric interval)) }
+        ≡ datagram.old.items ++ compressed.compressed state.old (messages.Update prefix origin.router origin.next_hop advertised.seqno advertised.metric advertised.interval)) }
     ensures state { OnTrue result (state.new
-        ≡ state_with state.old (messages.Update prefix router next_hop seqno metric interval)) }
+        ≡ state_with state.old (messages.Update prefix origin.router origin.next_hop advertised.seqno advertised.metric advertised.interval)) }
     ensures kept { OnFalse result (take (length datagram.old.items) datagram.new.items ≡ datagram.old.items) }
     ensures unchanged { OnFalse result (state.new ≡ state.old) }
 {
+    let Origin { router, next_hop } = origin;
     let flags = flags_of(state, &prefix, router);
     let fits = put_needed_router_id(datagram, state, &prefix, router)
         && put_needed_next_hop(datagram, state, next_hop)
-        && put_update(datagram, state, flags, &prefix, interval, seqno, metric);
+        && put_update(datagram, state, flags, &prefix, advertised);
     if fits {
         set_origin(state, router, next_hop);
         set_default(state, prefix.addr());
@@ -158,15 +174,8 @@ fn put_retraction(
     ensures state { OnTrue result (state.new ≡ state_with state.old (messages.Retraction prefix interval)) }
     ensures unchanged { OnFalse result ((datagram.new ≡ datagram.old) × (state.new ≡ state.old)) }
 {
-    let fits = put_update(
-        datagram,
-        state,
-        SETS_PREFIX,
-        &prefix,
-        interval,
-        Seqno(0),
-        Metric::INFINITE,
-    );
+    let advertised = Advertised::retracted(interval);
+    let fits = put_update(datagram, state, SETS_PREFIX, &prefix, advertised);
     if fits {
         set_default(state, prefix.addr());
     }

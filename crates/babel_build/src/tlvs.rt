@@ -3,6 +3,8 @@
 ghost use Rattle.std.specs.Prelude.{◌≡◌, ◌<◌, ◌≤◌, ◌+◌, [], ◌∷◌, ◌++◌, length};
 ghost use Rattle.std.specs.Bool.{OnTrue, OnFalse};
 ghost use Rattle.babel_tlv.specs.Spelling.{spelled};
+ghost use Rattle.babel_value.specs.Hellos.{is_unicast};
+ghost use Rattle.babel_value.specs.Metrics.{infinity};
 ghost use Rattle.babel_message.specs.Layout as layout;
 ghost use Rattle.babel_message.specs.declared.messages.Message.TheVariants as messages;
 ghost use Rattle.babel_packet.specs.Payloads.{router_id_payload, next_hop_payload, two, prefix_encoding, prefix_written};
@@ -20,7 +22,7 @@ use babel_message::{
 };
 use babel_packet::ParserState;
 use babel_tlv::{DATAGRAM_LEN, MAX_PAYLOAD_LEN, TLV_HEADER_LEN};
-use babel_value::{Addr, Metric, Prefix, RouterId, Seqno};
+use babel_value::{Addr, HelloKind, Metric, Prefix, RouterId, Seqno};
 
 /// The datagram that is being built.
 pub(crate) type Datagram = ArrayVec<u8, DATAGRAM_LEN>;
@@ -76,15 +78,25 @@ pub(crate) fn put_ack(datagram: &mut Datagram, opaque: u16) -> bool
 }
 
 /// Hello (RFC 8966, section 4.6.5).
-pub(crate) fn put_hello(datagram: &mut Datagram, unicast: bool, seqno: Seqno, interval: u16) -> bool
-    ensures fits { result ≡ is_room datagram.old.items (one_tlv (messages.Hello unicast seqno interval)) }
-    ensures appended { OnTrue result (datagram.new.items ≡ datagram.old.items ++ one_tlv (messages.Hello unicast seqno interval)) }
+pub(crate) fn put_hello(
+    datagram: &mut Datagram,
+    kind: HelloKind,
+    seqno: Seqno,
+    interval: u16,
+) -> bool
+    ensures fits { result ≡ is_room datagram.old.items (one_tlv (messages.Hello (is_unicast kind) seqno interval)) }
+    ensures appended { OnTrue result (datagram.new.items ≡ datagram.old.items ++ one_tlv (messages.Hello (is_unicast kind) seqno interval)) }
     ensures unchanged { OnFalse result (datagram.new ≡ datagram.old) }
 {
-    let [f0, f1] = octets_of(if unicast { UNICAST } else { 0 });
     let [s0, s1] = octets_of(seqno.0);
     let [i0, i1] = octets_of(interval);
-    put_tlv(datagram, HELLO, &[f0, f1, s0, s1, i0, i1], &[])
+    match kind {
+        HelloKind::Unicast => {
+            let [f0, f1] = octets_of(UNICAST);
+            put_tlv(datagram, HELLO, &[f0, f1, s0, s1, i0, i1], &[])
+        }
+        HelloKind::Multicast => put_tlv(datagram, HELLO, &[0, 0, s0, s1, i0, i1], &[]),
+    }
 }
 
 /// I Heard You (RFC 8966, section 4.6.6).
@@ -126,6 +138,29 @@ pub(crate) fn put_next_hop(datagram: &mut Datagram, next_hop: Addr) -> bool
     put_tlv(datagram, NEXT_HOP, &[encoding, 0], octets)
 }
 
+/// What an Update advertises of a prefix.
+#[derive(Clone, Copy, Debug)]
+pub(crate) struct Advertised {
+    /// In centiseconds.
+    pub(crate) interval: u16,
+    pub(crate) seqno: Seqno,
+    pub(crate) metric: Metric,
+}
+
+impl Advertised {
+    /// A retraction: its seqno isn't read (RFC 8966, section 4.6.9).
+    #[inline]
+    pub(crate) fn retracted(interval: u16) -> Advertised
+        ensures { result ≡ record { interval = interval; seqno = 0; metric = infinity } }
+    {
+        Advertised {
+            interval,
+            seqno: Seqno(0),
+            metric: Metric::INFINITE,
+        }
+    }
+}
+
 /// The fields of an Update before its prefix.
 #[inline]
 fn update_fields(
@@ -133,15 +168,13 @@ fn update_fields(
     flags: u8,
     bits: u8,
     omitted: u8,
-    interval: u16,
-    seqno: Seqno,
-    metric: Metric,
+    advertised: Advertised,
 ) -> [u8; update::LEN]
-    ensures { result ≡ fields_of_update encoding flags bits omitted interval seqno metric [] }
+    ensures { result ≡ fields_of_update encoding flags bits omitted advertised.interval advertised.seqno advertised.metric [] }
 {
-    let [i0, i1] = octets_of(interval);
-    let [s0, s1] = octets_of(seqno.0);
-    let [m0, m1] = octets_of(metric.0);
+    let [i0, i1] = octets_of(advertised.interval);
+    let [s0, s1] = octets_of(advertised.seqno.0);
+    let [m0, m1] = octets_of(advertised.metric.0);
     [encoding, flags, bits, omitted, i0, i1, s0, s1, m0, m1]
 }
 
@@ -152,13 +185,12 @@ pub(crate) fn put_update(
     state: &ParserState,
     flags: u8,
     prefix: &Prefix,
-    interval: u16,
-    seqno: Seqno,
-    metric: Metric,
+    advertised: Advertised,
 ) -> bool
-    ensures fits { result ≡ is_room datagram.old.items (spelled layout.update (update_payload state.now flags prefix.now interval seqno metric)) }
+    ensures fits { result ≡ is_room datagram.old.items
+        (spelled layout.update (update_payload state.now flags prefix.now advertised.interval advertised.seqno advertised.metric)) }
     ensures appended { OnTrue result (datagram.new.items ≡ datagram.old.items
-        ++ spelled layout.update (update_payload state.now flags prefix.now interval seqno metric)) }
+        ++ spelled layout.update (update_payload state.now flags prefix.now advertised.interval advertised.seqno advertised.metric)) }
     ensures unchanged { OnFalse result (datagram.new ≡ datagram.old) }
 {
     let addr = prefix.addr();
@@ -166,15 +198,7 @@ pub(crate) fn put_update(
     let octets = reached(&addr, bits);
     let omitted = omitted(state, &addr, octets);
     let encoding = prefix_encoding(prefix);
-    let fields = update_fields(
-        encoding,
-        flags,
-        bits,
-        omitted as u8,
-        interval,
-        seqno,
-        metric,
-    );
+    let fields = update_fields(encoding, flags, bits, omitted as u8, advertised);
     put_tlv(datagram, UPDATE, &fields, &octets[omitted..])
 }
 
@@ -184,7 +208,12 @@ pub(crate) fn put_retract_all(datagram: &mut Datagram, interval: u16) -> bool
     ensures appended { OnTrue result (datagram.new.items ≡ datagram.old.items ++ one_tlv (messages.RetractAll interval)) }
     ensures unchanged { OnFalse result (datagram.new ≡ datagram.old) }
 {
-    let fields = update_fields(AE_WILDCARD, 0, 0, 0, interval, Seqno(0), Metric::INFINITE);
+    let retraction = Advertised {
+        interval,
+        seqno: Seqno(0),
+        metric: Metric::INFINITE,
+    };
+    let fields = update_fields(AE_WILDCARD, 0, 0, 0, retraction);
     put_tlv(datagram, UPDATE, &fields, &[])
 }
 

@@ -1,6 +1,6 @@
 -- The route table (RFC 8966, section 3.2.6): what updates, retractions and time make of its entries.
-use Rattle.std.specs.Prelude.{ℕ, Bool, List, Option, Some, None, nat_le, nat_lt, if◌then◌else◌}
-use Rattle.std.specs.List.{list_any}
+use Rattle.std.specs.Prelude.{ℕ, Bool, List, [], ◌∷◌, Option, Some, None, nat_le, nat_lt, if◌then◌else◌}
+use Rattle.std.specs.List.{filter, list_any}
 use Rattle.std.specs.Option.{option_map_or}
 use Rattle.std.specs.Ordering.{eq_by_cmp}
 use Rattle.std.specs.FinMap.{find, put}
@@ -80,6 +80,11 @@ kept_without peer key e = if is_from peer key then None else Some e
 abbrev pub forgotten : Peer → RouteEntries → RouteEntries
 forgotten peer = revised_entries (kept_without peer)
 
+-- The same of each of the neighbours.
+abbrev pub all_forgotten : List Peer → RouteEntries → RouteEntries
+all_forgotten [] es = es
+all_forgotten (peer ∷ peers) es = all_forgotten peers (forgotten peer es)
+
 -- What becomes of an entry in time: once its deadline is due it's retracted, and once more it goes (RFC 8966, section 3.5.4).
 abbrev pub expired_entry : ℕ → RouteKey → Entry → Option Entry
 expired_entry now key e =
@@ -89,3 +94,7 @@ expired_entry now key e =
 
 abbrev pub expired : ℕ → RouteEntries → RouteEntries
 expired now = revised_entries (expired_entry now)
+
+-- The routes whose deadline is due.
+abbrev pub routes_due : ℕ → RouteEntries → RouteEntries
+routes_due now = filter (λ e. nat_le e.1.deadline now)

@@ -45,6 +45,7 @@ struct Candidate {
 
 /// The selection of the prefix after this one: the candidate that no other comes before, and none if
 /// the prefix is the speaker's own.
+#[inline(always)]
 pub fn choose<E: Table<RouteKey, Entry>, T: Table<Source, SourceEntry>, C: Costs>(
     entries: &E,
     prefix: &Prefix,
@@ -87,6 +88,7 @@ pub fn peer_of(selection: &Option<Selection>) -> Option<Peer>
 
 /// The index of the candidate of the prefix that no other comes before, if this neighbour was selected before, and the
 /// index after the routes of the prefix. The first one is at the index `start`, or would be.
+#[inline(always)]
 pub fn first_from<E: Table<RouteKey, Entry>, T: Table<Source, SourceEntry>, C: Costs>(
     entries: &E,
     start: usize,
@@ -141,6 +143,7 @@ pub fn selection_at<E: Table<RouteKey, Entry>>(
 }
 
 /// The candidate found before, unless the new one comes before it.
+#[inline(always)]
 fn first_of_two<E: Table<RouteKey, Entry>>(
     entries: &E,
     found: Option<Candidate>,
@@ -199,6 +202,7 @@ fn rank_at<E: Table<RouteKey, Entry>>(
 }
 
 /// The metric of a route that is a candidate: it is feasible and its metric is finite.
+#[inline(always)]
 fn candidate_metric<T: Table<Source, SourceEntry>, C: Costs>(
     route: &(RouteKey, Entry),
     sources: &SourcesOver<T>,
@@ -221,6 +225,7 @@ fn candidate_metric<T: Table<Source, SourceEntry>, C: Costs>(
 }
 
 /// Whether the route is feasible against the source table (RFC 8966, section 3.5.1).
+#[inline(always)]
 fn is_feasible<T: Table<Source, SourceEntry>>(
     route: &(RouteKey, Entry),
     sources: &SourcesOver<T>,

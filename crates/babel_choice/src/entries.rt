@@ -3,7 +3,7 @@
 ghost use Rattle.babel_choice.specs.RouteKeys.{route_cmp, route_total, route_exact};
 
 use babel_table::{Due, Key, Steps};
-use babel_value::{Addr, Distance, Peer, Prefix, RouterId};
+use babel_value::{Addr, Distance, Peer, Prefix, RouterId, Source};
 use std::cmp::Ordering;
 use std::sync::ledger::Ledger;
 
@@ -23,10 +23,26 @@ impl Key for RouteKey {
 
     ghost exact = { route_exact };
 
+    #[inline(always)]
     fn compare<L: Ledger>(&self, other: &RouteKey, steps: &mut Steps<L>) -> Ordering {
         steps.tick();
         self.cmp(other)
     }
+}
+
+/// An update with a finite metric (RFC 8966, section 4.6.9).
+#[derive(Clone, Copy, Debug, PartialEq, Eq)]
+pub struct ReceivedUpdate {
+    /// The neighbour that sent it.
+    pub peer: Peer,
+    /// Its prefix and its router-id.
+    pub source: Source,
+    /// Its next hop.
+    pub next_hop: Addr,
+    /// Its seqno, and the metric that the neighbour advertised.
+    pub distance: Distance,
+    /// The time until the neighbour's next update, in centiseconds.
+    pub interval: u16,
 }
 
 /// A neighbour's route to a prefix, as advertised.

@@ -20,6 +20,6 @@ mod walks;
 pub use bounds::{Before, Through};
 pub use choices::{Costs, choose, first_from, peer_of, selection_at};
 pub use cursor::Cursor;
-pub use entries::{Entry, RouteKey, Selection};
+pub use entries::{Entry, ReceivedUpdate, RouteKey, Selection};
 pub use revisions::{Expiry, Flush, Retraction};
-pub use walks::{AllRoutes, AllSelections, PrefixRoutes};
+pub use walks::{AllRoutes, AllSelections, DueRoutes, PrefixRoutes};

@@ -3,12 +3,13 @@
 ghost use Rattle.std.specs.Prelude.{◌≡◌, ◌<◌, ℕ, false, Some, None, is_some, IsTrue};
 ghost use Rattle.std.specs.Option.{option_and_then, option_map_or};
 ghost use Rattle.babel_link.specs.Links.{new_link, history_of, with_history, hello_timer, first_history, later_history, fired_history, link_verdict, hello_link, ihu_link, unless_silent, fired_link, expired_link, ticked_link, link_rxcost, link_cost, is_heard, is_up_history, is_txcost_due, IsQuietUntil, KeepsCost};
+ghost use Rattle.babel_value.specs.Hellos.{is_unicast};
 ghost use Rattle.babel_value.specs.Moments.{later, hold_time};
 ghost use Rattle.babel_link.specs.Moments.{hello_patience};
 ghost use Rattle.babel_link.specs.Histories.{heard_verdict};
 
 use crate::{Heard, Marks};
-use babel_value::{Metric, Seqno, hold_time};
+use babel_value::{HelloKind, Metric, Seqno, hold_time};
 
 /// When the next Hello is missed.
 #[derive(Clone, Copy, Debug)]
@@ -148,41 +149,39 @@ impl Link {
         }
     }
 
-    fn history(&self, unicast: bool) -> Option<History>
-        ensures { result ≡ history_of unicast self.now }
+    fn history(&self, kind: HelloKind) -> Option<History>
+        ensures { result ≡ history_of (is_unicast kind) self.now }
     {
-        if unicast {
-            self.unicast
-        } else {
-            self.multicast
+        match kind {
+            HelloKind::Unicast => self.unicast,
+            HelloKind::Multicast => self.multicast,
         }
     }
 
-    fn with(self, unicast: bool, history: History) -> Link
-        ensures { result ≡ with_history unicast (Some history) self }
+    fn with(self, kind: HelloKind, history: History) -> Link
+        ensures { result ≡ with_history (is_unicast kind) (Some history) self }
     {
         let history = Some(history);
-        if unicast {
-            Link {
+        match kind {
+            HelloKind::Unicast => Link {
                 unicast: history,
                 ..self
-            }
-        } else {
-            Link {
+            },
+            HelloKind::Multicast => Link {
                 multicast: history,
                 ..self
-            }
+            },
         }
     }
 
     /// Handles a Hello. One that flushes the neighbour makes it again.
     #[tactic(auto, unfolding(crate::specs::Links::hello_link, crate::specs::Links::link_verdict, crate::specs::Histories::heard_verdict))]
-    pub(crate) fn hello(&mut self, now: u64, unicast: bool, seqno: Seqno, interval: u16) -> Heard
-        ensures verdict { result ≡ link_verdict unicast seqno self.old }
-        ensures link { self.new ≡ hello_link now unicast seqno interval self.old }
+    pub(crate) fn hello(&mut self, now: u64, kind: HelloKind, seqno: Seqno, interval: u16) -> Heard
+        ensures verdict { result ≡ link_verdict (is_unicast kind) seqno self.old }
+        ensures link { self.new ≡ hello_link now (is_unicast kind) seqno interval self.old }
     {
-        let Some(mut history) = self.history(unicast) else {
-            *self = self.with(unicast, History::first(now, seqno, interval));
+        let Some(mut history) = self.history(kind) else {
+            *self = self.with(kind, History::first(now, seqno, interval));
             return Heard::Kept;
         };
         let heard = history.hello(now, seqno, interval);
@@ -190,7 +189,7 @@ impl Link {
             Heard::Kept => *self,
             Heard::Flush => Link::new(),
         };
-        *self = link.with(unicast, history);
+        *self = link.with(kind, history);
         heard
     }
 
@@ -217,14 +216,14 @@ impl Link {
 
     /// The link after one kind's deadline was handled; `None` if that flushes the neighbour.
     #[tactic(auto, unfolding(crate::specs::Links::fired_link))]
-    fn fired(self, now: u64, unicast: bool) -> Option<Link>
-        ensures { result ≡ fired_link now unicast self }
+    fn fired(self, now: u64, kind: HelloKind) -> Option<Link>
+        ensures { result ≡ fired_link now (is_unicast kind) self }
     {
-        let Some(history) = self.history(unicast) else {
+        let Some(history) = self.history(kind) else {
             return Some(self);
         };
         match history.fired(now) {
-            Some(history) => self.with(unicast, history).unless_silent(),
+            Some(history) => self.with(kind, history).unless_silent(),
             None => Some(self),
         }
     }
@@ -249,8 +248,8 @@ impl Link {
     fn handled(self, now: u64) -> Option<Link>
         ensures { result ≡ ticked_link now self }
     {
-        let link = self.fired(now, false)?;
-        let link = link.fired(now, true)?;
+        let link = self.fired(now, HelloKind::Multicast)?;
+        let link = link.fired(now, HelloKind::Unicast)?;
         Some(link.expired(now))
     }
 

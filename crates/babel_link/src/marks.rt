@@ -4,7 +4,7 @@ ghost use Rattle.std.specs.Prelude.{◌≡◌, ◌≤◌, length};
 ghost use Rattle.babel_link.specs.Histories.{max_marks, first_marks, heard_marks, heard_verdict, missed_marks, is_up, has_received};
 ghost use Rattle.babel_link.specs.Words.{word_of};
 
-use crate::words::{NEAR, Word};
+use crate::words::{Mark, NEAR, Word};
 use babel_value::Seqno;
 use std::marker::Model;
 
@@ -71,7 +71,7 @@ impl Marks {
     pub fn missed(&mut self)
         ensures { self.new ≡ missed_marks self.old }
     {
-        self.word.push(false);
+        self.word.push(Mark::Missed);
         self.expected = self.expected.next();
     }
 

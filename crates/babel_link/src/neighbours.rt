@@ -12,7 +12,7 @@ ghost use Rattle.babel_link.specs.Places.{IsPlaceOf, IsGapFor};
 
 use crate::{CostChanges, Full, Heard, Link, Memory, Peers};
 use arrayvec::ArrayVec;
-use babel_value::{Metric, Peer, Seqno};
+use babel_value::{HelloKind, Metric, Peer, Seqno};
 use std::alloc::Global;
 use std::cell::Cell;
 use std::marker::Model;
@@ -220,7 +220,7 @@ impl Neighbours {
             Some(link) => link,
             None => Link::new(),
         };
-        let heard = link.hello(now, unicast, seqno, interval);
+        let heard = link.hello(now, HelloKind::of(unicast), seqno, interval);
         self.put(peer, place, link);
         Ok(heard)
     }
@@ -259,9 +259,23 @@ impl Neighbours {
         true
     }
 
+    /// Handles the deadlines that are due, as `tick`, and returns what that changed of the links' costs. `Several`
+    /// only means that this isn't known. Before the first deadline it looks at no neighbour.
+    pub fn tick_costs(&mut self, now: u64, gone: &mut ArrayVec<Peer, MAX_NEIGHBOURS>) -> CostChanges
+        ensures links { self.new ≡ tick_of now self.old }
+        ensures gone { gone.new.items ≡ gone_of now self.old }
+        ensures costs { result ≡ Nothing → (peer : Peer) (nominal : ℕ) → cost_of peer nominal self.new ≡ cost_of peer nominal self.old }
+        ensures others { (peer : Peer) → result ≡ One peer → KeepsOtherCosts peer self.old self.new }
+        ensures flushed { result ≢ Several → gone.new.items ≡ [] }
+    {
+        let changes = self.cost_changes(now);
+        let _ = self.tick(now, gone);
+        changes
+    }
+
     /// What a tick at this moment would change of the links' costs. `Several` only means that this isn't known. Before
     /// the first deadline it looks at no neighbour.
-    pub fn cost_changes(&self, now: u64) -> CostChanges
+    fn cost_changes(&self, now: u64) -> CostChanges
         ensures costs { result ≡ Nothing → (peer : Peer) (nominal : ℕ) → cost_of peer nominal (tick_of now self.now) ≡ cost_of peer nominal self.now }
         ensures others { (peer : Peer) → result ≡ One peer → KeepsOtherCosts peer self.now (tick_of now self.now) }
         ensures gone { result ≢ Several → gone_of now self.now ≡ [] }

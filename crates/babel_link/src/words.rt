@@ -2,7 +2,8 @@
 
 ghost use Rattle.std.specs.Prelude.{◌≡◌, ◌≤◌, ◌++◌, true, false, [], ◌∷◌, drop, length, replicate, nat_le, if◌then◌else◌};
 ghost use Rattle.babel_link.specs.Histories.{max_gap, max_marks, newest, is_up, has_received};
-ghost use Rattle.babel_link.specs.Words.{word_of};
+ghost use Rattle.babel_link.specs.Words.{is_received, word_of};
+ghost use Rattle.std.specs.Int.{from_bool};
 
 use std::marker::Model;
 
@@ -11,6 +12,27 @@ const ROOM: u8 = 16;
 
 /// How far a Hello may be from the expected one, either way.
 pub(crate) const NEAR: u16 = 16;
+
+/// What became of a Hello that was expected.
+#[derive(Clone, Copy)]
+pub(crate) enum Mark {
+    /// It came.
+    Received,
+    /// It was missed.
+    Missed,
+}
+
+impl Mark {
+    /// The mark as a bit.
+    fn bit(self) -> u16
+        ensures { result ≡ from_bool (is_received self) }
+    {
+        match self {
+            Mark::Received => 1,
+            Mark::Missed => 0,
+        }
+    }
+}
 
 /// The newest marks, at most as many as there is room for: the lowest bit is the newest mark, and a 1 a Hello that came.
 #[derive(Clone, Copy, Debug)]
@@ -45,10 +67,10 @@ impl Word {
     }
 
     /// Adds a mark. The oldest goes if there is no room.
-    pub(crate) fn push(&mut self, mark: bool)
-        ensures { self.new ≡ newest (mark ∷ self.old) }
+    pub(crate) fn push(&mut self, mark: Mark)
+        ensures { self.new ≡ newest (is_received mark ∷ self.old) }
     {
-        self.bits = (self.bits << 1) | u16::from(mark);
+        self.bits = (self.bits << 1) | mark.bit();
         if self.count < ROOM {
             self.count += 1;
         }
@@ -61,7 +83,7 @@ impl Word {
         // So that the proof knows that there is room for the marks that are there.
         let _ = &self.bits;
         for _ in 0..count {
-            self.push(false);
+            self.push(Mark::Missed);
         }
     }
 
@@ -94,7 +116,7 @@ impl Word {
         } else {
             self.forget(late);
         }
-        self.push(true);
+        self.push(Mark::Received);
     }
 
     /// Whether at least two of the newest three came.

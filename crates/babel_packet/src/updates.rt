@@ -90,14 +90,11 @@ fn read_update4(payload: &[u8], offset: usize, state: &mut ParserState, placed: 
     match octets {
         Some(octets) => {
             let prefix = Prefix::new_unchecked(Addr::V4(octets), payload[wire::PLEN]);
-            push_update(
-                prefix,
-                state.router,
-                state.hop4.map(Addr::V4),
-                payload,
-                offset,
-                placed,
-            )
+            let origin = Origin {
+                router: state.router,
+                next_hop: state.hop4.map(Addr::V4),
+            };
+            push_update(prefix, origin, payload, offset, placed)
         }
         None => push_ignored(placed, offset, Reason::NoDefaultPrefix),
     }
@@ -125,14 +122,11 @@ fn read_update6(payload: &[u8], offset: usize, state: &mut ParserState, placed: 
     match octets {
         Some(octets) => {
             let prefix = Prefix::new_unchecked(Addr::V6(octets), payload[wire::PLEN]);
-            push_update(
-                prefix,
-                state.router,
-                state.hop6.map(Addr::V6),
-                payload,
-                offset,
-                placed,
-            )
+            let origin = Origin {
+                router: state.router,
+                next_hop: state.hop6.map(Addr::V6),
+            };
+            push_update(prefix, origin, payload, offset, placed)
         }
         None => push_ignored(placed, offset, Reason::NoDefaultPrefix),
     }
@@ -227,30 +221,36 @@ fn router6(octets: Option<[u8; IPV6_LEN]>) -> Option<[u8; ROUTER_ID_LEN]>
     Some(router)
 }
 
+/// What an Update takes from the parser state, if it is set.
+#[derive(Clone, Copy)]
+struct Origin {
+    router: Option<[u8; ROUTER_ID_LEN]>,
+    next_hop: Option<Addr>,
+}
+
 /// The content of an Update of this prefix.
 #[inline(always)]
 #[tactic(auto, unfolding(crate::specs::Updates::update_of))]
 fn push_update(
     prefix: Prefix,
-    router: Option<[u8; ROUTER_ID_LEN]>,
-    next_hop: Option<Addr>,
+    origin: Origin,
     payload: &[u8],
     offset: usize,
     placed: &mut Vec<Placed>,
 )
     requires fields { layout.update_len ≤ length payload.now }
     requires room { vec_len placed.old < vec_capacity placed.old }
-    ensures { placed.new.items ≡ put placed.old.items offset (update_of prefix router next_hop payload.now) }
+    ensures { placed.new.items ≡ put placed.old.items offset (update_of prefix origin.router origin.next_hop payload.now) }
 {
     let interval = word(payload, wire::INTERVAL);
     let metric = Metric(word(payload, wire::METRIC));
     if metric == Metric::INFINITE {
         return push_message(placed, offset, Message::Retraction { prefix, interval });
     }
-    let Some(router) = router.and_then(RouterId::new) else {
+    let Some(router) = origin.router.and_then(RouterId::new) else {
         return push_ignored(placed, offset, Reason::NoRouterId);
     };
-    let Some(next_hop) = next_hop else {
+    let Some(next_hop) = origin.next_hop else {
         return push_ignored(placed, offset, Reason::NoNextHop);
     };
     if interval == 0 {

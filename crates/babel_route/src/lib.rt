@@ -17,6 +17,7 @@ pub use babel_choice::{Costs, Entry};
 pub use babel_sources::Sources;
 pub use babel_table::{Full, Memory, Steps, Table};
 pub use routes::{
-    PREFIX_PLACES, PrefixWalk, ROUTE_PLACES, RouteTable, Routes, RoutesOver, SelectionTable,
+    OnRepeat, PREFIX_PLACES, PrefixWalk, ROUTE_PLACES, Refreshed, RouteTable, Routes, RoutesOver,
+    SelectionTable,
 };
 pub use trail::Trail;

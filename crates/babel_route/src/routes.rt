@@ -6,7 +6,7 @@ ghost use Rattle.std.specs.FinMap.{find, is_sorted};
 ghost use Rattle.babel_value.specs.Orders.{prefix_cmp};
 ghost use Rattle.babel_route.specs.Rooms.{most_routes};
 ghost use Rattle.babel_choice.specs.RouteKeys.{route_cmp};
-ghost use Rattle.babel_choice.specs.Routes.{key_of, updated, retracted, retracted_all, has_routes_from, forgotten, expired};
+ghost use Rattle.babel_choice.specs.Routes.{key_of, updated, retracted, retracted_all, has_routes_from, forgotten, all_forgotten, expired, routes_due};
 ghost use Rattle.babel_choice.specs.Choices.{routes_of, choice};
 ghost use Rattle.babel_choice.specs.PrefixBounds.{is_beyond};
 ghost use Rattle.babel_route.specs.Selections.{choice_at, reselected, selection_at, SelectsTheFirst, places_taken, prefix_after};
@@ -18,17 +18,17 @@ mod refresh;
 mod room;
 
 use babel_choice::{
-    AllRoutes, AllSelections, Costs, Cursor, Entry, Expiry, Flush, PrefixRoutes, Retraction,
-    RouteKey, Selection, Through, choose,
+    AllRoutes, AllSelections, Costs, Cursor, DueRoutes, Entry, Expiry, Flush, PrefixRoutes,
+    ReceivedUpdate, Retraction, RouteKey, Selection, Through, choose,
 };
 use babel_sources::{SourceEntry, SourcesOver};
 use babel_table::{
-    Full, Memory, SortedTable, Table, find_in, find_near, least_due, places_below, set, set_near,
+    Full, Memory, SortedTable, Table, find_in, find_near, places_below, revise_dues, set,
 };
-use babel_value::{Addr, Distance, Peer, Prefix, RouterId, Source, hold_time};
+use babel_value::{Addr, Distance, Peer, Prefix, RouterId, Source};
 use current::replace_near;
 pub use prefix_walk::PrefixWalk;
-use room::is_crowded;
+pub use refresh::{OnRepeat, Refreshed};
 use std::alloc::Global;
 use std::marker::Model;
 
@@ -103,53 +103,18 @@ impl<E: Table<RouteKey, Entry>, S: Table<Prefix, Selection>> RoutesOver<E, S> {
         ensures ok { OnOk result (self.new ≡ record self.old { entries = updated now prefix peer router distance next_hop interval self.old.entries }) }
         ensures err { OnErr result (self.new ≡ self.old) }
     {
-        let mut cursor = Cursor::new();
-        self.update_near(
-            now,
-            prefix,
+        let update = ReceivedUpdate {
             peer,
-            router,
-            distance,
+            source: Source { prefix, router },
             next_hop,
-            interval,
-            &mut cursor,
-        )
-    }
-
-    /// The same. The search begins at the cursor, which goes to the route.
-    pub fn update_near(
-        &mut self,
-        now: u64,
-        prefix: Prefix,
-        peer: Peer,
-        router: RouterId,
-        distance: Distance,
-        next_hop: Addr,
-        interval: u16,
-        cursor: &mut Cursor,
-    ) -> Result<(), Full>
-        ensures full { IsErr result ↔ (IsNone (find route_cmp (key_of prefix peer) self.old.entries) × (places_taken self.old ≡ most_routes)) }
-        ensures ok { OnOk result (self.new ≡ record self.old { entries = updated now prefix peer router distance next_hop interval self.old.entries }) }
-        ensures err { OnErr result (self.new ≡ self.old) }
-    {
-        let key = RouteKey { prefix, peer };
-        let deadline = now.saturating_add(hold_time(interval));
-        let entry = Entry {
-            router,
             distance,
-            next_hop,
             interval,
-            deadline,
         };
-        let mut place = cursor.entry;
-        let known = find_near(&self.entries, &mut place, &key);
-        cursor.entry = place;
-        if known.is_none() && is_crowded(&self.entries, &self.selections) {
-            return Err(Full);
+        let mut cursor = Cursor::new();
+        match self.store_near(now, &update, OnRepeat::Store, &mut cursor) {
+            Ok(_) => Ok(()),
+            Err(full) => Err(full),
         }
-        self.due = self.due.min(deadline);
-        set_near(&mut self.entries, place, key, Some(entry));
-        Ok(())
     }
 
     /// Takes a neighbour's retraction of a prefix: the entry's metric becomes infinite, all else of it
@@ -181,8 +146,7 @@ impl<E: Table<RouteKey, Entry>, S: Table<Prefix, Selection>> RoutesOver<E, S> {
     {
         let found = has_routes_from(&self.entries, peer);
         if found {
-            self.entries.revise(&Retraction { now, peer: *peer });
-            self.due = least_due(&self.entries);
+            self.due = revise_dues(&mut self.entries, &Retraction { now, peer: *peer });
         }
         found
     }
@@ -191,15 +155,35 @@ impl<E: Table<RouteKey, Entry>, S: Table<Prefix, Selection>> RoutesOver<E, S> {
     pub fn forget(&mut self, peer: &Peer)
         ensures { self.new ≡ record self.old { entries = forgotten peer.now self.old.entries } }
     {
-        self.entries.revise(&Flush { peer: *peer });
-        self.due = least_due(&self.entries);
+        self.due = revise_dues(&mut self.entries, &Flush { peer: *peer });
     }
 
-    /// Whether a route may be due. If it returns `false`, none is; it looks at no route.
-    pub fn may_be_due(&self, now: u64) -> bool
-        ensures { IsFalse result → expired now self.now.entries ≡ self.now.entries }
+    /// Removes all routes of each of the neighbours.
+    pub fn forget_all(&mut self, peers: &[Peer])
+        ensures routes { self.new ≡ record self.old { entries = all_forgotten peers.now self.old.entries } }
+        ensures in_order { IsTrue (is_sorted route_cmp self.new.entries) }
+        ensures selections_in_order { IsTrue (is_sorted prefix_cmp self.new.selections) }
     {
-        self.due <= now
+        let mut left = peers;
+        while let Some((peer, rest)) = left.split_first() {
+            self.forget(peer);
+            left = rest;
+        }
+        // The tables are in order.
+        let _count = self.len();
+    }
+
+    /// The routes whose deadline is due, in the order of their keys. Before the first deadline it looks at no route.
+    pub fn due(&self, now: u64) -> DueRoutes<'_, E>
+        ensures routes { result ≡ routes_due now self.now.entries }
+        ensures few { length result ≤ ROUTE_PLACES }
+    {
+        let _count = self.entries.len();
+        if now < self.due {
+            DueRoutes::none(&self.entries)
+        } else {
+            DueRoutes::new(&self.entries, now)
+        }
     }
 
     /// Takes the deadlines that are due, each once: a route with a finite metric is retracted and its
@@ -208,12 +192,13 @@ impl<E: Table<RouteKey, Entry>, S: Table<Prefix, Selection>> RoutesOver<E, S> {
     pub fn expire(&mut self, now: u64) -> bool
         ensures routes { self.new ≡ record self.old { entries = expired now self.old.entries } }
         ensures quiet { IsFalse result → self.new ≡ self.old }
+        ensures in_order { IsTrue (is_sorted route_cmp self.new.entries) }
+        ensures selections_in_order { IsTrue (is_sorted prefix_cmp self.new.selections) }
     {
         if now < self.due {
             return false;
         }
-        self.entries.revise(&Expiry { now });
-        self.due = least_due(&self.entries);
+        self.due = revise_dues(&mut self.entries, &Expiry { now });
         true
     }
 
@@ -274,8 +259,14 @@ impl<E: Table<RouteKey, Entry>, S: Table<Prefix, Selection>> RoutesOver<E, S> {
 
     /// A walk over the prefixes that have an entry or a selection, in ascending order.
     pub fn prefixes(&self) -> PrefixWalk<'_, E, S>
-        ensures { result ≡ self.now }
+        ensures walk { result ≡ self.now }
+        ensures few { length self.now.entries ≤ ROUTE_PLACES }
+        ensures few_selections { length self.now.selections ≤ ROUTE_PLACES }
+        ensures in_order { IsTrue (is_sorted route_cmp self.now.entries) }
+        ensures selections_in_order { IsTrue (is_sorted prefix_cmp self.now.selections) }
     {
+        let _entries = self.entries.len();
+        let _selections = self.selections.len();
         PrefixWalk::new(&self.entries, &self.selections)
     }
 
@@ -324,6 +315,7 @@ impl<E: Table<RouteKey, Entry>, S: Table<Prefix, Selection>> RoutesOver<E, S> {
     }
 
     /// The same. The searches begin at the cursor, which goes to the prefix.
+    #[inline(always)]
     pub fn select_near<T: Table<Source, SourceEntry>, C: Costs>(
         &mut self,
         prefix: &Prefix,

@@ -1,1 +1,2 @@
+pub mod CollectionLemmas
 pub mod DueLemmas

@@ -1,6 +1,6 @@
 //! The source table (RFC 8966, section 3.2.5).
 
-ghost use Rattle.std.specs.Prelude.{◌≡◌, ◌+◌, ◌≤◌, ◌↔◌, [], length, slice_get, option_map, IfOk, OnOk, OnErr, IsErr, IsNone, IsTrue, IsFalse};
+ghost use Rattle.std.specs.Prelude.{◌≡◌, ◌+◌, ◌≤◌, ◌<◌, ◌↔◌, [], length, slice_get, option_map, IfOk, OnOk, OnErr, IsErr, IsNone, IsTrue, IsFalse};
 ghost use Rattle.std.specs.FinMap.{find, is_sorted};
 ghost use Rattle.babel_value.specs.Orders.{source_cmp};
 ghost use Rattle.babel_table.specs.Digits.{binary_digits};
@@ -9,7 +9,7 @@ ghost use Rattle.babel_sources.specs.Sources.{pair_of, lowered, collected, colle
 
 use babel_table::{
     Change, Due, Full, Memory, Revised, Revision, SortedTable, Sought, Steps, Table, find_in,
-    find_near, least_due,
+    find_near, revise_dues,
 };
 use babel_value::{Distance, Source};
 use std::alloc::Global;
@@ -102,6 +102,7 @@ impl<T: Table<Source, SourceEntry>> SourcesOver<T> {
 
     /// The same. The search begins near an index, which becomes that of the source, or the one at which it would
     /// be inserted.
+    #[inline(always)]
     pub fn pair_near(&self, source: &Source, near: &mut usize) -> Option<Distance>
         ensures { result ≡ pair_of source.now self.now }
     {
@@ -143,6 +144,7 @@ impl<T: Table<Source, SourceEntry>> SourcesOver<T> {
     }
 
     /// The same. The search begins near an index, as that of `pair_near`.
+    #[inline(always)]
     pub fn feasible_near(&self, source: Source, update: Distance, near: &mut usize) -> bool
         ensures { result ≡ is_feasible (pair_of source self.now) update }
     {
@@ -188,18 +190,19 @@ impl<T: Table<Source, SourceEntry>> SourcesOver<T> {
         }
     }
 
-    /// Removes each entry whose time of collection has come (RFC 8966, section 3.2.5). Returns `false` if
-    /// none is due; then it looks at no entry.
+    /// Removes each entry whose time of collection has come (RFC 8966, section 3.2.5). Returns whether there
+    /// was one. Before the first such moment it looks at no entry.
     pub fn collect(&mut self, now: u64) -> bool
         ensures sources { self.new ≡ collected now self.old }
+        ensures removed { IsTrue result → length self.new < length self.old }
         ensures quiet { IsFalse result → self.new ≡ self.old }
     {
         if now < self.due {
             return false;
         }
-        self.table.revise(&Collection { now });
-        self.due = least_due(&self.table);
-        true
+        let count = self.table.len();
+        self.due = revise_dues(&mut self.table, &Collection { now });
+        self.table.len() < count
     }
 }
 

@@ -2,8 +2,9 @@
 
 ghost use Rattle.std.specs.Prelude.{◌≡◌, ℕ};
 ghost use Rattle.babel_table.specs.Dues.{AreDueFrom};
+ghost use Rattle.babel_table.specs.Entries.{revised_entries};
 
-use crate::{Key, Table};
+use crate::{Key, Revision, Table};
 
 /// A value that is due from a moment on.
 pub trait Due: Copy {
@@ -26,4 +27,17 @@ pub fn least_due<K: Key, V: Due, T: Table<K, V>>(table: &T) -> u64
         }
     }
     least
+}
+
+/// Revises all entries of the table. Returns a moment before which no value that it then has is due.
+pub fn revise_dues<K: Key, V: Due, T: Table<K, V>, R: Revision<K, V>>(
+    table: &mut T,
+    revision: &R,
+) -> u64
+    ensures entries { T.entries table.new ≡ revised_entries (R.revised revision.now) (T.entries table.old) }
+    ensures room { T.room table.new ≡ T.room table.old }
+    ensures due { AreDueFrom V.due_of result (T.entries table.new) }
+{
+    table.revise(revision);
+    least_due(table)
 }

@@ -25,7 +25,7 @@ mod table;
 
 pub use babel_value::Memory;
 pub use bounds::{Bound, places_below};
-pub use dues::{Due, least_due};
+pub use dues::{Due, revise_dues};
 pub use errors::Full;
 pub use keys::{Key, Sought};
 pub use near::{find_near, places_below_near, set_near};

@@ -52,6 +52,7 @@ fn order_on<L: Ledger, K: Key>(key: &K, other: &K, blank: Blank) -> Ordering
 
 /// How many entries have a key below the bound, as `places_below`. It walks a few entries on from the index
 /// `near` if the entry there is below, and back otherwise.
+#[inline(always)]
 pub fn places_below_near<K: Key, V: Copy, T: Table<K, V>, B: Bound<K>>(
     table: &T,
     near: usize,
@@ -69,6 +70,7 @@ pub fn places_below_near<K: Key, V: Copy, T: Table<K, V>, B: Bound<K>>(
 }
 
 /// The same by a walk back from an index whose key isn't below the bound.
+#[inline(always)]
 fn places_below_back<K: Key, V: Copy, T: Table<K, V>, B: Bound<K>>(
     table: &T,
     near: usize,
@@ -122,6 +124,7 @@ fn places_below_from<K: Key, V: Copy, T: Table<K, V>, B: Bound<K>>(
 }
 
 /// The value at the key. `near` becomes the index of the key, or the one at which it would be inserted.
+#[inline(always)]
 pub fn find_near<K: Key, V: Copy, T: Table<K, V>>(table: &T, near: &mut usize, key: &K) -> Option<V>
     ensures { result ≡ find K.order key.now (T.entries table.now) }
 {
@@ -206,6 +209,7 @@ fn walk_back_for<K: Key, V: Copy, T: Table<K, V>>(table: &T, near: &mut usize, k
 
 /// Stores the value at the key, or removes the entry of the key if there is no value. The index is that
 /// of the key, or the one at which it would be inserted.
+#[inline(always)]
 pub fn set_near<K: Key, V: Copy, T: Table<K, V>>(
     table: &mut T,
     place: usize,

@@ -8,5 +8,6 @@ pub mod Prefixes
 pub mod Orders
 pub mod OrderLaws
 pub mod Moments
+pub mod Hellos
 pub mod Texts
 pub mod Lines

@@ -6,6 +6,7 @@
 mod addresses;
 mod distances;
 mod errors;
+mod hellos;
 mod keys;
 pub mod laws;
 mod lines;
@@ -20,6 +21,7 @@ mod texts;
 pub use addresses::{Addr, Family};
 pub use distances::Distance;
 pub use errors::{AddrTextFault, Memory};
+pub use hellos::HelloKind;
 pub use keys::{Peer, Source};
 pub use lines::{LINE_ROOM, Line};
 pub use metrics::Metric;

@@ -1,6 +1,6 @@
 //! Lines of text, put together before they are written at once.
 
-ghost use Rattle.std.specs.Prelude.{if◌then◌else◌, ◌≡◌, ◌+◌, ◌*◌, ◌/◌, ◌%◌, ◌<◌, ◌≤◌, [], ◌∷◌, ◌++◌, false, Some, codes, length, slice_index, take};
+ghost use Rattle.std.specs.Prelude.{if◌then◌else◌, ◌≡◌, ◌+◌, ◌*◌, ◌/◌, ◌%◌, ◌<◌, ◌≤◌, [], ◌∷◌, ◌++◌, false, Some, codes, length, nat_lt, slice_index, take};
 ghost use Rattle.std.specs.Fmt.{decimal, digits, digit_glyph};
 ghost use Rattle.babel_value.specs.Texts.{addr_text, ipv4_text, groups_text, group_text, prefix_text, router_text};
 ghost use Rattle.babel_value.specs.Lines.{line_room, last_digit, last_hex_digit};
@@ -67,16 +67,26 @@ impl Line {
         self.len = end;
     }
 
-    /// Appends an octet if it counts. It is written in any case, so that nothing branches on it.
+    /// Appends an octet.
     #[inline(always)]
-    fn push_if(&mut self, counts: bool, octet: u8)
+    fn push_octet(&mut self, octet: u8)
         requires room { length self.old + 1 ≤ line_room }
-        ensures text { self.new ≡ self.old ++ (if counts then octet ∷ [] else []) }
+        ensures text { self.new ≡ self.old ++ octet ∷ [] }
+    {
+        self.octets[self.len] = octet;
+        self.len += 1;
+    }
+
+    /// Appends an octet unless the number is 0. It is written in any case, so that nothing branches on it.
+    #[inline(always)]
+    fn push_unless_zero(&mut self, number: u16, octet: u8)
+        requires room { length self.old + 1 ≤ line_room }
+        ensures text { self.new ≡ self.old ++ (if nat_lt 0 number then octet ∷ [] else []) }
         ensures short { length self.new ≤ length self.old + 1 }
     {
         let len = self.len;
         self.octets[len] = octet;
-        self.len = len + usize::from(counts);
+        self.len = len + usize::from(number > 0);
     }
 
     /// The octets of the line.
@@ -149,7 +159,7 @@ impl Line {
         ensures text { self.new ≡ self.old ++ last_digit number }
         ensures short { length self.new ≤ length self.old + 1 }
     {
-        self.push_if(number > 0, b'0' + (number % 10) as u8);
+        self.push_unless_zero(number, b'0' + (number % 10) as u8);
     }
 
     /// Appends the last decimal digit of a number.
@@ -158,7 +168,7 @@ impl Line {
         requires room { length self.old + 1 ≤ line_room }
         ensures text { self.new ≡ self.old ++ (48 + number % 10) ∷ [] }
     {
-        self.push_if(true, b'0' + (number % 10) as u8);
+        self.push_octet(b'0' + (number % 10) as u8);
     }
 
     /// Appends a text, such as the name of a field, and a number in decimal.
@@ -195,7 +205,7 @@ impl Line {
         self.push_hex_digit(number / 0x1000);
         self.push_hex_digit(number / 0x100);
         self.push_hex_digit(number / 0x10);
-        self.push_if(true, hex_digit(number % 16));
+        self.push_octet(hex_digit(number % 16));
     }
 
     /// Appends the last hexadecimal digit of a number, but nothing if the number is 0.
@@ -205,7 +215,7 @@ impl Line {
         ensures text { self.new ≡ self.old ++ last_hex_digit number }
         ensures short { length self.new ≤ length self.old + 1 }
     {
-        self.push_if(number > 0, hex_digit(number % 16));
+        self.push_unless_zero(number, hex_digit(number % 16));
     }
 
     /// Appends four groups of an IPv6 address, from this octet on.

@@ -7,6 +7,7 @@ ghost use Rattle.babel_table.specs.Entries.{with_value};
 ghost use Rattle.babel_route.specs.Currency.{is_same_distance, is_same_entry, is_same_selection, is_current};
 
 use super::RoutesOver;
+use super::refresh::replace_at;
 use babel_choice::{Costs, Cursor, Entry, RouteKey, Selection, choose};
 use babel_sources::{SourceEntry, SourcesOver};
 use babel_table::{Table, find_near, set_near};
@@ -42,6 +43,7 @@ impl<E: Table<RouteKey, Entry>, S: Table<Prefix, Selection>> RoutesOver<E, S> {
 }
 
 /// Stores the new selection of the prefix, unless it is the old one.
+#[inline(always)]
 pub(crate) fn replace_near<S: Table<Prefix, Selection>>(
     selections: &mut S,
     place: usize,
@@ -57,7 +59,10 @@ pub(crate) fn replace_near<S: Table<Prefix, Selection>>(
     if is_same_selection(before, &after) {
         return;
     }
-    set_near(selections, place, prefix, after);
+    match (before, &after) {
+        (Some(_), Some(after)) => replace_at(selections, place, prefix, after),
+        _ => set_near(selections, place, prefix, after),
+    }
 }
 
 /// Whether the selections are the same, or both are none.

@@ -1,106 +1,156 @@
 //! Updates that repeat what the neighbour advertised. Most updates do. Only a deadline changes, and no choice
 //! (RFC 8966, sections 3.5.3 and 3.6).
 
-ghost use Rattle.std.specs.Prelude.{◌≡◌, ℕ, Bool, IfSome, IsSome, IsNone, is_some, option_map, if◌then◌else◌};
+ghost use Rattle.std.specs.Prelude.{◌≡◌, ◌↔◌, ℕ, Bool, true, Some, IfOk, OnOk, OnErr, IsErr, IfSome, IsSome, IsNone, option_map, if◌then◌else◌};
 ghost use Rattle.std.specs.Ordering.{eq_by_cmp};
 ghost use Rattle.std.specs.FinMap.{find, put};
 ghost use Rattle.babel_value.specs.declared.keys.Peer.{Peer};
 ghost use Rattle.babel_value.specs.Orders.{prefix_cmp, peer_cmp};
 ghost use Rattle.babel_table.specs.Entries.{with_value};
 ghost use Rattle.babel_choice.specs.RouteKeys.{route_cmp};
-ghost use Rattle.babel_choice.specs.Routes.{key_of, entry_of_update, updated};
+ghost use Rattle.babel_choice.specs.Routes.{key_of, updated};
 ghost use Rattle.babel_sources.specs.Sources.{Sources};
-ghost use Rattle.babel_route.specs.Selections.{selection_at, reselected, IsCurrent};
+ghost use Rattle.babel_route.specs.Rooms.{most_routes};
+ghost use Rattle.babel_route.specs.Selections.{selection_at, reselected, places_taken, IsCurrent};
 ghost use Rattle.babel_route.specs.Repeats.{is_repeated, refreshed};
 
 use super::RoutesOver;
 use super::current::is_same_entry;
-use babel_choice::{Cursor, Entry, RouteKey, Selection};
-use babel_table::{Key, Table, find_near};
-use babel_value::{Addr, Distance, Peer, Prefix, RouterId, hold_time};
+use super::room::is_crowded;
+use babel_choice::{Cursor, Entry, ReceivedUpdate, RouteKey, Selection};
+use babel_table::{Full, Key, Table, find_near, set_near};
+use babel_value::{Peer, Prefix, hold_time};
+
+/// What is done with an update that repeats its neighbour's entry.
+#[derive(Clone, Copy, Debug, PartialEq, Eq)]
+pub enum OnRepeat {
+    /// The selection of its prefix is current, and only its deadline is set again.
+    Refresh,
+    /// It is stored as any other, and its prefix is to be selected again.
+    Store,
+}
+
+/// The selection of a prefix before and after its deadline was set again, or `None` if the prefix is to be selected
+/// again.
+pub type Refreshed = Option<(Option<Selection>, Option<Selection>)>;
 
 impl<E: Table<RouteKey, Entry>, S: Table<Prefix, Selection>> RoutesOver<E, S> {
-    /// Takes a neighbour's finite update of a prefix if it repeats the neighbour's entry: only the deadline changes,
-    /// in the entry and in the selection of the prefix if that is of this neighbour. If the selection is current,
-    /// that is what a reselection of the prefix after the update would leave. Returns the selection before and
-    /// after. `None` if and only if the update is another one; then nothing changes. The searches begin at the
-    /// cursor, which goes to the route.
-    pub fn refresh_near(
+    /// Takes a neighbour's finite update of a prefix as `update` does. If it repeats the neighbour's entry, and that is
+    /// asked for, only the deadline changes, in the entry and in the selection of the prefix if that is of this
+    /// neighbour: if the selection is current, that is what a reselection of the prefix would leave. The searches
+    /// begin at the cursor, which goes to the route.
+    #[inline(always)]
+    pub fn store_near(
         &mut self,
         now: u64,
-        prefix: Prefix,
-        peer: Peer,
-        router: RouterId,
-        distance: Distance,
-        next_hop: Addr,
-        interval: u16,
+        update: &ReceivedUpdate,
+        on_repeat: OnRepeat,
         cursor: &mut Cursor,
-    ) -> Option<(Option<Selection>, Option<Selection>)>
-        ensures repeated { is_some result ≡ is_repeated (entry_of_update now router distance next_hop interval) (find route_cmp (key_of prefix peer) self.old.entries) }
-        ensures none { IsNone result → self.new ≡ self.old }
-        ensures before { IfSome result (λ r. r.0 ≡ selection_at prefix self.old) }
-        ensures after { IfSome result (λ r. r.1 ≡ selection_at prefix self.new) }
-        ensures routes { IsSome result → (sources : Sources) (cost : Peer → ℕ) (local : Bool) → IsCurrent sources cost prefix local self.old → self.new ≡ reselected sources cost prefix local (record self.old { entries = updated now prefix peer router distance next_hop interval self.old.entries }) }
+    ) -> Result<Refreshed, Full>
+        ensures full { IsErr result ↔ (IsNone (find route_cmp (key_of update.now.source.prefix update.now.peer) self.old.entries) × (places_taken self.old ≡ most_routes)) }
+        ensures err { OnErr result (self.new ≡ self.old) }
+        ensures stored { IfOk result (λ r. IsNone r → self.new ≡ record self.old { entries = updated now update.now.source.prefix update.now.peer update.now.source.router update.now.distance update.now.next_hop update.now.interval self.old.entries }) }
+        ensures asked { IfOk result (λ r. IsSome r → on_repeat ≡ OnRepeat.Refresh) }
+        ensures before { IfOk result (λ r. IfSome r (λ s. s.0 ≡ selection_at update.now.source.prefix self.old)) }
+        ensures after { IfOk result (λ r. IfSome r (λ s. s.1 ≡ selection_at update.now.source.prefix self.new)) }
+        ensures routes { IfOk result (λ r. IsSome r → (sources : Sources) (cost : Peer → ℕ) (local : Bool) → IsCurrent sources cost update.now.source.prefix local self.old → self.new ≡ reselected sources cost update.now.source.prefix local (record self.old { entries = updated now update.now.source.prefix update.now.peer update.now.source.router update.now.distance update.now.next_hop update.now.interval self.old.entries })) }
     {
-        let key = RouteKey { prefix, peer };
-        let deadline = now.saturating_add(hold_time(interval));
+        let key = RouteKey {
+            prefix: update.source.prefix,
+            peer: update.peer,
+        };
+        let deadline = now.saturating_add(hold_time(update.interval));
         let entry = Entry {
-            router,
-            distance,
-            next_hop,
-            interval,
+            router: update.source.router,
+            distance: update.distance,
+            next_hop: update.next_hop,
+            interval: update.interval,
             deadline,
         };
         let mut place = cursor.entry;
         let known = find_near(&self.entries, &mut place, &key);
         cursor.entry = place;
-        if !is_repeated(&entry, &known) {
-            return None;
+        let Some(old) = known else {
+            return match self.insert_near(place, key, entry) {
+                Ok(()) => Ok(None),
+                Err(full) => Err(full),
+            };
+        };
+        if on_repeat == OnRepeat::Refresh && is_repeated(&entry, &old) {
+            return Ok(Some(self.refresh_at(place, &key, &entry, cursor)));
         }
         self.due = self.due.min(deadline);
         replace_at(&mut self.entries, place, key, &entry);
+        Ok(None)
+    }
+
+    /// Stores the entry of a key that the table lacks. The index is the one at which it is inserted.
+    fn insert_near(&mut self, place: usize, key: RouteKey, entry: Entry) -> Result<(), Full>
+        requires new { IsNone (find route_cmp key self.old.entries) }
+        ensures full { IsErr result ↔ (places_taken self.old ≡ most_routes) }
+        ensures ok { OnOk result (self.new ≡ record self.old { entries = put route_cmp key entry self.old.entries }) }
+        ensures err { OnErr result (self.new ≡ self.old) }
+    {
+        if is_crowded(&self.entries, &self.selections) {
+            return Err(Full);
+        }
+        self.due = self.due.min(entry.deadline);
+        set_near(&mut self.entries, place, key, Some(entry));
+        Ok(())
+    }
+
+    /// Stores an entry that repeats that of its key, and sets the deadline of the prefix's selection if that is of the
+    /// same neighbour. Returns that selection before and after. The index is that of the key.
+    fn refresh_at(
+        &mut self,
+        place: usize,
+        key: &RouteKey,
+        entry: &Entry,
+        cursor: &mut Cursor,
+    ) -> (Option<Selection>, Option<Selection>)
+        requires repeated { is_repeated entry.now (find route_cmp key.now self.old.entries) ≡ true }
+        ensures before { result.0 ≡ selection_at key.now.prefix self.old }
+        ensures after { result.1 ≡ selection_at key.now.prefix self.new }
+        ensures routes { (sources : Sources) (cost : Peer → ℕ) (local : Bool) → IsCurrent sources cost key.now.prefix local self.old → self.new ≡ reselected sources cost key.now.prefix local (record self.old { entries = put route_cmp key.now entry.now self.old.entries }) }
+    {
+        self.due = self.due.min(entry.deadline);
+        replace_at(&mut self.entries, place, *key, entry);
         let near = &mut cursor.selection;
-        Some(refresh_selection(&mut self.selections, near, prefix, &peer, deadline))
+        refresh_selection(&mut self.selections, near, key, entry.deadline)
     }
 }
 
 /// Whether the new entry is the old one but for the deadline.
-fn is_repeated(new: &Entry, old: &Option<Entry>) -> bool
-    ensures { result ≡ is_repeated new.now old.now }
+fn is_repeated(new: &Entry, old: &Entry) -> bool
+    ensures { result ≡ is_repeated new.now (Some old.now) }
 {
-    match old {
-        Some(old) => {
-            let mut entry = *old;
-            entry.deadline = new.deadline;
-            is_same_entry(&entry, new)
-        }
-        None => false,
-    }
+    let mut entry = *old;
+    entry.deadline = new.deadline;
+    is_same_entry(&entry, new)
 }
 
-/// Sets the deadline of the selection of the prefix if it is of the neighbour. Returns the selection before and
+/// Sets the deadline of the selection of the key's prefix if it is of the key's neighbour. Returns the selection before and
 /// after. The search begins near an index, which becomes that of the prefix.
 fn refresh_selection<S: Table<Prefix, Selection>>(
     selections: &mut S,
     near: &mut usize,
-    prefix: Prefix,
-    peer: &Peer,
+    key: &RouteKey,
     deadline: u64,
 ) -> (Option<Selection>, Option<Selection>)
-    ensures before { result.0 ≡ find prefix_cmp prefix (S.entries selections.old) }
-    ensures after { result.1 ≡ option_map (refreshed peer.now deadline) (find prefix_cmp prefix (S.entries selections.old)) }
-    ensures entries { S.entries selections.new ≡ with_value prefix_cmp prefix (option_map (refreshed peer.now deadline) (find prefix_cmp prefix (S.entries selections.old))) (S.entries selections.old) }
+    ensures before { result.0 ≡ find prefix_cmp key.now.prefix (S.entries selections.old) }
+    ensures after { result.1 ≡ option_map (refreshed key.now.peer deadline) (find prefix_cmp key.now.prefix (S.entries selections.old)) }
+    ensures entries { S.entries selections.new ≡ with_value prefix_cmp key.now.prefix (option_map (refreshed key.now.peer deadline) (find prefix_cmp key.now.prefix (S.entries selections.old))) (S.entries selections.old) }
     ensures room { S.room selections.new ≡ S.room selections.old }
 {
-    let Some(before) = find_near(selections, near, &prefix) else {
+    let Some(before) = find_near(selections, near, &key.prefix) else {
         return (None, None);
     };
-    let is_own = is_of(&before, peer);
+    let is_own = is_of(&before, &key.peer);
     let after = with_deadline(&before, is_own, deadline);
     if !is_own {
         return (Some(before), Some(after));
     }
-    replace_at(selections, *near, prefix, &after);
+    replace_at(selections, *near, key.prefix, &after);
     (Some(before), Some(after))
 }
 
@@ -123,7 +173,12 @@ fn with_deadline(selection: &Selection, is_own: bool, deadline: u64) -> Selectio
 }
 
 /// Stores the value at a key that the table has. The index is that of the key, which only matters for speed.
-fn replace_at<K: Key, V: Copy, T: Table<K, V>>(table: &mut T, place: usize, key: K, value: &V)
+pub(crate) fn replace_at<K: Key, V: Copy, T: Table<K, V>>(
+    table: &mut T,
+    place: usize,
+    key: K,
+    value: &V,
+)
     requires known { IsSome (find K.order key (T.entries table.old)) }
     ensures entries { T.entries table.new ≡ put K.order key value.now (T.entries table.old) }
     ensures room { T.room table.new ≡ T.room table.old }

@@ -11,14 +11,14 @@ use Rattle.babel_route.proofs.routes.refresh.refresh_selection.Goals as goal
 pub returns-in_default-clause-entries : goal.returns-in_default-clause-entries
 returns-in_default-clause-entries g c =
     let es = g.S.Table.entries c.args.selections.now in
-    let new = option_map (refreshed c.args.peer.now c.args.deadline) in
-    sym (with_value_same prefix_cmp prefix_total prefix_exact c.args.prefix (new (find prefix_cmp c.args.prefix es)) es (g.met.S.Table.ordered c.args.selections.now)
+    let new = option_map (refreshed c.args.key.now.peer c.args.deadline) in
+    sym (with_value_same prefix_cmp prefix_total prefix_exact c.args.key.now.prefix (new (find prefix_cmp c.args.key.now.prefix es)) es (g.met.S.Table.ordered c.args.selections.now)
     (sym c.in_default.ensures ∙ ap new c.in_default.ensures))
 
 pub returns-then-not-is_own-clause-entries : goal.returns-then-not-is_own-clause-entries
 returns-then-not-is_own-clause-entries g c =
     let es = g.S.Table.entries c.args.selections.now in
-    let new = option_map (refreshed c.args.peer.now c.args.deadline) in
-    let same : refreshed c.args.peer.now c.args.deadline c.in-Some.before ≡ c.in-Some.before = refreshed_other c.args.peer.now c.args.deadline c.in-Some.before (sym c.is_of-is_own.ensures ∙ c.if-not-is_own.true) in
-    sym (with_value_same prefix_cmp prefix_total prefix_exact c.args.prefix (new (find prefix_cmp c.args.prefix es)) es (g.met.S.Table.ordered c.args.selections.now)
+    let new = option_map (refreshed c.args.key.now.peer c.args.deadline) in
+    let same : refreshed c.args.key.now.peer c.args.deadline c.in-Some.before ≡ c.in-Some.before = refreshed_other c.args.key.now.peer c.args.deadline c.in-Some.before (sym c.is_of-is_own.ensures ∙ c.if-not-is_own.true) in
+    sym (with_value_same prefix_cmp prefix_total prefix_exact c.args.key.now.prefix (new (find prefix_cmp c.args.key.now.prefix es)) es (g.met.S.Table.ordered c.args.selections.now)
     (sym c.in-Some.ensures ∙ ap (λ s. Some s) (sym same) ∙ ap new c.in-Some.ensures))

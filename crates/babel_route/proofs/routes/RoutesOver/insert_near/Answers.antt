@@ -1,0 +1,16 @@
+-- A new key takes a place, and one is free.
+use Rattle.std.proofs.Common.{◌∙◌, arith, sym}
+use Rattle.std.proofs.lemmas.Bool.{leb-false}
+use Rattle.babel_route.proofs.RoomLemmas.{put_within}
+use Rattle.babel_route.proofs.DueLemmas.{put_due}
+use Rattle.babel_route.proofs.routes.RoutesOver.insert_near.Goals as goal
+
+pub invariant_of-self : goal.invariant_of-self
+invariant_of-self g c =
+    let old = c.self.inside in
+    let kept = c.self.invariant in
+    let es = g.E.Table.entries old.entries in
+    let new_es = g.E.Table.entries c.set_near.new.table in
+    let within = put_within c.args.key c.args.entry es new_es (g.S.Table.entries old.selections) (g.met.E.Table.ordered old.entries) c.set_near.ensures.entries (λ none. leb-false 256 _ (sym c.if-is_crowded.ensures)) kept.2 in
+    let quiet = put_due c.min-self-inside.result old.due c.args.key c.args.entry es new_es (omega (arith, c.min-self-inside.ensures)) (omega (arith, c.min-self-inside.ensures)) c.set_near.ensures.entries kept.3 in
+    (c.set_near.ensures.room ∙ kept.0, kept.1, within, quiet)

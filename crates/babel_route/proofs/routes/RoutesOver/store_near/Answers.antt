@@ -1,0 +1,20 @@
+-- The entry of a known key has its place already.
+use Rattle.std.proofs.Common.{◌∙◌, arith, ap, is_some, true≢false}
+use Rattle.babel_choice.specs.declared.entries.Entry.{Entry}
+use Rattle.babel_choice.specs.Routes.{key_of}
+use Rattle.babel_route.proofs.RoomLemmas.{put_within}
+use Rattle.babel_route.proofs.DueLemmas.{put_due}
+use Rattle.babel_route.proofs.routes.RoutesOver.store_near.Goals as goal
+
+pub invariant_of-self : goal.invariant_of-self
+invariant_of-self g c =
+    let old = c.self.inside in
+    let kept = c.self.invariant in
+    let update = c.args.update.now in
+    let entry : Entry = record { router = update.source.router; distance = update.distance; next_hop = update.next_hop; interval = update.interval; deadline = c.saturating_add-deadline.result } in
+    let key = key_of update.source.prefix update.peer in
+    let es = g.E.Table.entries old.entries in
+    let new_es = g.E.Table.entries c.replace_at.new.table in
+    let within = put_within key entry es new_es (g.S.Table.entries old.selections) (g.met.E.Table.ordered old.entries) c.replace_at.ensures.entries (λ none. absurd (true≢false (ap is_some c.in-Some.ensures ∙ none))) kept.2 in
+    let quiet = put_due c.min-self-inside.result old.due key entry es new_es (omega (arith, c.min-self-inside.ensures)) (omega (arith, c.min-self-inside.ensures)) c.replace_at.ensures.entries kept.3 in
+    (c.replace_at.ensures.room ∙ kept.0, kept.1, within, quiet)
