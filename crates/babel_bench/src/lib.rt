@@ -8,7 +8,7 @@ ghost use Rattle.babel_bench.specs.Calls.{IsLastOffset, address_of, offset_of_la
 
 use babel_build::Builder;
 use babel_message::{Content, Placed, Refusal};
-use babel_packet::decode;
+use babel_packet::{decode, decode_into};
 use babel_value::Addr;
 use std::alloc::Global;
 use std::io;
@@ -25,6 +25,35 @@ pub extern "C" fn babel_bench_decode(alloc: Global, bytes: &[u8], source: &[u8])
 {
     match decode(alloc, bytes, source_of(source)) {
         Ok(placed) => last_offset(&placed),
+        Err(_) => 0,
+    }
+}
+
+/// Decodes the datagram this many times into one list that is kept, and returns the offset of the last TLV: 0 if the
+/// datagram is refused or if an allocation fails.
+///
+/// No clause states what is returned: the benchmark compares it with what `babel_bench_decode` returns.
+#[unsafe(no_mangle)]
+pub extern "C" fn babel_bench_decode_kept(
+    alloc: Global,
+    bytes: &[u8],
+    source: &[u8],
+    turns: usize,
+) -> usize {
+    let source = source_of(source);
+    let mut placed = Vec::new(alloc);
+    let mut last = 0;
+    for _ in 0..turns {
+        last = decode_once(bytes, source, &mut placed);
+    }
+    last
+}
+
+/// It is a call of its own, so that the compiler can't leave out all turns but the last.
+#[inline(never)]
+fn decode_once(bytes: &[u8], source: Addr, placed: &mut Vec<Placed>) -> usize {
+    match decode_into(bytes, source, placed) {
+        Ok(()) => last_offset(placed),
         Err(_) => 0,
     }
 }

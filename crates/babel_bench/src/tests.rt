@@ -1,6 +1,6 @@
 //! Each call once with ample memory: a function that always returns 0 meets its clause.
 
-use crate::{babel_bench_build, babel_bench_decode, babel_bench_text};
+use crate::{babel_bench_build, babel_bench_decode, babel_bench_decode_kept, babel_bench_text};
 use std::alloc::Global;
 use std::process::Abort;
 
@@ -23,6 +23,14 @@ fn last_place(rt: HostRuntime) {
         16
     );
     assert_eq!(rt; babel_bench_decode(alloc, &DATAGRAM[..29], FROM_IPV4), 0);
+}
+
+#[test]
+fn last_place_of_a_kept_list(rt: HostRuntime) {
+    let alloc = rt.alloc();
+    let (whole, cut) = (DATAGRAM.as_slice(), &DATAGRAM[..29]);
+    assert_eq!(rt; babel_bench_decode_kept(alloc, whole, FROM_IPV4, 3), 16);
+    assert_eq!(rt; babel_bench_decode_kept(alloc, cut, FROM_IPV4, 3), 0);
 }
 
 fn check_text(rt: &impl Abort, alloc: Global, datagram: &[u8], source: &[u8], wanted: &str) {

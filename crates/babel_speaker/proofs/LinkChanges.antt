@@ -15,16 +15,16 @@ use Rattle.babel_link.specs.declared.links.Link.{Link}
 use Rattle.babel_link.specs.declared.marks.Heard.{Heard}
 use Rattle.babel_link.specs.declared.marks.Heard.TheVariants.{Kept, Flush}
 use Rattle.babel_link.specs.Links.{hello_link, ihu_link}
-use Rattle.babel_link.specs.Neighbours.{Links, link_of, hello_of, hello_verdict, ihu_of, tick_of, gone_of, KeepsOtherCosts}
+use Rattle.babel_link.specs.Neighbours.{Links, link_of, hello_of, hello_verdict, ihu_of, KeepsOtherCosts}
 use Rattle.babel_table.specs.Firsts.{first_from, first_of}
 use Rattle.babel_table.proofs.LookupLemmas.{eq_turned}
 use Rattle.babel_choice.specs.declared.entries.Selection.{Selection}
-use Rattle.babel_choice.specs.Routes.{Route, RouteEntries, is_from}
+use Rattle.babel_choice.specs.Routes.{Route, RouteEntries, is_from, all_forgotten}
 use Rattle.babel_sources.specs.Sources.{Sources}
 use Rattle.babel_choice.specs.Choices.{is_of, routes_of, is_candidate, is_feasible_route, preference, rank_cmp, is_change, selection_of, peer_before, choice}
 use Rattle.babel_state.specs.Sameness.{has_prefix}
 use Rattle.babel_state.specs.State.{State, announces, cost_at, nominal_cost, selected_at}
-use Rattle.babel_state.specs.Hellos.{hears, forgets_flushed}
+use Rattle.babel_state.specs.Hellos.{hears, forget_neighbour, forgets_flushed}
 use Rattle.babel_state.specs.Ticks.{forget_each}
 use Rattle.babel_state.specs.CurrentSelections.{AreCurrent}
 use Rattle.babel_state.specs.SettledLaws.{with_ihu}
@@ -140,16 +140,20 @@ ihu_others now peer rxcost interval s t is current = subst (AreOthersCurrent pee
 
 -- ---- after a tick
 
+-- Forgetting the routes of each neighbour changes the route table alone.
+pub all_forgets : (peers : List Peer) (s : State) → record s { routes = record s.routes { entries = all_forgotten peers s.routes.entries } } ≡ forget_each peers s
+all_forgets [] s = refl
+all_forgets (peer ∷ peers) s = all_forgets peers (forget_neighbour peer s)
+
 -- It flushes no neighbour, and leaves the cost of each link but this one's.
-pub ticked_others : (now : ℕ) (peer : Peer) (s t : State) (links : Links) (gone : List Peer) → t ≡ forget_each gone (with_links links s) →
-    links ≡ tick_of now s.neighbours → gone ≡ gone_of now s.neighbours →
-    KeepsOtherCosts peer s.neighbours (tick_of now s.neighbours) → gone_of now s.neighbours ≡ [] →
+pub ticked_others : (peer : Peer) (s t : State) (links : Links) (gone : List Peer) → t ≡ forget_each gone (with_links links s) →
+    KeepsOtherCosts peer s.neighbours links → gone ≡ [] →
     AreCurrent s → AreOthersCurrent peer t
-ticked_others now peer s t links gone is ticked left others none current =
-    subst (AreOthersCurrent peer) (sym (is ∙ ap (λ peers. forget_each peers (with_links links s)) (left ∙ none) ∙ ap (λ ls. with_links ls s) ticked)) after
+ticked_others peer s t links gone is others none current =
+    subst (AreOthersCurrent peer) (sym (is ∙ ap (λ peers. forget_each peers (with_links links s)) none)) after
   where
     u : State
-    u = with_links (tick_of now s.neighbours) s
+    u = with_links links s
 
     differs : (q : Peer) → eq_by_cmp peer_cmp q peer ≡ false → q ≢ peer
     differs q other same = false≢true (sym other ∙ ap (λ p. eq_by_cmp peer_cmp p peer) same ∙ ap is_eq (tied_itself peer_total peer))

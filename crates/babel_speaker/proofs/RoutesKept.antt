@@ -3,7 +3,7 @@ use Rattle.std.specs.Prelude.{◌≡◌, ℕ, Bool, true, false, not, IsTrue, Is
 use Rattle.std.proofs.Common.{refl, sym, ◌∙◌, ap, true≢false}
 use Rattle.babel_value.specs.declared.keys.Peer.{Peer}
 use Rattle.babel_value.specs.Prefixes.{PrefixValue}
-use Rattle.babel_link.specs.Neighbours.{Links, tick_of, gone_of, cost_of}
+use Rattle.babel_link.specs.Neighbours.{Links, cost_of}
 use Rattle.babel_choice.specs.declared.entries.Selection.{Selection}
 use Rattle.babel_choice.specs.Routes.{RouteEntries}
 use Rattle.babel_state.specs.State.{State, PrefixSet, prefixes_in, nominal_cost, cost_at, selected_at, with_entries}
@@ -28,15 +28,14 @@ stored_routes prefix entries s t u old new alike is before after same unchanged 
     routes_through s t u (selected_routes prefix entries s t old new is before after (sym same ∙ so alike unchanged)) kept
 
 -- A tick flushes no neighbour and changes no cost.
-pub ticked_routes : (now : ℕ) (s t : State) (links : Links) (gone : List Peer) → t ≡ forget_each gone (record s { neighbours = links }) →
-    links ≡ tick_of now s.neighbours → gone ≡ gone_of now s.neighbours →
-    ((peer : Peer) (nominal : ℕ) → cost_of peer nominal (tick_of now s.neighbours) ≡ cost_of peer nominal s.neighbours) → gone_of now s.neighbours ≡ [] →
+pub ticked_routes : (s t : State) (links : Links) (gone : List Peer) → t ≡ forget_each gone (record s { neighbours = links }) →
+    ((peer : Peer) (nominal : ℕ) → cost_of peer nominal links ≡ cost_of peer nominal s.neighbours) → gone ≡ [] →
     KeepsRoutes s t
-ticked_routes now s t links gone is ticked left same none =
+ticked_routes s t links gone is same none =
     let after : State = record s { neighbours = links } in
-    let here : t ≡ after = is ∙ ap (λ peers. forget_each peers after) (left ∙ none) in
+    let here : t ≡ after = is ∙ ap (λ peers. forget_each peers after) none in
     parts_routes s t (λ prefix. ap (selected_at prefix) here)
-    (ap cost_at here ∙ (λ i peer. (ap (cost_of peer (nominal_cost peer.iface s)) ticked ∙ same peer (nominal_cost peer.iface s)) i))
+    (ap cost_at here ∙ (λ i peer. same peer (nominal_cost peer.iface s) i))
 
 -- The other deadlines concern no route.
 pub timed_routes : (now : ℕ) (s t u v : State) → t ≡ requests_ticked now s → u ≡ interfaces_ticked now t → v ≡ sources_ticked now u → KeepsRoutes s v

@@ -13,7 +13,7 @@ use Rattle.babel_state.specs.CurrentSelections.{AreCurrent}
 use Rattle.babel_state.proofs.CurrentLaws.{reselections_current}
 use Rattle.babel_state.proofs.SettledLemmas.{nothing_reselected, timers_settled, hello_current, ihu_current}
 use Rattle.babel_link.specs.declared.marks.Heard.TheVariants.{Kept}
-use Rattle.babel_link.specs.Neighbours.{Links, hello_verdict, tick_of, gone_of, cost_of}
+use Rattle.babel_link.specs.Neighbours.{Links, hello_verdict, cost_of}
 use Rattle.babel_state.specs.Hellos.{hears}
 use Rattle.babel_state.specs.SettledLaws.{with_ihu}
 use Rattle.babel_state.specs.State.{announces, nominal_cost, cost_at}
@@ -47,12 +47,11 @@ ihu_current_to now peer rxcost interval s t is same current =
 -- ---- deadlines of links
 
 -- If a tick flushes no neighbour and changes no cost, all stay current.
-pub ticked_current : (now : ℕ) (s t : State) (links : Links) (gone : List Peer) → t ≡ forget_each gone (record s { neighbours = links }) →
-    links ≡ tick_of now s.neighbours → gone ≡ gone_of now s.neighbours →
-    ((peer : Peer) (nominal : ℕ) → cost_of peer nominal (tick_of now s.neighbours) ≡ cost_of peer nominal s.neighbours) → gone_of now s.neighbours ≡ [] →
+pub ticked_current : (s t : State) (links : Links) (gone : List Peer) → t ≡ forget_each gone (record s { neighbours = links }) →
+    ((peer : Peer) (nominal : ℕ) → cost_of peer nominal links ≡ cost_of peer nominal s.neighbours) → gone ≡ [] →
     AreCurrent s → AreCurrent t
-ticked_current now s t links gone is ticked left same none current =
+ticked_current s t links gone is same none current =
     let after : State = record s { neighbours = links } in
-    subst AreCurrent (sym (is ∙ ap (λ peers. forget_each peers after) (left ∙ none)))
+    subst AreCurrent (sym (is ∙ ap (λ peers. forget_each peers after) none))
     (λ p. subst (λ cost. IsCurrent s.sources cost p (announces p s) s.routes)
-    (λ i peer. sym (ap (cost_of peer (nominal_cost peer.iface s)) ticked ∙ same peer (nominal_cost peer.iface s)) i) (current p))
+    (λ i peer. sym (same peer (nominal_cost peer.iface s)) i) (current p))

@@ -4,6 +4,7 @@ pub mod causes;
 pub mod hellos;
 pub mod messages;
 pub mod receiving;
+pub mod records;
 pub mod request_receivers;
 pub mod reselection;
 pub mod selection_changes;

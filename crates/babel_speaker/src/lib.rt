@@ -1,7 +1,7 @@
 //! A speaker of the Babel routing protocol (RFC 8966). The definitions of its state and of its steps are those of
 //! `babel_state`.
 //!
-//! - `speaker`: the calls. `settled` is the state with what only speeds it up; `inspecting` is what the calls report.
+//! - `speaker`: the calls. `settled` is the state with the `hints`, which only speed it up; `inspecting` is what the calls report.
 //! - `input`: datagrams, their messages, and the steps that each message makes.
 //! - `ticks`: what is due at a moment, and when the next thing is.
 //! - `output`: pending items, the messages that they mean, and the next datagram.
@@ -11,6 +11,7 @@
 #![tactic(auto)]
 
 mod decoded;
+mod hints;
 mod input;
 mod inspecting;
 pub mod laws;

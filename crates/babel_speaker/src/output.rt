@@ -5,3 +5,4 @@ pub mod forms;
 pub mod items;
 pub mod messages;
 pub mod queueing;
+pub mod records;

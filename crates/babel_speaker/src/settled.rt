@@ -20,21 +20,21 @@ ghost use Rattle.babel_state.specs.QueueLaws.{is_silent};
 ghost use Rattle.babel_speaker.specs.Sending.{are_encodable, fits_by, HaveTransports, IsBuiltFrom, MeansFrom};
 ghost use Rattle.babel_speaker.specs.Versions.{CountsChanges};
 
+use crate::hints::Hints;
 use crate::input::receiving::{receive, receive_decoded};
+use crate::input::records::Arrival;
 use crate::output::datagrams::next_datagram;
 use crate::state::Core;
-use crate::tables::Scratch;
 use crate::versions::{Version, has_grown, own_seqno};
 use arrayvec::ArrayVec;
 use babel_build::Builder;
 use babel_message::Placed;
-use babel_route::Trail;
 use babel_state::{
     Config, ConfigFault, NotAnnounced, Note, RecvFault, RestoreFault, SetCostFault, Target,
     TooManyPrefixes,
 };
 use babel_tlv::DATAGRAM_LEN;
-use babel_value::{Addr, Prefix};
+use babel_value::Prefix;
 use std::alloc::Global;
 use std::marker::Model;
 
@@ -43,7 +43,7 @@ use std::marker::Model;
 #[derive(Drop)]
 pub struct SettledCore {
     pub(crate) core: Core,
-    is_settled: bool,
+    hints: Hints,
     pub(crate) routes: Version,
     pub(crate) snapshot: Version,
 }
@@ -57,7 +57,7 @@ impl Model for SettledCore {
 
     ghost view = { λ s. record { state = s.core; routes_version = s.routes; snapshot_version = s.snapshot } };
 
-    ghost invariant = { λ s. IsTrue s.is_settled → AreCurrent s.core };
+    ghost invariant = { λ s. IsTrue s.hints.settled → AreCurrent s.core };
 }
 
 impl SettledCore {
@@ -68,14 +68,18 @@ impl SettledCore {
         ensures valid { IsOk result → IsNone (config_fault config.now) }
         ensures refused { IfErr result (λ fault. IsMakingFault (config_fault config.now) fault) }
     {
-        match crate::state::making::make(alloc, config) {
-            Ok(core) => Ok(SettledCore {
+        let core = match crate::state::making::make(alloc, config) {
+            Ok(core) => core,
+            Err(fault) => return Err(fault),
+        };
+        match Hints::new(alloc) {
+            Ok(hints) => Ok(SettledCore {
                 core,
-                is_settled: false,
+                hints,
                 routes: Version::first(),
                 snapshot: Version::first(),
             }),
-            Err(fault) => Err(fault),
+            Err(_) => Err(ConfigFault::Memory),
         }
     }
 
@@ -93,14 +97,18 @@ impl SettledCore {
         ensures refused { IfErr result (λ fault. IsRestoreFault (config_fault config.now) (restore_fault config.now.router_id octets.now) fault) }
         ensures snapshot { IfOk result (λ core. IsSnapshot (snapshot_in octets.now)) }
     {
-        match crate::state::restarts::restore(alloc, config, now, octets) {
-            Ok(core) => Ok(SettledCore {
+        let core = match crate::state::restarts::restore(alloc, config, now, octets) {
+            Ok(core) => core,
+            Err(fault) => return Err(fault),
+        };
+        match Hints::new(alloc) {
+            Ok(hints) => Ok(SettledCore {
                 core,
-                is_settled: false,
+                hints,
                 routes: Version::first(),
                 snapshot: Version::first(),
             }),
-            Err(fault) => Err(fault),
+            Err(_) => Err(RestoreFault::Config(ConfigFault::Memory)),
         }
     }
 
@@ -108,39 +116,22 @@ impl SettledCore {
     pub(crate) fn receive(
         &mut self,
         alloc: Global,
-        now: u64,
-        iface: u8,
-        source: Addr,
+        arrival: Arrival,
         octets: &[u8],
-        scratch: &mut Scratch,
-        trail: &mut Trail,
     ) -> Result<Vec<Note>, RecvFault>
-        ensures ok { IfOk result (λ notes. Receives now (record { iface = iface; addr = source }) (source_fault iface source self.old.state) (meaning octets.now source) self.old.state self.new.state notes.items) }
-        ensures refused { IfErr result (λ fault. IsRecvFault (source_fault iface source self.old.state) (meaning octets.now source) fault) }
+        ensures ok { IfOk result (λ notes. Receives arrival.now arrival.peer (source_fault arrival.peer.iface arrival.peer.addr self.old.state) (meaning octets.now arrival.peer.addr) self.old.state self.new.state notes.items) }
+        ensures refused { IfErr result (λ fault. IsRecvFault (source_fault arrival.peer.iface arrival.peer.addr self.old.state) (meaning octets.now arrival.peer.addr) fault) }
         ensures unchanged { OnErr result (self.new ≡ self.old) }
         ensures counted { CountsChanges self.old self.new }
     {
-        let mut settled = self.is_settled;
-        let mut changed = false;
         let seqno = own_seqno(&self.core);
         let raises = self.core.raises();
-        let core = &mut self.core;
-        let notes = match receive(
-            core,
-            alloc,
-            now,
-            iface,
-            source,
-            octets,
-            &mut settled,
-            &mut changed,
-            scratch,
-            trail,
-        ) {
+        self.hints.changed = false;
+        let notes = match receive(&mut self.core, alloc, arrival, octets, &mut self.hints) {
             Ok(notes) => notes,
             Err(fault) => return Err(fault),
         };
-        self.is_settled = settled;
+        let changed = self.hints.changed;
         self.routes.note(changed);
         self.snapshot.note(has_grown(&self.core, seqno, raises));
         Ok(notes)
@@ -150,39 +141,22 @@ impl SettledCore {
     pub(crate) fn receive_decoded(
         &mut self,
         alloc: Global,
-        now: u64,
-        iface: u8,
-        source: Addr,
+        arrival: Arrival,
         placed: &[Placed],
-        scratch: &mut Scratch,
-        trail: &mut Trail,
     ) -> Result<Vec<Note>, RecvFault>
-        ensures ok { IfOk result (λ notes. Receives now (record { iface = iface; addr = source }) (source_fault iface source self.old.state) (Ok placed.now) self.old.state self.new.state notes.items) }
-        ensures refused { IfErr result (λ fault. IsRecvFault (source_fault iface source self.old.state) (Ok placed.now) fault) }
+        ensures ok { IfOk result (λ notes. Receives arrival.now arrival.peer (source_fault arrival.peer.iface arrival.peer.addr self.old.state) (Ok placed.now) self.old.state self.new.state notes.items) }
+        ensures refused { IfErr result (λ fault. IsRecvFault (source_fault arrival.peer.iface arrival.peer.addr self.old.state) (Ok placed.now) fault) }
         ensures unchanged { OnErr result (self.new ≡ self.old) }
         ensures counted { CountsChanges self.old self.new }
     {
-        let mut settled = self.is_settled;
-        let mut changed = false;
         let seqno = own_seqno(&self.core);
         let raises = self.core.raises();
-        let core = &mut self.core;
-        let notes = match receive_decoded(
-            core,
-            alloc,
-            now,
-            iface,
-            source,
-            placed,
-            &mut settled,
-            &mut changed,
-            scratch,
-            trail,
-        ) {
+        self.hints.changed = false;
+        let notes = match receive_decoded(&mut self.core, alloc, arrival, placed, &mut self.hints) {
             Ok(notes) => notes,
             Err(fault) => return Err(fault),
         };
-        self.is_settled = settled;
+        let changed = self.hints.changed;
         self.routes.note(changed);
         self.snapshot.note(has_grown(&self.core, seqno, raises));
         Ok(notes)
@@ -190,13 +164,12 @@ impl SettledCore {
 
     /// Takes all deadlines that are due. The snapshot changes only if a source is collected, and then the speaker isn't
     /// settled.
-    pub(crate) fn tick(&mut self, now: u64, scratch: &mut Scratch)
+    pub(crate) fn tick(&mut self, now: u64)
         ensures state { self.new.state ≡ ticked now self.old.state }
         ensures counted { CountsChanges self.old self.new }
     {
-        let mut changed = false;
-        let settled = self.core.tick(now, self.is_settled, &mut changed, scratch);
-        self.is_settled = settled;
+        self.core.tick(now, &mut self.hints);
+        let (changed, settled) = (self.hints.changed, self.hints.settled);
         self.routes.note(changed);
         self.snapshot.note(!settled);
     }
@@ -208,7 +181,7 @@ impl SettledCore {
         ensures current { 0 < result → AreCurrent self.now.state }
         ensures deadline { self.now.state.pending.items ≡ [] → AreCurrent self.now.state → result ≡ next_deadline self.now.state }
     {
-        crate::ticks::deadlines::next_due(&self.core, self.is_settled)
+        crate::ticks::deadlines::next_due(&self.core, &self.hints)
     }
 
     /// Raises the speaker's own seqno by 1.
@@ -216,7 +189,7 @@ impl SettledCore {
         ensures state { self.new.state ≡ raised self.old.state }
         ensures counted { CountsChanges self.old self.new }
     {
-        self.is_settled = false;
+        self.hints.settled = false;
         self.core.raise();
         self.snapshot.note(true);
     }
@@ -229,7 +202,7 @@ impl SettledCore {
         ensures err { OnErr result (self.new ≡ self.old) }
         ensures counted { CountsChanges self.old self.new }
     {
-        self.is_settled = false;
+        self.hints.settled = false;
         match crate::state::settings::set_cost(&mut self.core, iface, cost) {
             Ok(()) => {
                 self.routes.note(true);
@@ -246,7 +219,7 @@ impl SettledCore {
         ensures err { OnErr result (self.new ≡ self.old) }
         ensures counted { CountsChanges self.old self.new }
     {
-        self.is_settled = false;
+        self.hints.settled = false;
         match crate::state::settings::announce(&mut self.core, prefix) {
             Ok(()) => {
                 self.routes.note(true);
@@ -263,7 +236,7 @@ impl SettledCore {
         ensures err { OnErr result (self.new ≡ self.old) }
         ensures counted { CountsChanges self.old self.new }
     {
-        self.is_settled = false;
+        self.hints.settled = false;
         match crate::state::settings::withdraw(&mut self.core, prefix) {
             Ok(()) => {
                 self.routes.note(true);
@@ -295,17 +268,9 @@ impl SettledCore {
             out.clear();
             return None;
         }
-        let mut settled = self.is_settled;
-        let mut lowered = false;
-        let target = next_datagram(
-            &mut self.core,
-            now,
-            out,
-            builder,
-            &mut settled,
-            &mut lowered,
-        );
-        self.is_settled = settled;
+        self.hints.lowered = false;
+        let target = next_datagram(&mut self.core, now, out, builder, &mut self.hints);
+        let lowered = self.hints.lowered;
         self.snapshot.note(lowered);
         target
     }

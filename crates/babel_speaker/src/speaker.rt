@@ -30,12 +30,11 @@ ghost use Rattle.babel_speaker.specs.Sending.{fits_by, IsBuiltFrom, MeansFrom};
 ghost use Rattle.babel_speaker.specs.Versions.{CountsChanges};
 
 use crate::decoded::{Decoded, decoded_are_encodable, is_encodable_again};
+use crate::input::records::Arrival;
 use crate::settled::SettledCore;
-use crate::tables::Scratch;
 use arrayvec::ArrayVec;
 use babel_build::Builder;
 use babel_choice::{Entry, Selection};
-use babel_route::Trail;
 use babel_state::laws::{
     calls_move, datagrams_send, items_mean_messages, restarts_are_seen, selected_routes_are_good,
     selections_are_current, selections_stay_current, states_are_well_formed,
@@ -61,8 +60,6 @@ use std::marker::Model;
 pub struct Speaker {
     alloc: Global,
     pub(crate) core: SettledCore,
-    scratch: Scratch,
-    trail: Trail,
     // Each datagram is built here, so that its room isn't moved.
     builder: Builder,
 }
@@ -114,19 +111,13 @@ impl Speaker {
         selected_routes_are_good();
         let seqno = config.seqno;
         seqno_fits(seqno);
-        let core = match SettledCore::new(alloc, config) {
-            Ok(core) => core,
-            Err(fault) => return Err(fault),
-        };
-        match Scratch::new(alloc) {
-            Ok(scratch) => Ok(Speaker {
+        match SettledCore::new(alloc, config) {
+            Ok(core) => Ok(Speaker {
                 alloc,
                 core,
-                scratch,
-                trail: Trail::new(),
                 builder: Builder::new(Addr::default()),
             }),
-            Err(_) => Err(ConfigFault::Memory),
+            Err(fault) => Err(fault),
         }
     }
 
@@ -189,19 +180,13 @@ impl Speaker {
         ensures current { IfOk result (λ speaker. AreCurrent speaker.state) }
     {
         restarts_are_seen();
-        let core = match SettledCore::restore(alloc, config, now, octets) {
-            Ok(core) => core,
-            Err(fault) => return Err(fault),
-        };
-        match Scratch::new(alloc) {
-            Ok(scratch) => Ok(Speaker {
+        match SettledCore::restore(alloc, config, now, octets) {
+            Ok(core) => Ok(Speaker {
                 alloc,
                 core,
-                scratch,
-                trail: Trail::new(),
                 builder: Builder::new(Addr::default()),
             }),
-            Err(_) => Err(RestoreFault::Config(ConfigFault::Memory)),
+            Err(fault) => Err(fault),
         }
     }
 
@@ -226,8 +211,9 @@ impl Speaker {
         selections_stay_current();
         decoded_are_encodable(octets, &source);
         let alloc = self.alloc;
-        let scratch = &mut self.scratch;
-        self.core.receive(alloc, now, iface, source, octets, scratch, &mut self.trail)
+        let addr = source;
+        let peer = Peer { iface, addr };
+        self.core.receive(alloc, Arrival { now, peer }, octets)
     }
 
     /// The same for a datagram that is decoded already.
@@ -249,16 +235,12 @@ impl Speaker {
         is_encodable_again(decoded);
         let alloc = self.alloc;
         let source = decoded.source();
-        let scratch = &mut self.scratch;
-        self.core.receive_decoded(
-            alloc,
-            now,
+        let peer = Peer {
             iface,
-            source,
-            decoded.placed(),
-            scratch,
-            &mut self.trail,
-        )
+            addr: source,
+        };
+        self.core
+            .receive_decoded(alloc, Arrival { now, peer }, decoded.placed())
     }
 
     /// Takes all deadlines that are due (RFC 8966, sections 3.2.5, 3.4, 3.5.4, 3.7.1 and 3.8.2.1).
@@ -271,7 +253,7 @@ impl Speaker {
         states_are_well_formed();
         calls_move();
         selections_are_current();
-        self.core.tick(now, &mut self.scratch);
+        self.core.tick(now);
     }
 
     /// The moment before which a tick changes nothing: until then a caller need only wait for datagrams.

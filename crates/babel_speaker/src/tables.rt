@@ -10,6 +10,7 @@ pub mod prefixes;
 pub mod reachable;
 pub mod requests;
 pub mod scratch;
+pub mod selection_inputs;
 pub mod timers;
 
 pub use announced::Announced;
@@ -18,5 +19,6 @@ pub use link_costs::{LinkChange, LinkCosts};
 pub use pending_items::PendingItems;
 pub use prefixes::Prefixes;
 pub use reachable::Reachable;
-pub use requests::RequestTable;
+pub use requests::{RequestTable, SeqnoRequest};
 pub use scratch::Scratch;
+pub use selection_inputs::SelectionInputs;

@@ -10,12 +10,14 @@ ghost use Rattle.babel_state.specs.SettledLaws.{with_ihu};
 ghost use Rattle.babel_speaker.specs.LinkChanges.{AreOthersCurrent};
 ghost use Rattle.babel_speaker.specs.declared.tables.link_costs.LinkChange.TheVariants.{Nothing, Cost};
 
+use crate::hints::Hints;
+use crate::input::records::{Arrival, ReceivedHello, ReceivedIhu};
 use crate::state::Core;
+use crate::tables::LinkChange;
 use crate::tables::addresses::is_own_address;
-use crate::tables::{LinkChange, Scratch};
 use babel_link::{Full, Heard};
 use babel_state::Verdict;
-use babel_value::{Addr, Metric, Peer, Seqno};
+use babel_value::{Addr, Metric, Peer};
 
 impl Core {
     /// Whether an IHU is for this speaker: it is for all, or for an own address of the interface over
@@ -54,22 +56,19 @@ impl Core {
     }
 
     /// Takes a Hello into the neighbour table, and removes the routes of a neighbour that it flushes.
-    fn take_hello(
-        &mut self,
-        now: u64,
-        peer: &Peer,
-        unicast: bool,
-        seqno: Seqno,
-        interval: u16,
-    ) -> Result<Heard, Full>
-        ensures full { IsErr result ↔ (is_neighbour_too_many peer.now self.old ≡ true) }
-        ensures ok { OnOk result (self.new ≡ hears now peer.now unicast seqno interval self.old) }
+    fn take_hello(&mut self, arrival: Arrival, hello: &ReceivedHello) -> Result<Heard, Full>
+        ensures full { IsErr result ↔ (is_neighbour_too_many arrival.peer self.old ≡ true) }
+        ensures ok { OnOk result (self.new ≡ hears arrival.now arrival.peer hello.now.unicast hello.now.seqno hello.now.interval self.old) }
         ensures err { OnErr result (self.new ≡ self.old) }
-        ensures heard { IfOk result (λ heard. heard ≡ hello_verdict peer.now unicast seqno self.old.neighbours) }
+        ensures heard { IfOk result (λ heard. heard ≡ hello_verdict arrival.peer hello.now.unicast hello.now.seqno self.old.neighbours) }
     {
-        match self.neighbours.hello(now, *peer, unicast, seqno, interval) {
+        let (now, peer) = (arrival.now, arrival.peer);
+        match self
+            .neighbours
+            .hello(now, peer, hello.unicast, hello.seqno, hello.interval)
+        {
             Ok(heard) => {
-                self.forget_flushed(heard, peer);
+                self.forget_flushed(heard, &peer);
                 Ok(heard)
             }
             Err(full) => Err(full),
@@ -78,25 +77,19 @@ impl Core {
 
     /// The same. Returns what changed: if nothing, all selections that were current are so, and the selected routes are
     /// reported as before; if the cost of the link to the peer alone, those of the prefixes to which the peer has no route.
-    fn hear(
-        &mut self,
-        now: u64,
-        peer: &Peer,
-        unicast: bool,
-        seqno: Seqno,
-        interval: u16,
-    ) -> Result<LinkChange, Full>
-        ensures full { IsErr result ↔ (is_neighbour_too_many peer.now self.old ≡ true) }
-        ensures ok { OnOk result (self.new ≡ hears now peer.now unicast seqno interval self.old) }
+    fn hear(&mut self, arrival: Arrival, hello: &ReceivedHello) -> Result<LinkChange, Full>
+        ensures full { IsErr result ↔ (is_neighbour_too_many arrival.peer self.old ≡ true) }
+        ensures ok { OnOk result (self.new ≡ hears arrival.now arrival.peer hello.now.unicast hello.now.seqno hello.now.interval self.old) }
         ensures err { OnErr result (self.new ≡ self.old) }
         ensures nothing { IfOk result (λ change. change ≡ Nothing → AreCurrent self.old → AreCurrent self.new) }
         ensures kept { IfOk result (λ change. change ≡ Nothing → KeepsRoutes self.old self.new) }
-        ensures cost { IfOk result (λ change. change ≡ Cost → AreCurrent self.old → AreOthersCurrent peer.now self.new) }
+        ensures cost { IfOk result (λ change. change ≡ Cost → AreCurrent self.old → AreOthersCurrent arrival.peer self.new) }
     {
-        let cost = self.cost(peer);
-        match self.take_hello(now, peer, unicast, seqno, interval) {
+        let peer = arrival.peer;
+        let cost = self.cost(&peer);
+        match self.take_hello(arrival, hello) {
             Ok(heard) => match heard {
-                Heard::Kept => Ok(self.change_from(peer, cost)),
+                Heard::Kept => Ok(self.change_from(&peer, cost)),
                 Heard::Flush => Ok(LinkChange::Routes),
             },
             Err(full) => Err(full),
@@ -104,31 +97,28 @@ impl Core {
     }
 
     /// Handles a Hello (RFC 8966, section 3.4.1). A cost may change by it; then routes are selected again.
-    /// All selections are current then. Unless `changed` is `true` then, the selected routes are reported as before.
+    /// All selections are current then, and the speaker is settled. If the hints aren't `changed` then, the selected routes
+    /// are reported as before.
     #[tactic(auto, unfolding(babel_state::specs::Hellos::handle_hello))]
     pub fn handle_hello(
         &mut self,
-        now: u64,
-        peer: &Peer,
-        unicast: bool,
-        seqno: Seqno,
-        interval: u16,
-        settled: bool,
-        changed: &mut bool,
-        scratch: &mut Scratch,
+        arrival: Arrival,
+        hello: &ReceivedHello,
+        hints: &mut Hints,
     ) -> Verdict
-        requires settled { IsTrue settled → AreCurrent self.old }
-        ensures state { (self.new, result) ≡ handle_hello now peer.now unicast seqno interval self.old }
+        requires settled { IsTrue hints.old.settled → AreCurrent self.old }
+        ensures state { (self.new, result) ≡ handle_hello arrival.now arrival.peer hello.now.unicast hello.now.seqno hello.now.interval self.old }
         ensures current { AreCurrent self.new }
-        ensures kept { IsFalse changed.new → KeepsRoutes self.old self.new }
+        ensures kept { IsFalse hints.new.changed → KeepsRoutes self.old self.new }
     {
-        match self.hear(now, peer, unicast, seqno, interval) {
+        let (now, peer) = (arrival.now, arrival.peer);
+        match self.hear(arrival, hello) {
             Ok(change) => {
-                *changed = self.reselect_link(change, settled, now, peer, scratch);
+                hints.changed = self.reselect_link(change, now, &peer, hints);
                 Verdict::Taken
             }
             Err(_) => {
-                *changed = self.reselect_after(false, settled, now, scratch);
+                hints.changed = self.reselect_unless(now, hints);
                 Verdict::TableFull
             }
         }
@@ -157,28 +147,18 @@ impl Core {
     /// Handles an IHU (RFC 8966, section 3.4.2). A cost may change by it; then routes are selected again.
     /// After an IHU for this speaker all selections are current, and the speaker is settled.
     #[tactic(auto, unfolding(babel_state::specs::Hellos::handle_ihu))]
-    pub fn handle_ihu(
-        &mut self,
-        now: u64,
-        peer: &Peer,
-        to: &Option<Addr>,
-        rxcost: Metric,
-        interval: u16,
-        settled: &mut bool,
-        changed: &mut bool,
-        scratch: &mut Scratch,
-    ) -> Verdict
-        requires settled { IsTrue settled.old → AreCurrent self.old }
-        ensures state { (self.new, result) ≡ handle_ihu now peer.now to.now rxcost interval self.old }
-        ensures current { IsFalse settled.old → IsTrue settled.new → AreCurrent self.new }
-        ensures kept { IsFalse changed.new → KeepsRoutes self.old self.new }
+    pub fn handle_ihu(&mut self, arrival: Arrival, ihu: &ReceivedIhu, hints: &mut Hints) -> Verdict
+        requires settled { IsTrue hints.old.settled → AreCurrent self.old }
+        ensures state { (self.new, result) ≡ handle_ihu arrival.now arrival.peer ihu.now.to ihu.now.rxcost ihu.now.interval self.old }
+        ensures current { IsFalse hints.old.settled → IsTrue hints.new.settled → AreCurrent self.new }
+        ensures kept { IsFalse hints.new.changed → KeepsRoutes self.old self.new }
     {
-        if !self.is_for_interface(peer.iface, to) {
+        let (now, peer) = (arrival.now, arrival.peer);
+        if !self.is_for_interface(peer.iface, &ihu.to) {
             return Verdict::OtherAddress;
         }
-        let change = self.hear_ihu(now, peer, rxcost, interval);
-        *changed = self.reselect_link(change, *settled, now, peer, scratch);
-        *settled = true;
+        let change = self.hear_ihu(now, &peer, ihu.rxcost, ihu.interval);
+        hints.changed = self.reselect_link(change, now, &peer, hints);
         Verdict::Taken
     }
 }

@@ -5,36 +5,41 @@ ghost use Rattle.babel_state.specs.CurrentSelections.{AreCurrent};
 ghost use Rattle.babel_state.specs.KeptRoutes.{KeepsRoutes};
 ghost use Rattle.babel_state.specs.Messages.{handle_from_neighbour, handle_message, handle_content};
 
+use crate::hints::Hints;
+use crate::input::records::{Arrival, ReceivedHello, ReceivedIhu};
 use crate::state::Core;
-use crate::tables::Scratch;
-use babel_choice::Cursor;
+use crate::tables::SeqnoRequest;
+use babel_choice::ReceivedUpdate;
 use babel_message::{Content, Message};
 use babel_state::{Item, Verdict};
-use babel_value::{Distance, Peer, Source};
+use babel_value::{Distance, Source};
 
-/// Handles a message of a neighbour. Unless `changed` is `true` then, the selected routes are reported as before. It is
-/// always `true` after a retraction of all routes. A request leaves it as it is.
+/// Handles a message of a neighbour. If the hints aren't `changed` then, the selected routes are reported as before. They
+/// always are after a retraction of all routes. A request leaves them as they are.
 fn handle_from_neighbour(
     core: &mut Core,
-    now: u64,
-    peer: &Peer,
+    arrival: Arrival,
     message: &Message,
-    settled: &mut bool,
-    changed: &mut bool,
-    scratch: &mut Scratch,
-    cursor: &mut Cursor,
+    hints: &mut Hints,
 ) -> Verdict
-    requires settled { IsTrue settled.old → AreCurrent core.old }
-    ensures state { (core.new, result) ≡ handle_from_neighbour now peer.now message.now core.old }
-    ensures current { IsFalse settled.old → IsTrue settled.new → AreCurrent core.new }
-    ensures kept { IsFalse changed.new → KeepsRoutes core.old core.new }
+    requires settled { IsTrue hints.old.settled → AreCurrent core.old }
+    ensures state { (core.new, result) ≡ handle_from_neighbour arrival.now arrival.peer message.now core.old }
+    ensures current { IsFalse hints.old.settled → IsTrue hints.new.settled → AreCurrent core.new }
+    ensures kept { IsFalse hints.new.changed → KeepsRoutes core.old core.new }
 {
     match message {
         Message::Ihu {
             to,
             rxcost,
             interval,
-        } => core.handle_ihu(now, peer, to, *rxcost, *interval, settled, changed, scratch),
+        } => {
+            let ihu = ReceivedIhu {
+                to: *to,
+                rxcost: *rxcost,
+                interval: *interval,
+            };
+            core.handle_ihu(arrival, &ihu, hints)
+        }
         Message::Update {
             prefix,
             router,
@@ -43,35 +48,45 @@ fn handle_from_neighbour(
             metric,
             interval,
         } => {
-            let distance = Distance {
-                seqno: *seqno,
-                metric: *metric,
+            let update = ReceivedUpdate {
+                peer: arrival.peer,
+                source: Source {
+                    prefix: *prefix,
+                    router: *router,
+                },
+                next_hop: *next_hop,
+                distance: Distance {
+                    seqno: *seqno,
+                    metric: *metric,
+                },
+                interval: *interval,
             };
-            core.handle_update(
-                now, peer, prefix, *router, *next_hop, distance, *interval, *settled, changed,
-                cursor,
-            )
+            core.handle_update(arrival.now, &update, hints)
         }
         Message::Retraction { prefix, .. } => {
-            core.handle_retraction(now, peer, prefix, changed, cursor)
+            core.handle_retraction(arrival.now, &arrival.peer, prefix, hints)
         }
         Message::RetractAll { .. } => {
-            *changed = true;
-            core.handle_retract_all(now, peer, scratch)
+            hints.changed = true;
+            core.handle_retract_all(arrival.now, &arrival.peer, &mut hints.scratch)
         }
-        Message::RouteRequest { prefix } => core.handle_route_request(peer, prefix),
-        Message::DumpRequest => core.handle_dump_request(peer),
+        Message::RouteRequest { prefix } => core.handle_route_request(&arrival.peer, prefix),
+        Message::DumpRequest => core.handle_dump_request(&arrival.peer),
         Message::SeqnoRequest {
             prefix,
             router,
             seqno,
             hops,
         } => {
-            let source = Source {
-                prefix: *prefix,
-                router: *router,
+            let request = SeqnoRequest {
+                source: Source {
+                    prefix: *prefix,
+                    router: *router,
+                },
+                seqno: *seqno,
+                hops: *hops,
             };
-            core.handle_seqno_request(now, peer, &source, *seqno, *hops)
+            core.handle_seqno_request(arrival, &request)
         }
         _ => Verdict::Taken,
     }
@@ -82,23 +97,19 @@ fn handle_from_neighbour(
 #[tactic(auto, unfolding(babel_state::specs::Messages::handle_message))]
 pub(crate) fn handle_message(
     core: &mut Core,
-    now: u64,
-    peer: &Peer,
+    arrival: Arrival,
     message: &Message,
-    settled: &mut bool,
-    changed: &mut bool,
-    scratch: &mut Scratch,
-    cursor: &mut Cursor,
+    hints: &mut Hints,
 ) -> Verdict
-    requires settled { IsTrue settled.old → AreCurrent core.old }
-    ensures state { (core.new, result) ≡ handle_message now peer.now message.now core.old }
-    ensures current { IsFalse settled.old → IsTrue settled.new → AreCurrent core.new }
-    ensures kept { IsFalse changed.new → KeepsRoutes core.old core.new }
+    requires settled { IsTrue hints.old.settled → AreCurrent core.old }
+    ensures state { (core.new, result) ≡ handle_message arrival.now arrival.peer message.now core.old }
+    ensures current { IsFalse hints.old.settled → IsTrue hints.new.settled → AreCurrent core.new }
+    ensures kept { IsFalse hints.new.changed → KeepsRoutes core.old core.new }
 {
     match message {
         Message::AckRequest { opaque, .. } => {
             core.queue(Item::Ack {
-                peer: *peer,
+                peer: arrival.peer,
                 opaque: *opaque,
             });
             Verdict::Taken
@@ -108,15 +119,16 @@ pub(crate) fn handle_message(
             seqno,
             interval,
         } => {
-            let verdict = core.handle_hello(
-                now, peer, *unicast, *seqno, *interval, *settled, changed, scratch,
-            );
-            *settled = true;
-            verdict
+            let hello = ReceivedHello {
+                unicast: *unicast,
+                seqno: *seqno,
+                interval: *interval,
+            };
+            core.handle_hello(arrival, &hello, hints)
         }
         _ => {
-            if core.is_neighbour(peer) {
-                handle_from_neighbour(core, now, peer, message, settled, changed, scratch, cursor)
+            if core.is_neighbour(&arrival.peer) {
+                handle_from_neighbour(core, arrival, message, hints)
             } else {
                 Verdict::UnknownNeighbour
             }
@@ -125,29 +137,23 @@ pub(crate) fn handle_message(
 }
 
 /// Handles one of the contents of a datagram. All selections stay current if they are. After a Hello, or an IHU for
-/// this speaker, they are current, and the speaker is settled. Unless `changed` is `true` then, the selected routes are
+/// this speaker, they are current, and the speaker is settled. If the hints aren't `changed` then, the selected routes are
 /// reported as before.
 #[tactic(auto, using(crate::proofs::SettledMessages::content_current))]
 pub(crate) fn handle_content(
     core: &mut Core,
-    now: u64,
-    peer: &Peer,
+    arrival: Arrival,
     content: &Content,
-    settled: &mut bool,
-    changed: &mut bool,
-    scratch: &mut Scratch,
-    cursor: &mut Cursor,
+    hints: &mut Hints,
 ) -> Verdict
-    requires settled { IsTrue settled.old → AreCurrent core.old }
-    ensures state { (core.new, result) ≡ handle_content now peer.now content.now core.old }
-    ensures current { IsTrue settled.new → AreCurrent core.new }
-    ensures kept { IsFalse changed.new → KeepsRoutes core.old core.new }
+    requires settled { IsTrue hints.old.settled → AreCurrent core.old }
+    ensures state { (core.new, result) ≡ handle_content arrival.now arrival.peer content.now core.old }
+    ensures current { IsTrue hints.new.settled → AreCurrent core.new }
+    ensures kept { IsFalse hints.new.changed → KeepsRoutes core.old core.new }
 {
     core.routes_are_in_order();
     match content {
-        Content::Message(message) => {
-            handle_message(core, now, peer, message, settled, changed, scratch, cursor)
-        }
+        Content::Message(message) => handle_message(core, arrival, message, hints),
         Content::State => Verdict::State,
         Content::Ignored(reason) => Verdict::Ignored(*reason),
     }

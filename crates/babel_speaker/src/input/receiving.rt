@@ -8,15 +8,15 @@ ghost use Rattle.babel_state.specs.CurrentSelections.{AreCurrent};
 ghost use Rattle.babel_state.specs.KeptRoutes.{KeepsRoutes};
 ghost use Rattle.babel_state.specs.Messages.{handle_content, after_places, notes_of, IsRecvFault, Receives};
 
+use crate::hints::Hints;
 use crate::input::messages::handle_content;
+use crate::input::records::Arrival;
 use crate::state::Core;
-use crate::tables::Scratch;
 use babel_choice::Cursor;
 use babel_message::{Content, Message, Placed, Reason, Refusal};
 use babel_packet::decode;
-use babel_route::Trail;
 use babel_state::{Note, RecvFault, Verdict};
-use babel_value::{Addr, Distance, Peer};
+use babel_value::Distance;
 use std::alloc::Global;
 
 /// Writes one more note into room that is there.
@@ -46,39 +46,27 @@ fn is_placed(verdict: &Verdict) -> bool {
 }
 
 /// Handles one of the contents, as `handle_content`. An Update is looked for where it is likely to be.
-fn handle_next(
-    core: &mut Core,
-    now: u64,
-    peer: &Peer,
-    content: &Content,
-    settled: &mut bool,
-    changed: &mut bool,
-    scratch: &mut Scratch,
-    trail: &mut Trail,
-) -> Verdict
-    requires settled { IsTrue settled.old → AreCurrent core.old }
-    ensures state { (core.new, result) ≡ handle_content now peer.now content.now core.old }
-    ensures current { IsTrue settled.new → AreCurrent core.new }
-    ensures kept { IsFalse changed.new → KeepsRoutes core.old core.new }
+fn handle_next(core: &mut Core, arrival: Arrival, content: &Content, hints: &mut Hints) -> Verdict
+    requires settled { IsTrue hints.old.settled → AreCurrent core.old }
+    ensures state { (core.new, result) ≡ handle_content arrival.now arrival.peer content.now core.old }
+    ensures current { IsTrue hints.new.settled → AreCurrent core.new }
+    ensures kept { IsFalse hints.new.changed → KeepsRoutes core.old core.new }
 {
     let is_update = is_update(content);
-    let mut cursor = if is_update {
-        trail.next()
+    hints.cursor = if is_update {
+        hints.trail.next()
     } else {
         Cursor::new()
     };
-    let verdict = handle_content(
-        core,
-        now,
-        peer,
-        content,
-        settled,
-        changed,
-        scratch,
-        &mut cursor,
-    );
+    let verdict = handle_content(core, arrival, content, hints);
     if is_update && is_placed(&verdict) {
-        trail.push(cursor);
+        let found = &hints.cursor;
+        let place = Cursor {
+            entry: found.entry,
+            selection: found.selection,
+            source: found.source,
+        };
+        hints.trail.push(place);
     }
     verdict
 }
@@ -86,36 +74,24 @@ fn handle_next(
 /// Handles the TLVs of a datagram, each wholly before the next, and writes a note for each.
 fn handle_places(
     core: &mut Core,
-    now: u64,
-    peer: &Peer,
+    arrival: Arrival,
     placed: &[Placed],
     notes: &mut Vec<Note>,
-    settled: &mut bool,
-    changed: &mut bool,
-    scratch: &mut Scratch,
-    trail: &mut Trail,
+    hints: &mut Hints,
 )
-    requires settled { IsTrue settled.old → AreCurrent core.old }
+    requires settled { IsTrue hints.old.settled → AreCurrent core.old }
     requires room { vec_len notes.old + length placed.now ≤ vec_capacity notes.old }
-    ensures state { core.new ≡ after_places now peer.now placed.now core.old }
-    ensures notes { notes.new.items ≡ notes.old.items ++ notes_of now peer.now placed.now core.old }
-    ensures current { IsTrue settled.new → AreCurrent core.new }
-    ensures kept { IsFalse changed.new → KeepsRoutes core.old core.new }
+    ensures state { core.new ≡ after_places arrival.now arrival.peer placed.now core.old }
+    ensures notes { notes.new.items ≡ notes.old.items ++ notes_of arrival.now arrival.peer placed.now core.old }
+    ensures current { IsTrue hints.new.settled → AreCurrent core.new }
+    ensures kept { IsFalse hints.new.changed → KeepsRoutes core.old core.new }
 {
-    trail.begin();
+    hints.trail.begin();
     for place in placed {
-        let mut differs = false;
-        let verdict = handle_next(
-            core,
-            now,
-            peer,
-            &place.content,
-            settled,
-            &mut differs,
-            scratch,
-            trail,
-        );
-        *changed = *changed || differs;
+        let changed = hints.changed;
+        hints.changed = false;
+        let verdict = handle_next(core, arrival, &place.content, hints);
+        hints.changed = changed || hints.changed;
         push_note(notes, place.offset, verdict);
     }
 }
@@ -125,107 +101,71 @@ fn handle_places(
 fn take_places(
     core: &mut Core,
     alloc: Global,
-    now: u64,
-    peer: &Peer,
+    arrival: Arrival,
     placed: &[Placed],
-    settled: &mut bool,
-    changed: &mut bool,
-    scratch: &mut Scratch,
-    trail: &mut Trail,
+    hints: &mut Hints,
 ) -> Result<Vec<Note>, RecvFault>
-    requires settled { IsTrue settled.old → AreCurrent core.old }
-    ensures state { OnOk result (core.new ≡ after_places now peer.now placed.now core.old) }
-    ensures notes { IfOk result (λ notes. notes.items ≡ notes_of now peer.now placed.now core.old) }
+    requires settled { IsTrue hints.old.settled → AreCurrent core.old }
+    ensures state { OnOk result (core.new ≡ after_places arrival.now arrival.peer placed.now core.old) }
+    ensures notes { IfOk result (λ notes. notes.items ≡ notes_of arrival.now arrival.peer placed.now core.old) }
     ensures memory { IfErr result (λ fault. fault ≡ RecvFault.Refused Refusal.Memory) }
     ensures unchanged { OnErr result (core.new ≡ core.old) }
-    ensures current { IsTrue settled.new → AreCurrent core.new }
-    ensures kept { IsFalse changed.new → KeepsRoutes core.old core.new }
+    ensures current { IsTrue hints.new.settled → AreCurrent core.new }
+    ensures kept { IsFalse hints.new.changed → KeepsRoutes core.old core.new }
 {
     let mut notes = match Vec::with_capacity(alloc, placed.len()) {
         Ok(notes) => notes,
         Err(_) => return Err(RecvFault::Refused(Refusal::Memory)),
     };
-    handle_places(
-        core, now, peer, placed, &mut notes, settled, changed, scratch, trail,
-    );
+    handle_places(core, arrival, placed, &mut notes, hints);
     Ok(notes)
 }
 
-/// Takes a datagram that came over an interface from a source address at the moment `now`, in
-/// centiseconds. There is a note for each TLV. The memory is allocated before anything changes. If the
-/// speaker is settled, it stays so, and it becomes so by a Hello or an IHU for it. Unless `changed` is `true` then, the
-/// selected routes are reported as before.
+/// Takes a datagram. There is a note for each TLV. The memory is allocated before anything changes. If the speaker is
+/// settled, it stays so, and it becomes so by a Hello or an IHU for it. If the hints aren't `changed` then, the selected
+/// routes are reported as before.
 pub(crate) fn receive(
     core: &mut Core,
     alloc: Global,
-    now: u64,
-    iface: u8,
-    source: Addr,
+    arrival: Arrival,
     octets: &[u8],
-    settled: &mut bool,
-    changed: &mut bool,
-    scratch: &mut Scratch,
-    trail: &mut Trail,
+    hints: &mut Hints,
 ) -> Result<Vec<Note>, RecvFault>
-    requires settled { IsTrue settled.old → AreCurrent core.old }
-    ensures ok { IfOk result (λ notes. Receives now (record { iface = iface; addr = source }) (source_fault iface source core.old) (meaning octets.now source) core.old core.new notes.items) }
-    ensures refused { IfErr result (λ fault. IsRecvFault (source_fault iface source core.old) (meaning octets.now source) fault) }
+    requires settled { IsTrue hints.old.settled → AreCurrent core.old }
+    ensures ok { IfOk result (λ notes. Receives arrival.now arrival.peer (source_fault arrival.peer.iface arrival.peer.addr core.old) (meaning octets.now arrival.peer.addr) core.old core.new notes.items) }
+    ensures refused { IfErr result (λ fault. IsRecvFault (source_fault arrival.peer.iface arrival.peer.addr core.old) (meaning octets.now arrival.peer.addr) fault) }
     ensures unchanged { OnErr result (core.new ≡ core.old) }
-    ensures current { IsTrue settled.new → AreCurrent core.new }
-    ensures kept { IsFalse changed.new → KeepsRoutes core.old core.new }
+    ensures current { IsTrue hints.new.settled → AreCurrent core.new }
+    ensures kept { IsFalse hints.new.changed → KeepsRoutes core.old core.new }
 {
-    if let Some(fault) = core.source_fault(iface, &source) {
+    let source = arrival.peer.addr;
+    if let Some(fault) = core.source_fault(arrival.peer.iface, &source) {
         return Err(fault);
     }
     let placed = match decode(alloc, octets, source) {
         Ok(placed) => placed,
         Err(refusal) => return Err(RecvFault::Refused(refusal)),
     };
-    let peer = Peer {
-        iface,
-        addr: source,
-    };
-    take_places(
-        core,
-        alloc,
-        now,
-        &peer,
-        placed.as_slice(),
-        settled,
-        changed,
-        scratch,
-        trail,
-    )
+    take_places(core, alloc, arrival, placed.as_slice(), hints)
 }
 
 /// The same for a datagram that is decoded already.
 pub(crate) fn receive_decoded(
     core: &mut Core,
     alloc: Global,
-    now: u64,
-    iface: u8,
-    source: Addr,
+    arrival: Arrival,
     placed: &[Placed],
-    settled: &mut bool,
-    changed: &mut bool,
-    scratch: &mut Scratch,
-    trail: &mut Trail,
+    hints: &mut Hints,
 ) -> Result<Vec<Note>, RecvFault>
-    requires settled { IsTrue settled.old → AreCurrent core.old }
-    ensures ok { IfOk result (λ notes. Receives now (record { iface = iface; addr = source }) (source_fault iface source core.old) (Ok placed.now) core.old core.new notes.items) }
-    ensures refused { IfErr result (λ fault. IsRecvFault (source_fault iface source core.old) (Ok placed.now) fault) }
+    requires settled { IsTrue hints.old.settled → AreCurrent core.old }
+    ensures ok { IfOk result (λ notes. Receives arrival.now arrival.peer (source_fault arrival.peer.iface arrival.peer.addr core.old) (Ok placed.now) core.old core.new notes.items) }
+    ensures refused { IfErr result (λ fault. IsRecvFault (source_fault arrival.peer.iface arrival.peer.addr core.old) (Ok placed.now) fault) }
     ensures unchanged { OnErr result (core.new ≡ core.old) }
-    ensures current { IsTrue settled.new → AreCurrent core.new }
-    ensures kept { IsFalse changed.new → KeepsRoutes core.old core.new }
+    ensures current { IsTrue hints.new.settled → AreCurrent core.new }
+    ensures kept { IsFalse hints.new.changed → KeepsRoutes core.old core.new }
 {
-    if let Some(fault) = core.source_fault(iface, &source) {
+    if let Some(fault) = core.source_fault(arrival.peer.iface, &arrival.peer.addr) {
         return Err(fault);
     }
-    let peer = Peer {
-        iface,
-        addr: source,
-    };
-    take_places(
-        core, alloc, now, &peer, placed, settled, changed, scratch, trail,
-    )
+    take_places(core, alloc, arrival, placed, hints)
 }

@@ -11,11 +11,12 @@ ghost use Rattle.babel_state.specs.KeptRoutes.{KeepsRoutes};
 ghost use Rattle.babel_speaker.specs.LinkChanges.{AreOthersCurrent};
 ghost use Rattle.babel_speaker.specs.declared.tables.link_costs.LinkChange.TheVariants.{Nothing, Cost};
 
+use crate::hints::Hints;
 use crate::input::causes::UnfeasibleUpdate;
 use crate::input::selection_changes::{are_alike, is_same_origin, is_selected_peer, seqno_after};
 use crate::output::queueing::{has_unfeasible, queue_requests_to_unfeasible, queue_updates_to_all};
 use crate::state::Core;
-use crate::tables::{LinkChange, LinkCosts, Scratch};
+use crate::tables::{LinkChange, LinkCosts, Scratch, SelectionInputs, SeqnoRequest};
 use babel_choice::{Cursor, Selection};
 use babel_state::{Item, REQUEST_HOPS, Resend, Target};
 use babel_value::{Peer, Prefix, Seqno, Source};
@@ -55,14 +56,17 @@ impl Core {
     pub(crate) fn request_seqno_from(
         &mut self,
         now: u64,
-        source: Source,
-        seqno: Seqno,
+        request: &SeqnoRequest,
         resend: Resend,
-        hops: u8,
         peer: Peer,
     )
-        ensures { self.new ≡ request_seqno now source seqno resend hops (peer ∷ []) self.old }
+        ensures { self.new ≡ request_seqno now request.now.source request.now.seqno resend request.now.hops (peer ∷ []) self.old }
     {
+        let SeqnoRequest {
+            source,
+            seqno,
+            hops,
+        } = *request;
         if self.requests.is_redundant(&source, seqno) {
             return;
         }
@@ -85,14 +89,12 @@ impl Core {
             return;
         }
         self.requests.record(now, source, seqno, Resend::Unfeasible);
-        queue_requests_to_unfeasible(
-            &mut self.pending,
-            &self.routes,
-            &self.sources,
+        let request = SeqnoRequest {
             source,
             seqno,
-            REQUEST_HOPS,
-        );
+            hops: REQUEST_HOPS,
+        };
+        queue_requests_to_unfeasible(&mut self.pending, &self.routes, &self.sources, &request);
     }
 
     /// Selects the route of the prefix again (RFC 8966, section 3.6). Returns the old and the new selection.
@@ -106,6 +108,7 @@ impl Core {
     }
 
     /// The same. The searches begin at the cursor.
+    #[inline(always)]
     pub(crate) fn select_near(
         &mut self,
         prefix: &Prefix,
@@ -165,8 +168,12 @@ impl Core {
         };
         if let Some(pair) = self.pair(&source) {
             let peer = update.peer;
-            let resend = Resend::Neighbour(peer);
-            self.request_seqno_from(now, source, pair.seqno.next(), resend, REQUEST_HOPS, peer);
+            let request = SeqnoRequest {
+                source,
+                seqno: pair.seqno.next(),
+                hops: REQUEST_HOPS,
+            };
+            self.request_seqno_from(now, &request, Resend::Neighbour(peer), peer);
         }
     }
 
@@ -193,13 +200,13 @@ impl Core {
         now: u64,
         cause: Option<UnfeasibleUpdate>,
         prefix: &Prefix,
-        old: &Option<Selection>,
-        new: &Option<Selection>,
+        selections: &(Option<Selection>, Option<Selection>),
     )
-        ensures { self.new ≡ request_for_seqno now cause prefix.now old.now new.now self.old }
+        ensures { self.new ≡ request_for_seqno now cause prefix.now selections.now.0 selections.now.1 self.old }
     {
+        let old = &selections.0;
         if let Some(lost) = old {
-            if new.is_none() && self.may_request_for_lost(prefix) {
+            if selections.1.is_none() && self.may_request_for_lost(prefix) {
                 self.request_for_lost(now, prefix, lost);
                 return;
             }
@@ -207,7 +214,7 @@ impl Core {
         self.request_from_sender(now, cause, prefix, old);
     }
 
-    /// What follows from a change of the selection after an input, which was this unfeasible update or none. It queues
+    /// What follows from the old and the new selection after an input, which was this unfeasible update or none. It queues
     /// items and records requests, and no route is reported otherwise than before.
     #[tactic(auto, using(babel_state::proofs::KeptRoutes::follows_routes))]
     pub(crate) fn follow_up(
@@ -215,14 +222,13 @@ impl Core {
         now: u64,
         cause: Option<UnfeasibleUpdate>,
         prefix: &Prefix,
-        old: &Option<Selection>,
-        new: &Option<Selection>,
+        selections: &(Option<Selection>, Option<Selection>),
     )
-        ensures state { self.new ≡ follow_up now cause prefix.now old.now new.now self.old }
+        ensures state { self.new ≡ follow_up now cause prefix.now selections.now.0 selections.now.1 self.old }
         ensures kept { KeepsRoutes self.old self.new }
     {
-        self.advertise_change(prefix, old, new);
-        self.request_for_seqno(now, cause, prefix, old, new);
+        self.advertise_change(prefix, &selections.0, &selections.1);
+        self.request_for_seqno(now, cause, prefix, selections);
     }
 
     /// Selects the route of the prefix again after an input, which was this unfeasible update or none,
@@ -247,9 +253,9 @@ impl Core {
         ensures state { self.new ≡ reselect now cause prefix.now self.old }
         ensures kept { IsFalse result → KeepsRoutes self.old self.new }
     {
-        let (old, new) = self.select_near(prefix, cursor);
-        self.follow_up(now, cause, prefix, &old, &new);
-        !are_alike(&old, &new)
+        let selections = self.select_near(prefix, cursor);
+        self.follow_up(now, cause, prefix, &selections);
+        !are_alike(&selections.0, &selections.1)
     }
 
     /// Selects the routes of the prefixes again, one after the other. Since the prefixes rise, that is one walk over
@@ -268,50 +274,30 @@ impl Core {
     /// none, and nothing changed.
     pub(crate) fn reselect_all(&mut self, now: u64, scratch: &mut Scratch) -> bool
         ensures state { self.new ≡ reselect_all now self.old }
+        ensures current { AreCurrent self.new }
         ensures quiet { IsFalse result → self.new ≡ self.old }
     {
-        // The tables are in order.
-        let _count = self.routes.len();
         let links = LinkCosts::new(&self.interfaces, &self.neighbours);
         scratch.gather_stale(&self.routes, &self.announced, &self.sources, &links);
         self.reselect_each(now, scratch);
         !scratch.is_empty()
     }
 
-    /// The same. If the speaker is settled, all selections are current, and there is nothing to do.
+    /// The same. If the speaker is settled, all selections are current, and there is nothing to do. It is settled then.
     #[tactic(auto, using(crate::proofs::Settling::settled_all, crate::proofs::Settling::current_all))]
-    fn reselect_unless(&mut self, settled: bool, now: u64, scratch: &mut Scratch) -> bool
-        requires settled { IsTrue settled → AreCurrent self.old }
+    pub(crate) fn reselect_unless(&mut self, now: u64, hints: &mut Hints) -> bool
+        requires settled { IsTrue hints.old.settled → AreCurrent self.old }
         ensures state { self.new ≡ reselect_all now self.old }
         ensures current { AreCurrent self.new }
         ensures quiet { IsFalse result → self.new ≡ self.old }
     {
         // The tables are in order.
         let _count = self.routes.len();
-        if settled {
+        if hints.settled {
             return false;
         }
-        self.reselect_all(now, scratch)
-    }
-
-    /// The same after a change, or if there was none.
-    pub(crate) fn reselect_after(
-        &mut self,
-        changed: bool,
-        settled: bool,
-        now: u64,
-        scratch: &mut Scratch,
-    ) -> bool
-        requires settled { IsTrue settled → IsFalse changed → AreCurrent self.old }
-        ensures state { self.new ≡ reselect_all now self.old }
-        ensures current { AreCurrent self.new }
-        ensures quiet { IsFalse result → self.new ≡ self.old }
-    {
-        if changed {
-            self.reselect_unless(false, now, scratch)
-        } else {
-            self.reselect_unless(settled, now, scratch)
-        }
+        hints.settled = true;
+        self.reselect_all(now, &mut hints.scratch)
     }
 
     /// Selects the route of each prefix again to which the neighbour has a route and whose selection isn't current. If
@@ -324,31 +310,34 @@ impl Core {
         // The tables are in order.
         let _count = self.routes.len();
         let links = LinkCosts::new(&self.interfaces, &self.neighbours);
-        scratch.gather_stale_from(&self.routes, peer, &self.announced, &self.sources, &links);
+        let inputs = SelectionInputs::new(&self.announced, &self.sources, &links);
+        scratch.gather_stale_from(&self.routes, peer, &inputs);
         self.reselect_each(now, scratch);
     }
 
-    /// Selects routes again after a change of the link to a neighbour. It leaves what a reselection of all leaves. If it
-    /// returns `false`, nothing changed by it and the link didn't either.
+    /// Selects routes again after a change of the link to a neighbour. It leaves what a reselection of all leaves, and the
+    /// speaker is settled. If it returns `false`, nothing changed by it and the link didn't either.
     pub(crate) fn reselect_link(
         &mut self,
         change: LinkChange,
-        settled: bool,
         now: u64,
         peer: &Peer,
-        scratch: &mut Scratch,
+        hints: &mut Hints,
     ) -> bool
-        requires nothing { IsTrue settled → change ≡ Nothing → AreCurrent self.old }
-        requires cost { IsTrue settled → change ≡ Cost → AreOthersCurrent peer.now self.old }
+        requires nothing { IsTrue hints.old.settled → change ≡ Nothing → AreCurrent self.old }
+        requires cost { IsTrue hints.old.settled → change ≡ Cost → AreOthersCurrent peer.now self.old }
         ensures state { self.new ≡ reselect_all now self.old }
         ensures current { AreCurrent self.new }
         ensures quiet { IsFalse result → (change ≡ Nothing) × (self.new ≡ self.old) }
     {
         match change {
-            LinkChange::Nothing => return self.reselect_unless(settled, now, scratch),
-            LinkChange::Cost if settled => self.reselect_from(now, peer, scratch),
+            LinkChange::Nothing => return self.reselect_unless(now, hints),
+            LinkChange::Cost if hints.settled => {
+                self.reselect_from(now, peer, &mut hints.scratch);
+            }
             _ => {
-                self.reselect_unless(false, now, scratch);
+                hints.settled = false;
+                self.reselect_unless(now, hints);
             }
         }
         true

@@ -3,9 +3,11 @@
 ghost use Rattle.std.specs.Prelude.{◌≡◌, ◌≤◌, Some};
 ghost use Rattle.babel_state.specs.SeqnoRequests.{handle_route_request, handle_dump_request, raised, outcomes, requested_of_own, receiver, forward, requested_of_route, handle_seqno_request};
 
+use crate::input::records::Arrival;
 use crate::input::request_receivers::{outcomes, receiver};
 use crate::output::queueing::queue_updates_of;
 use crate::state::Core;
+use crate::tables::SeqnoRequest;
 use babel_choice::Selection;
 use babel_state::{Resend, Verdict};
 use babel_value::{Peer, Prefix, Seqno, Source};
@@ -20,6 +22,7 @@ impl Core {
     }
 
     /// Handles a request for all routes (RFC 8966, section 3.8.1.1).
+    #[inline(never)]
     #[tactic(auto, unfolding(babel_state::specs::State::reachable_prefixes))]
     pub fn handle_dump_request(&mut self, peer: &Peer) -> Verdict
         ensures { (self.new, result) ≡ handle_dump_request peer.now self.old }
@@ -57,13 +60,18 @@ impl Core {
     }
 
     /// Forwards a request (RFC 8966, section 3.8.1.2).
-    fn forward(&mut self, now: u64, peer: &Peer, source: &Source, seqno: Seqno, hops: u8) -> Verdict
-        requires { 2 ≤ hops }
-        ensures { (self.new, result) ≡ forward now source.now seqno hops (receiver peer.now source.now.prefix self.old) self.old }
+    fn forward(&mut self, arrival: Arrival, request: &SeqnoRequest) -> Verdict
+        requires { 2 ≤ request.now.hops }
+        ensures { (self.new, result) ≡ forward arrival.now request.now.source request.now.seqno request.now.hops (receiver arrival.peer request.now.source.prefix self.old) self.old }
     {
-        match self.receiver(peer, &source.prefix) {
+        match self.receiver(&arrival.peer, &request.source.prefix) {
             Some(next) => {
-                self.request_seqno_from(now, *source, seqno, Resend::Never, hops - 1, next);
+                let forwarded = SeqnoRequest {
+                    source: request.source,
+                    seqno: request.seqno,
+                    hops: request.hops - 1,
+                };
+                self.request_seqno_from(arrival.now, &forwarded, Resend::Never, next);
                 Verdict::Taken
             }
             None => Verdict::NotForwarded,
@@ -73,49 +81,45 @@ impl Core {
     /// Handles a request for a seqno of a prefix that has this selected route, or none.
     fn handle_request_of_route(
         &mut self,
-        now: u64,
-        peer: &Peer,
-        source: &Source,
-        seqno: Seqno,
-        hops: u8,
+        arrival: Arrival,
+        request: &SeqnoRequest,
         selected: &Option<Selection>,
     ) -> Verdict
-        ensures { (self.new, result) ≡ requested_of_route now peer.now source.now seqno hops selected.now self.old }
+        ensures { (self.new, result) ≡ requested_of_route arrival.now arrival.peer request.now.source request.now.seqno request.now.hops selected.now self.old }
     {
         let Some(route) = selected else {
             return Verdict::NotForwarded;
         };
         let entry = &route.entry;
-        if outcomes(&entry.router, entry.distance.seqno, &source.router, seqno) {
-            self.queue_update_to(peer, &source.prefix);
+        let source = &request.source;
+        if outcomes(
+            &entry.router,
+            entry.distance.seqno,
+            &source.router,
+            request.seqno,
+        ) {
+            self.queue_update_to(&arrival.peer, &source.prefix);
             return Verdict::Taken;
         }
-        if self.requests.is_redundant(source, seqno) {
+        if self.requests.is_redundant(source, request.seqno) {
             return Verdict::Redundant;
         }
-        if hops < 2 {
+        if request.hops < 2 {
             return Verdict::NotForwarded;
         }
-        self.forward(now, peer, source, seqno, hops)
+        self.forward(arrival, request)
     }
 
     /// Handles a request for a seqno (RFC 8966, section 3.8.1.2).
     #[tactic(auto, unfolding(babel_state::specs::SeqnoRequests::handle_seqno_request))]
-    pub fn handle_seqno_request(
-        &mut self,
-        now: u64,
-        peer: &Peer,
-        source: &Source,
-        seqno: Seqno,
-        hops: u8,
-    ) -> Verdict
-        ensures { (self.new, result) ≡ handle_seqno_request now peer.now source.now seqno hops self.old }
+    pub fn handle_seqno_request(&mut self, arrival: Arrival, request: &SeqnoRequest) -> Verdict
+        ensures { (self.new, result) ≡ handle_seqno_request arrival.now arrival.peer request.now.source request.now.seqno request.now.hops self.old }
     {
-        if self.announces(&source.prefix) {
-            self.handle_request_of_own(peer, source, seqno);
+        if self.announces(&request.source.prefix) {
+            self.handle_request_of_own(&arrival.peer, &request.source, request.seqno);
             return Verdict::Taken;
         }
-        let selected = self.selected(&source.prefix);
-        self.handle_request_of_route(now, peer, source, seqno, hops, &selected)
+        let selected = self.selected(&request.source.prefix);
+        self.handle_request_of_route(arrival, request, &selected)
     }
 }

@@ -15,6 +15,8 @@ ghost use Rattle.babel_speaker.specs.SentMessages.{HasRoomFor, no_draft};
 ghost use Rattle.babel_speaker.specs.Sending.{HaveTransports, first_message, with_outgoing, is_encodable_outgoing, are_encodable, built_of, fits_at, fits_by, draft_to, MeansFrom, IsBuiltFrom, IsFilled};
 ghost use Rattle.babel_speaker.specs.Versions.{KeepsSnapshot};
 
+use crate::hints::Hints;
+use crate::output::records::Departure;
 use crate::state::Core;
 use arrayvec::ArrayVec;
 use babel_build::Builder;
@@ -82,34 +84,34 @@ fn goes_elsewhere(core: &Core, item: &Item, target: &Target) -> bool
 #[tactic(auto, unfolding(babel_state::specs::NextDatagram::draft_with), using(crate::proofs::Drafts::same_target, crate::proofs::Drafts::built_more, crate::proofs::SettledSends::left_out_current, crate::proofs::Snapshots::left_out_snapshot))]
 fn add_item(
     core: &mut Core,
-    now: u64,
-    target: Target,
+    departure: Departure,
     builder: &mut Builder,
     item: &Item,
-    settled: &mut bool,
-    lowered: &mut bool,
-    cursor: &mut Cursor,
+    hints: &mut Hints,
 ) -> bool
-    requires settled { IsTrue settled.old → AreCurrent core.old }
-    ensures draft { (b : Built) (ms : List Message) → builder.old ≡ built_of b ms → draft_with now (fits_at b) (draft_to target core.old ms) (outgoing core.old item.now) ≡ (if result then Some (draft_to target core.new (with_outgoing ms (outgoing core.old item.now))) else None) }
+    requires settled { IsTrue hints.old.settled → AreCurrent core.old }
+    ensures draft { (b : Built) (ms : List Message) → builder.old ≡ built_of b ms → draft_with departure.now (fits_at b) (draft_to departure.target core.old ms) (outgoing core.old item.now) ≡ (if result then Some (draft_to departure.target core.new (with_outgoing ms (outgoing core.old item.now))) else None) }
     ensures built { (b : Built) (ms : List Message) → builder.old ≡ built_of b ms → IsTrue result → builder.new ≡ built_of b (with_outgoing ms (outgoing core.old item.now)) }
     ensures stays { OnFalse result ((core.new ≡ core.old) × (builder.new ≡ builder.old)) }
     ensures encoded { (ms : List Message) → HasEncoded builder.old ms → IsTrue result → is_encodable_outgoing (outgoing core.old item.now) ≡ true → HasEncoded builder.new (with_outgoing ms (outgoing core.old item.now)) }
     ensures pending { core.new.pending ≡ core.old.pending }
-    ensures current { IsTrue settled.new → AreCurrent core.new }
-    ensures marked { IsFalse lowered.new → IsFalse lowered.old }
-    ensures saved { IsFalse lowered.new → snapshot_of core.new ≡ snapshot_of core.old }
+    ensures current { IsTrue hints.new.settled → AreCurrent core.new }
+    ensures marked { IsFalse hints.new.lowered → IsFalse hints.old.lowered }
+    ensures saved { IsFalse hints.new.lowered → snapshot_of core.new ≡ snapshot_of core.old }
 {
+    let target = departure.target;
     // The message is not needed to see that it goes elsewhere.
     if goes_elsewhere(core, item, &target) {
         return false;
     }
-    match crate::output::messages::outgoing(core, item, cursor) {
+    match crate::output::messages::outgoing(core, item, &mut hints.cursor) {
         Outgoing::Message(to, message) => {
             if !is_same_target(&target, &to) || !builder.add(&message) {
                 return false;
             }
-            crate::output::items::send_message(core, now, to, &message, settled, lowered, cursor);
+            let now = departure.now;
+            let sent = Departure { now, target: to };
+            crate::output::items::send_message(core, sent, &message, hints);
         }
         Outgoing::LeftOut => crate::output::items::leave_out(core),
         Outgoing::Nothing => {}
@@ -119,23 +121,15 @@ fn add_item(
 
 /// Fills the datagram with the messages of the oldest items, up to the first that goes to another
 /// target or doesn't fit.
-fn fill(
-    core: &mut Core,
-    now: u64,
-    target: Target,
-    builder: &mut Builder,
-    settled: &mut bool,
-    lowered: &mut bool,
-    cursor: &mut Cursor,
-)
-    requires settled { IsTrue settled.old → AreCurrent core.old }
-    ensures current { IsTrue settled.new → AreCurrent core.new }
-    ensures marked { IsFalse lowered.new → IsFalse lowered.old }
-    ensures saved { IsFalse lowered.new → snapshot_of core.new ≡ snapshot_of core.old }
-    ensures filled { (b : Built) (ms : List Message) → builder.old ≡ built_of b ms → IsFilled b ms target (drafted now (fits_at b) core.old.pending.items (draft_to target core.old ms)) core.new builder.old builder.new }
+fn fill(core: &mut Core, departure: Departure, builder: &mut Builder, hints: &mut Hints)
+    requires settled { IsTrue hints.old.settled → AreCurrent core.old }
+    ensures current { IsTrue hints.new.settled → AreCurrent core.new }
+    ensures marked { IsFalse hints.new.lowered → IsFalse hints.old.lowered }
+    ensures saved { IsFalse hints.new.lowered → snapshot_of core.new ≡ snapshot_of core.old }
+    ensures filled { (b : Built) (ms : List Message) → builder.old ≡ built_of b ms → IsFilled b ms departure.target (drafted departure.now (fits_at b) core.old.pending.items (draft_to departure.target core.old ms)) core.new builder.old builder.new }
 {
     while let Some(item) = crate::output::items::first_item(core) {
-        if !add_item(core, now, target, builder, &item, settled, lowered, cursor) {
+        if !add_item(core, departure, builder, &item, hints) {
             return;
         }
         crate::output::items::remove_first_item(core);
@@ -147,7 +141,7 @@ fn fill(
 /// `builder`, whatever was there.
 ///
 /// A settled speaker stays so unless an Update that is sent changes the feasibility distance of its source. If
-/// `lowered` is `false` then, none did, and the snapshot is as before.
+/// it isn't `lowered` then, none did, and the snapshot is as before.
 ///
 /// That each message can be encoded, and that each interface has an address to send from, follows
 /// from the invariant of a speaker's state.
@@ -156,12 +150,11 @@ pub(crate) fn next_datagram(
     now: u64,
     out: &mut ArrayVec<u8, DATAGRAM_LEN>,
     builder: &mut Builder,
-    settled: &mut bool,
-    lowered: &mut bool,
+    hints: &mut Hints,
 ) -> Option<Target>
-    requires settled { IsTrue settled.old → AreCurrent core.old }
-    ensures current { IsTrue settled.new → AreCurrent core.new }
-    ensures saved { IsFalse lowered.new → snapshot_of core.new ≡ snapshot_of core.old }
+    requires settled { IsTrue hints.old.settled → AreCurrent core.old }
+    ensures current { IsTrue hints.new.settled → AreCurrent core.new }
+    ensures saved { IsFalse hints.new.lowered → snapshot_of core.new ≡ snapshot_of core.old }
     ensures state { core.new ≡ (next_datagram now (fits_by core.old) core.old).state }
     ensures target { result ≡ (next_datagram now (fits_by core.old) core.old).target }
     ensures octets { IfSome result (λ target. are_encodable (next_datagram now (fits_by core.old) core.old).messages ≡ true → MeansFrom (transport_at target.iface core.old) out.new.items (next_datagram now (fits_by core.old) core.old).messages) }
@@ -171,8 +164,8 @@ pub(crate) fn next_datagram(
 {
     items_mean_messages();
     out.clear();
-    let mut cursor = Cursor::new();
-    let Some((target, message)) = skip_silent(core, &mut cursor) else {
+    hints.cursor = Cursor::new();
+    let Some((target, message)) = skip_silent(core, &mut hints.cursor) else {
         return None;
     };
     let Some(source) = crate::output::items::transport(core, target.iface) else {
@@ -181,9 +174,10 @@ pub(crate) fn next_datagram(
     builder.begin(source);
     // The first message always fits.
     let _ = builder.add(&message);
-    crate::output::items::send_message(core, now, target, &message, settled, lowered, &mut cursor);
+    let departure = Departure { now, target };
+    crate::output::items::send_message(core, departure, &message, hints);
     crate::output::items::remove_first_item(core);
-    fill(core, now, target, builder, settled, lowered, &mut cursor);
+    fill(core, departure, builder, hints);
     builder.write_to(out);
     Some(target)
 }

@@ -7,9 +7,10 @@ ghost use Rattle.babel_state.specs.OutgoingMessages.{to_all, to_peer, outgoing_h
 ghost use Rattle.babel_state.specs.Limits.{longest_hello};
 ghost use Rattle.babel_speaker.specs.Intervals.{hellos_an_ihu, hellos_an_update};
 
+use crate::output::records::Advertisement;
 use babel_message::Message;
 use babel_state::{InterfaceEntry, Outgoing, Target};
-use babel_value::{Addr, Distance, Metric, Peer, Prefix, RouterId};
+use babel_value::{Addr, Metric, Peer, Prefix};
 
 /// How many Hello intervals an IHU's interval has (RFC 8966, appendix B).
 const IHU_HELLOS: u16 = 3;
@@ -62,21 +63,19 @@ pub fn ihu_message(peer: Peer, rxcost: Metric, interface: &InterfaceEntry) -> Ou
 /// An Update of a prefix (RFC 8966, section 3.7).
 pub fn update_message(
     target: Target,
-    prefix: Prefix,
-    router: RouterId,
-    distance: Distance,
+    route: &Advertisement,
     next_hop: Addr,
     interface: &InterfaceEntry,
 ) -> Outgoing
     requires { interface.now.hello ≤ longest_hello }
-    ensures { result ≡ outgoings.Message target (messages.Update prefix router next_hop distance.seqno distance.metric (hellos_an_update * interface.now.hello)) }
+    ensures { result ≡ outgoings.Message target (messages.Update route.now.source.prefix route.now.source.router next_hop route.now.distance.seqno route.now.distance.metric (hellos_an_update * interface.now.hello)) }
 {
     let message = Message::Update {
-        prefix,
-        router,
+        prefix: route.source.prefix,
+        router: route.source.router,
         next_hop,
-        seqno: distance.seqno,
-        metric: distance.metric,
+        seqno: route.distance.seqno,
+        metric: route.distance.metric,
         interval: UPDATE_HELLOS * interface.hello,
     };
     Outgoing::Message(target, message)

@@ -12,7 +12,9 @@ ghost use Rattle.babel_state.specs.NextDatagram.{next_hello, left_out_more, afte
 ghost use Rattle.babel_state.specs.Restarts.{snapshot_of};
 ghost use Rattle.babel_speaker.specs.SentMessages.{HasRoomFor, changes_a_pair, is_named_current, without_front};
 
+use crate::hints::Hints;
 use crate::output::messages::interface_entry;
+use crate::output::records::Departure;
 use crate::state::Core;
 use crate::tables::LinkCosts;
 use crate::tables::addresses::address_of;
@@ -110,31 +112,24 @@ fn is_named_current(core: &Core, message: &Message, cursor: &mut Cursor) -> bool
 /// and then the selection of its prefix is no longer current. If `lowered` is `false` then, it was so, and the snapshot is
 /// as before.
 #[tactic(auto, using(crate::proofs::SettledItems::sent_current, crate::proofs::SettledItems::sent_but_current, crate::proofs::SnapshotsSent::sent_snapshot))]
-pub fn send_message(
-    core: &mut Core,
-    now: u64,
-    target: Target,
-    message: &Message,
-    settled: &mut bool,
-    lowered: &mut bool,
-    cursor: &mut Cursor,
-)
+pub fn send_message(core: &mut Core, departure: Departure, message: &Message, hints: &mut Hints)
     requires room { HasRoomFor core.old message.now }
-    requires settled { IsTrue settled.old → AreCurrent core.old }
-    ensures state { core.new ≡ after_message now target message.now core.old }
+    requires settled { IsTrue hints.old.settled → AreCurrent core.old }
+    ensures state { core.new ≡ after_message departure.now departure.target message.now core.old }
     ensures pending { core.new.pending ≡ core.old.pending }
-    ensures current { IsTrue settled.new → AreCurrent core.new }
-    ensures marked { IsFalse lowered.new → IsFalse lowered.old }
-    ensures saved { IsFalse lowered.new → snapshot_of core.new ≡ snapshot_of core.old }
+    ensures current { IsTrue hints.new.settled → AreCurrent core.new }
+    ensures marked { IsFalse hints.new.lowered → IsFalse hints.old.lowered }
+    ensures saved { IsFalse hints.new.lowered → snapshot_of core.new ≡ snapshot_of core.old }
 {
-    let changes = changes_a_pair(core, message, cursor);
-    apply_message(core, now, target, message, cursor);
+    let (now, target) = (departure.now, departure.target);
+    let changes = changes_a_pair(core, message, &mut hints.cursor);
+    apply_message(core, now, target, message, &mut hints.cursor);
     if !changes {
         return;
     }
-    *lowered = true;
-    if *settled && !is_named_current(core, message, cursor) {
-        *settled = false;
+    hints.lowered = true;
+    if hints.settled && !is_named_current(core, message, &mut hints.cursor) {
+        hints.settled = false;
     }
 }
 

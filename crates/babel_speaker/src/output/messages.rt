@@ -14,13 +14,14 @@ ghost use Rattle.babel_speaker.specs.SentMessages.{HasRoom, IsMessageTo};
 use crate::output::forms::{
     hello_message, ihu_message, retraction_message, to_peer, update_message,
 };
+use crate::output::records::Advertisement;
 use crate::state::Core;
 use crate::tables::addresses::address_of;
 use babel_choice::{Cursor, Selection};
 use babel_message::Message;
 use babel_sources::SOURCE_PLACES;
 use babel_state::{InterfaceEntry, Item, Outgoing, Target};
-use babel_value::{Distance, Metric, Peer, Prefix, RouterId, Seqno, Source};
+use babel_value::{Distance, Metric, Peer, Prefix, Seqno, Source};
 
 /// The interface of the number.
 pub(crate) fn interface_entry(core: &Core, iface: u8) -> Option<InterfaceEntry>
@@ -42,23 +43,21 @@ fn is_source_too_many(core: &Core, source: &Source, cursor: &mut Cursor) -> bool
 fn outgoing_finite(
     core: &Core,
     target: Target,
-    prefix: Prefix,
-    router: RouterId,
-    distance: Distance,
+    route: &Advertisement,
     interface: &InterfaceEntry,
     cursor: &mut Cursor,
 ) -> Outgoing
     requires { interface.now.hello ≤ longest_hello }
-    ensures message { result ≡ outgoing_finite target prefix (record { router = router; distance = distance }) interface.now core.now (address_of (family_of prefix.addr) interface.now) }
+    ensures message { result ≡ outgoing_finite target route.now.source.prefix (record { router = route.now.source.router; distance = route.now.distance }) interface.now core.now (address_of (family_of route.now.source.prefix.addr) interface.now) }
     ensures room { HasRoom core.now result }
 {
-    let Some(next_hop) = address_of(prefix.family(), interface) else {
+    let Some(next_hop) = address_of(route.source.prefix.family(), interface) else {
         return Outgoing::Nothing;
     };
-    if is_source_too_many(core, &Source { prefix, router }, cursor) {
+    if is_source_too_many(core, &route.source, cursor) {
         return Outgoing::LeftOut;
     }
-    update_message(target, prefix, router, distance, next_hop, interface)
+    update_message(target, route, next_hop, interface)
 }
 
 /// An Update of the prefix, or its retraction (RFC 8966, section 3.7).
@@ -74,34 +73,25 @@ fn outgoing_update(
     ensures room { HasRoom core.now result }
 {
     if core.announces(&prefix) {
+        let router = core.router;
         let distance = Distance {
             seqno: core.seqno,
             metric: Metric(0),
         };
-        return outgoing_finite(
-            core,
-            target,
-            prefix,
-            core.router,
-            distance,
-            interface,
-            cursor,
-        );
+        let source = Source { prefix, router };
+        let route = Advertisement { source, distance };
+        return outgoing_finite(core, target, &route, interface, cursor);
     }
     match core.routes.selected_near(&prefix, cursor) {
         Some(Selection { peer, entry }) => {
             let metric = entry.distance.metric.add(core.cost(&peer));
             let seqno = entry.distance.seqno;
-            let distance = Distance { seqno, metric };
-            outgoing_finite(
-                core,
-                target,
-                prefix,
-                entry.router,
-                distance,
-                interface,
-                cursor,
-            )
+            let router = entry.router;
+            let route = Advertisement {
+                source: Source { prefix, router },
+                distance: Distance { seqno, metric },
+            };
+            outgoing_finite(core, target, &route, interface, cursor)
         }
         None => retraction_message(target, prefix, interface),
     }

@@ -7,12 +7,12 @@ ghost use Rattle.babel_state.specs.Queueing.{queued};
 ghost use Rattle.babel_state.specs.Reselection.{update_to_all, update_to, request_items, is_unfeasible};
 ghost use Rattle.babel_speaker.specs.Reaching.{reachable_of};
 
-use crate::tables::{Announced, PendingItems, Reachable};
+use crate::tables::{Announced, PendingItems, Reachable, SeqnoRequest};
 use babel_choice::{Entry, RouteKey};
 use babel_route::Routes;
 use babel_sources::Sources;
 use babel_state::{Item, Target};
-use babel_value::{Peer, Prefix, Seqno, Source};
+use babel_value::{Peer, Prefix, Source};
 
 /// Queues an update of the prefix to all on each of the interfaces.
 #[tactic(auto, unfolding(babel_state::specs::Queueing::queued))]
@@ -54,12 +54,15 @@ pub fn queue_requests_to_unfeasible(
     pending: &mut PendingItems,
     routes: &Routes,
     sources: &Sources,
-    source: Source,
-    seqno: Seqno,
-    hops: u8,
+    request: &SeqnoRequest,
 )
-    ensures { pending.new ≡ queued (request_items source seqno hops (map (λ r. r.0.peer) (filter (is_unfeasible sources.now) (routes_of source.prefix routes.now.entries)))) pending.old }
+    ensures { pending.new ≡ queued (request_items request.now.source request.now.seqno request.now.hops (map (λ r. r.0.peer) (filter (is_unfeasible sources.now) (routes_of request.now.source.prefix routes.now.entries)))) pending.old }
 {
+    let SeqnoRequest {
+        source,
+        seqno,
+        hops,
+    } = *request;
     for route in routes.routes_of(&source.prefix) {
         if is_unfeasible(&route, sources) {
             let peer = route.0.peer;

@@ -14,6 +14,18 @@ use babel_value::{Memory, Seqno, Source};
 use std::alloc::Global;
 use std::marker::Model;
 
+/// A request for a route of a source with at least this seqno, which may still go this number of hops (RFC 8966, section
+/// 4.6.11).
+#[derive(Clone, Copy)]
+pub struct SeqnoRequest {
+    /// The source.
+    pub source: Source,
+    /// The least seqno that is accepted.
+    pub seqno: Seqno,
+    /// How many hops it may still go.
+    pub hops: u8,
+}
+
 /// The pending requests, at most 64, at most one for each source.
 #[derive(Drop)]
 pub struct RequestTable {

@@ -4,7 +4,8 @@ ghost use Rattle.std.specs.Prelude.{◌≡◌, ◌↔◌, ◌&&◌, ◌≤◌, �
 ghost use Rattle.std.specs.FinMap.{put, is_sorted};
 ghost use Rattle.babel_value.specs.Orders.{prefix_cmp};
 ghost use Rattle.babel_value.specs.Prefixes.{PrefixValue};
-ghost use Rattle.babel_route.specs.Rooms.{most_listed_prefixes};
+ghost use Rattle.babel_route.specs.Rooms.{most_listed_prefixes, most_routes};
+ghost use Rattle.babel_choice.specs.RouteKeys.{route_cmp};
 ghost use Rattle.babel_choice.specs.Routes.{is_from};
 ghost use Rattle.babel_state.specs.Sameness.{has_prefix};
 ghost use Rattle.babel_state.specs.State.{gathered, prefixes_in};
@@ -12,7 +13,7 @@ ghost use Rattle.babel_speaker.specs.DueRoutes.{prefixes_due};
 ghost use Rattle.babel_speaker.specs.LinkChanges.{prefixes_from};
 ghost use Rattle.babel_speaker.specs.StalePrefixes.{is_stale};
 
-use crate::tables::{Announced, Prefixes};
+use crate::tables::{Announced, Prefixes, SelectionInputs};
 use babel_choice::{Costs, Cursor, RouteKey};
 use babel_route::{PREFIX_PLACES, Routes};
 use babel_sources::Sources;
@@ -93,7 +94,7 @@ impl Scratch {
 
     /// Adds the prefix of each selection.
     fn insert_selections(&mut self, routes: &Routes)
-        requires room { length self.old + length routes.now.selections ≤ most_listed_prefixes }
+        requires room { length self.old + most_routes ≤ most_listed_prefixes }
         ensures prefixes { self.new ≡ gathered (map (λ e. e.0) routes.now.selections) self.old }
     {
         for selection in routes.selections() {
@@ -106,24 +107,14 @@ impl Scratch {
         &mut self,
         routes: &Routes,
         peer: &Peer,
-        announced: &Announced,
-        sources: &Sources,
-        costs: &C,
+        inputs: &SelectionInputs<'_, C>,
     )
         requires room { length self.old + length routes.now.entries ≤ most_listed_prefixes }
-        ensures { self.new ≡ gathered (filter (is_stale sources.now (C.cost_of costs.now) announced.now routes.now) (prefixes_from peer.now routes.now.entries)) self.old }
+        ensures { self.new ≡ gathered (filter (is_stale inputs.now.sources.now (C.cost_of inputs.now.costs.now) inputs.now.announced.now routes.now) (prefixes_from peer.now routes.now.entries)) self.old }
     {
         let mut cursor = Cursor::new();
         for route in routes.routes() {
-            if is_stale_from(
-                &route.0,
-                peer,
-                routes,
-                announced,
-                sources,
-                costs,
-                &mut cursor,
-            ) {
+            if is_stale_from(&route.0, peer, routes, inputs, &mut cursor) {
                 self.insert(route.0.prefix);
             }
         }
@@ -131,13 +122,11 @@ impl Scratch {
 
     /// Adds the prefix of each route that is due.
     fn insert_due(&mut self, routes: &Routes, now: u64)
-        requires room { length self.old + length routes.now.entries ≤ most_listed_prefixes }
+        requires room { length self.old + most_routes ≤ most_listed_prefixes }
         ensures { self.new ≡ gathered (prefixes_due now routes.now.entries) self.old }
     {
-        for route in routes.routes() {
-            if route.1.deadline <= now {
-                self.insert(route.0.prefix);
-            }
+        for route in routes.due(now) {
+            self.insert(route.0.prefix);
         }
     }
 
@@ -161,8 +150,10 @@ impl Scratch {
         costs: &C,
     )
         requires empty { self.old ≡ [] }
-        requires room { length routes.now.entries + length routes.now.selections ≤ most_listed_prefixes }
-        ensures { (prefix : PrefixValue) → has_prefix prefix (prefixes_in self.new) ≡ is_stale sources.now (C.cost_of costs.now) announced.now routes.now prefix }
+        ensures stale { (prefix : PrefixValue) → has_prefix prefix (prefixes_in self.new) ≡ is_stale sources.now (C.cost_of costs.now) announced.now routes.now prefix }
+        ensures sorted { IsTrue (is_sorted prefix_cmp self.new) }
+        ensures routes_in_order { IsTrue (is_sorted route_cmp routes.now.entries) }
+        ensures selections_in_order { IsTrue (is_sorted prefix_cmp routes.now.selections) }
     {
         let mut walk = routes.prefixes();
         while let Some(prefix) = walk.prefix() {
@@ -184,13 +175,11 @@ impl Scratch {
     )
         ensures in_order { IsTrue (is_sorted prefix_cmp self.new) }
         ensures stale { (prefix : PrefixValue) → has_prefix prefix (prefixes_in self.new) ≡ is_stale sources.now (C.cost_of costs.now) announced.now routes.now prefix }
+        ensures routes_in_order { IsTrue (is_sorted route_cmp routes.now.entries) }
+        ensures selections_in_order { IsTrue (is_sorted prefix_cmp routes.now.selections) }
     {
-        let _routes = routes.len();
-        let _selections = routes.selections();
         self.clear();
         self.insert_stale(routes, announced, sources, costs);
-        // The table is in order.
-        let _count = self.table.len();
     }
 
     /// Makes the set that of the prefixes to which the neighbour has a route and whose selection isn't current.
@@ -198,22 +187,19 @@ impl Scratch {
         &mut self,
         routes: &Routes,
         peer: &Peer,
-        announced: &Announced,
-        sources: &Sources,
-        costs: &C,
+        inputs: &SelectionInputs<'_, C>,
     )
-        ensures { self.new ≡ gathered (filter (is_stale sources.now (C.cost_of costs.now) announced.now routes.now) (prefixes_from peer.now routes.now.entries)) [] }
+        ensures { self.new ≡ gathered (filter (is_stale inputs.now.sources.now (C.cost_of inputs.now.costs.now) inputs.now.announced.now routes.now) (prefixes_from peer.now routes.now.entries)) [] }
     {
         let _routes = routes.len();
         self.clear();
-        self.insert_stale_from(routes, peer, announced, sources, costs);
+        self.insert_stale_from(routes, peer, inputs);
     }
 
     /// Makes the set that of the prefixes that have a route which is due.
     pub fn gather_expiring(&mut self, routes: &Routes, now: u64)
         ensures { self.new ≡ gathered (prefixes_due now routes.now.entries) [] }
     {
-        let _routes = routes.len();
         self.clear();
         self.insert_due(routes, now);
     }
@@ -224,7 +210,6 @@ impl Scratch {
         ensures { self.new ≡ gathered (prefixes_in announced.now ++ map (λ e. e.0) routes.now.selections) [] }
     {
         let _announced = announced.len();
-        let _selections = routes.selections();
         self.clear();
         self.insert_announced(announced);
         self.insert_selections(routes);
@@ -237,16 +222,15 @@ fn is_stale_from<C: Costs>(
     route: &RouteKey,
     peer: &Peer,
     routes: &Routes,
-    announced: &Announced,
-    sources: &Sources,
-    costs: &C,
+    inputs: &SelectionInputs<'_, C>,
     cursor: &mut Cursor,
 ) -> bool
-    ensures { result ≡ (is_from peer.now route.now && is_stale sources.now (C.cost_of costs.now) announced.now routes.now route.now.prefix) }
+    ensures { result ≡ (is_from peer.now route.now && is_stale inputs.now.sources.now (C.cost_of inputs.now.costs.now) inputs.now.announced.now routes.now route.now.prefix) }
 {
     if !route.peer.cmp(peer).is_eq() {
         return false;
     }
-    let local = announced.contains(&route.prefix);
+    let local = inputs.announced.contains(&route.prefix);
+    let (sources, costs) = (inputs.sources, inputs.costs);
     !routes.is_current_near(&route.prefix, local, sources, costs, cursor)
 }

@@ -8,7 +8,7 @@ ghost use Rattle.babel_state.specs.Ticks.{is_last, waited, is_due, next_due, fir
 
 use crate::tables::{Interfaces, RequestTable};
 use babel_state::{InterfaceEntry, LAST_REQUEST_WAIT, PendingRequest, Resend};
-use babel_table::{Revised, Revision, Table, least_due};
+use babel_table::{Revised, Revision, revise_dues};
 use babel_value::Source;
 
 /// Whether the wait of a pending request is over for the last time.
@@ -53,8 +53,7 @@ impl RequestTable {
     pub fn end_waits(&mut self, now: u64)
         ensures { self.new ≡ revised_entries (waited now) self.old }
     {
-        self.table.revise(&Waits { now });
-        self.due = least_due(&self.table);
+        self.due = revise_dues(&mut self.table, &Waits { now });
     }
 }
 

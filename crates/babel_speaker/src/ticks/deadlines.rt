@@ -7,6 +7,7 @@ ghost use Rattle.babel_speaker.specs.StalePrefixes.{is_stale};
 ghost use Rattle.babel_state.specs.CurrentSelections.{AreCurrent};
 ghost use Rattle.babel_state.specs.Ticks.{ticked};
 
+use crate::hints::Hints;
 use crate::state::Core;
 use crate::tables::{Announced, Interfaces, LinkCosts, RequestTable};
 use babel_choice::Costs;
@@ -203,8 +204,8 @@ fn are_current(core: &Core) -> bool
 /// and else the least deadline of the state. If the speaker is settled, all its selections are current, and none
 /// is looked at.
 #[tactic(auto, using(crate::proofs::EarlyTicks::early))]
-pub fn next_due(core: &Core, settled: bool) -> u64
-    requires settled { IsTrue settled → AreCurrent core.now }
+pub fn next_due(core: &Core, hints: &Hints) -> u64
+    requires settled { IsTrue hints.now.settled → AreCurrent core.now }
     ensures idle { (now : ℕ) → now < result → ticked now core.now ≡ core.now }
     ensures pending { core.now.pending.items ≢ [] → result ≡ 0 }
     ensures current { 0 < result → AreCurrent core.now }
@@ -215,7 +216,7 @@ pub fn next_due(core: &Core, settled: bool) -> u64
     if core.pending_count() > 0 {
         return 0;
     }
-    if !settled && !are_current(core) {
+    if !hints.settled && !are_current(core) {
         return 0;
     }
     next_deadline(core)

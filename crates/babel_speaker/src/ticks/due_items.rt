@@ -7,32 +7,38 @@ ghost use Rattle.babel_speaker.specs.TickItems.{repeats_of, all_repeats_of, ihus
 
 use crate::output::queueing::queue_requests_to_unfeasible;
 use crate::tables::timers::{is_due, is_last};
-use crate::tables::{Interfaces, PendingItems, RequestTable, Scratch};
+use crate::tables::{Interfaces, PendingItems, RequestTable, Scratch, SeqnoRequest};
 use babel_link::Neighbours;
 use babel_route::Routes;
 use babel_sources::Sources;
 use babel_state::{InterfaceEntry, Item, PendingRequest, REQUEST_HOPS, Resend, Target};
 use babel_value::Source;
 
-/// Queues a request again whose wait is over, but not for the last time.
+/// Queues the request for a source again if its wait is over, but not for the last time.
 #[tactic(auto, unfolding(babel_state::specs::Queueing::queued))]
 fn queue_repeat(
     pending: &mut PendingItems,
     routes: &Routes,
     sources: &Sources,
     now: u64,
-    source: Source,
-    request: &PendingRequest,
+    entry: &(Source, PendingRequest),
 )
-    ensures { pending.new ≡ queued (repeats_of now sources.now routes.now.entries (source, request.now)) pending.old }
+    ensures { pending.new ≡ queued (repeats_of now sources.now routes.now.entries entry.now) pending.old }
 {
+    let source = entry.0;
+    let request = entry.1;
     if now < request.due || is_last(&request.resend, request.wait) {
         return;
     }
     let seqno = request.seqno;
     match request.resend {
         Resend::Unfeasible => {
-            queue_requests_to_unfeasible(pending, routes, sources, source, seqno, REQUEST_HOPS);
+            let repeat = SeqnoRequest {
+                source,
+                seqno,
+                hops: REQUEST_HOPS,
+            };
+            queue_requests_to_unfeasible(pending, routes, sources, &repeat);
         }
         Resend::Neighbour(peer) => pending.push(Item::Request {
             peer,
@@ -42,23 +48,6 @@ fn queue_repeat(
         }),
         Resend::Never => {}
     }
-}
-
-/// The same of the request that exactly `index` others come before.
-fn queue_repeat_at(
-    pending: &mut PendingItems,
-    requests: &RequestTable,
-    routes: &Routes,
-    sources: &Sources,
-    now: u64,
-    index: usize,
-)
-    ensures { queued (all_repeats_of now sources.now routes.now.entries (drop (index + 1) requests.now)) pending.new ≡ queued (all_repeats_of now sources.now routes.now.entries (drop index requests.now)) pending.old }
-{
-    let Some((source, request)) = requests.at(index) else {
-        return;
-    };
-    queue_repeat(pending, routes, sources, now, source, &request);
 }
 
 /// Queues each request again whose wait is over, but not for the last time.
@@ -73,7 +62,9 @@ pub fn queue_repeats(
     ensures { pending.new ≡ queued (all_repeats_of now sources.now routes.now.entries requests.now) pending.old }
 {
     for index in 0..requests.len() {
-        queue_repeat_at(pending, requests, routes, sources, now, index);
+        if let Some(entry) = requests.at(index) {
+            queue_repeat(pending, routes, sources, now, &entry);
+        }
     }
 }
 
@@ -100,18 +91,19 @@ fn queue_updates(pending: &mut PendingItems, prefixes: &Scratch, iface: u8)
     }
 }
 
-/// Queues what the timers of an interface ask for.
+/// Queues what the timers of an interface ask for, which is given with its number.
 #[tactic(auto, unfolding(babel_state::specs::Queueing::queued), using(crate::proofs::DueItems::queued_both))]
 fn queue_timers(
     pending: &mut PendingItems,
     neighbours: &Neighbours,
     prefixes: &Scratch,
     now: u64,
-    iface: u8,
-    interface: &InterfaceEntry,
+    numbered: &(u8, InterfaceEntry),
 )
-    ensures { pending.new ≡ queued (timers_of now neighbours.now (prefixes_in prefixes.now) iface interface.now) pending.old }
+    ensures { pending.new ≡ queued (timers_of now neighbours.now (prefixes_in prefixes.now) numbered.now.0 numbered.now.1) pending.old }
 {
+    let iface = numbered.0;
+    let interface = numbered.1;
     if is_due(now, interface.hello_due) {
         pending.push(Item::Hello { iface });
     }
@@ -121,23 +113,6 @@ fn queue_timers(
     if is_due(now, interface.update_due) {
         queue_updates(pending, prefixes, iface);
     }
-}
-
-/// The same of the interface of the number.
-fn queue_timers_at(
-    pending: &mut PendingItems,
-    interfaces: &Interfaces,
-    neighbours: &Neighbours,
-    prefixes: &Scratch,
-    now: u64,
-    iface: u8,
-)
-    ensures { queued (all_timers_of now neighbours.now (prefixes_in prefixes.now) (iface + 1) (drop (iface + 1) interfaces.now)) pending.new ≡ queued (all_timers_of now neighbours.now (prefixes_in prefixes.now) iface (drop iface interfaces.now)) pending.old }
-{
-    let Some(interface) = interfaces.get(iface) else {
-        return;
-    };
-    queue_timers(pending, neighbours, prefixes, now, iface, &interface);
 }
 
 /// Queues what the timers of all interfaces ask for.
@@ -152,6 +127,8 @@ pub fn queue_all_timers(
     ensures { pending.new ≡ queued (all_timers_of now neighbours.now (prefixes_in prefixes.now) 0 interfaces.now) pending.old }
 {
     for iface in 0..interfaces.len() {
-        queue_timers_at(pending, interfaces, neighbours, prefixes, now, iface);
+        if let Some(interface) = interfaces.get(iface) {
+            queue_timers(pending, neighbours, prefixes, now, &(iface, interface));
+        }
     }
 }

@@ -3,7 +3,6 @@
 ghost use Rattle.std.specs.Prelude.{◌≡◌, [], IsTrue, IsFalse};
 ghost use Rattle.babel_value.specs.declared.keys.Peer.{Peer};
 ghost use Rattle.babel_link.specs.declared.changes.CostChanges.TheVariants.{Nothing, One};
-ghost use Rattle.babel_state.specs.Hellos.{forget_neighbour};
 ghost use Rattle.babel_state.specs.CurrentSelections.{AreCurrent, AreRoutesInOrder};
 ghost use Rattle.babel_state.specs.SettledLaws.{AreSelectionsInOrder};
 ghost use Rattle.babel_state.specs.KeptRoutes.{KeepsRoutes};
@@ -15,6 +14,7 @@ ghost use Rattle.babel_state.specs.Reselection.{reselect_all};
 ghost use Rattle.babel_state.specs.State.{gathered, prefixes_in};
 ghost use Rattle.babel_state.specs.Ticks.{all_timer_items, routes_selected, forget_each, links_ticked, routes_ticked, requests_ticked, interfaces_ticked, sources_ticked, ticked};
 
+use crate::hints::Hints;
 use crate::state::Core;
 use crate::tables::{LinkChange, Scratch};
 use crate::ticks::due_items::{queue_all_timers, queue_repeats};
@@ -23,22 +23,13 @@ use babel_link::CostChanges;
 use babel_value::Peer;
 
 impl Core {
-    /// Removes the routes of a neighbour.
-    fn forget_neighbour(&mut self, peer: &Peer)
-        ensures { self.new ≡ forget_neighbour peer.now self.old }
-    {
-        self.routes.forget(peer);
-    }
-
     /// Removes the routes of each of the neighbours.
     fn forget_each(&mut self, peers: &[Peer])
-        ensures { self.new ≡ forget_each peers.now self.old }
+        ensures state { self.new ≡ forget_each peers.now self.old }
+        ensures in_order { AreRoutesInOrder self.new }
+        ensures selections_in_order { AreSelectionsInOrder self.new }
     {
-        let mut left = peers;
-        while let Some((peer, rest)) = left.split_first() {
-            self.forget_neighbour(peer);
-            left = rest;
-        }
+        self.routes.forget_all(peers);
     }
 
     /// Takes the deadlines of Hellos and IHUs (RFC 8966, sections 3.4.1 and 3.4.2). Routes of flushed
@@ -51,10 +42,10 @@ impl Core {
         ensures quiet { result ≡ Nothing → AreCurrent self.old → AreCurrent self.new }
         ensures kept { result ≡ Nothing → KeepsRoutes self.old self.new }
         ensures others { (peer : Peer) → result ≡ One peer → AreCurrent self.old → AreOthersCurrent peer self.new }
+        ensures in_order { AreSelectionsInOrder self.new }
     {
-        let changes = self.neighbours.cost_changes(now);
         let mut gone = ArrayVec::new();
-        let _ = self.neighbours.tick(now, &mut gone);
+        let changes = self.neighbours.tick_costs(now, &mut gone);
         self.forget_each(gone.as_slice());
         changes
     }
@@ -62,45 +53,28 @@ impl Core {
     /// Selects routes again after the deadlines of Hellos and IHUs. It leaves what a reselection of all leaves. If the
     /// speaker was settled and at most the cost of one link changed, it looks only at the prefixes to which its neighbour
     /// has a route. If it returns `false`, nothing changed by it and no cost did either.
-    fn reselect_links(
-        &mut self,
-        changes: CostChanges,
-        settled: bool,
-        now: u64,
-        scratch: &mut Scratch,
-    ) -> bool
-        requires nothing { IsTrue settled → changes ≡ Nothing → AreCurrent self.old }
-        requires others { IsTrue settled → (peer : Peer) → changes ≡ One peer → AreOthersCurrent peer self.old }
+    #[tactic(auto, using(crate::proofs::Settling::settled_all))]
+    fn reselect_links(&mut self, changes: CostChanges, now: u64, hints: &mut Hints) -> bool
+        requires nothing { IsTrue hints.old.settled → changes ≡ Nothing → AreCurrent self.old }
+        requires others { IsTrue hints.old.settled → (peer : Peer) → changes ≡ One peer → AreOthersCurrent peer self.old }
+        requires in_order { AreSelectionsInOrder self.old }
         ensures state { self.new ≡ reselect_all now self.old }
         ensures current { AreCurrent self.new }
         ensures quiet { IsFalse result → (changes ≡ Nothing) × (self.new ≡ self.old) }
     {
         match changes {
-            CostChanges::Nothing => self.reselect_after(false, settled, now, scratch),
-            CostChanges::One(peer) => {
-                self.reselect_link(LinkChange::Cost, settled, now, &peer, scratch)
+            CostChanges::Nothing => {
+                if hints.settled {
+                    return false;
+                }
+                self.reselect_all(now, &mut hints.scratch)
             }
+            CostChanges::One(peer) => self.reselect_link(LinkChange::Cost, now, &peer, hints),
             CostChanges::Several => {
-                self.reselect_after(true, settled, now, scratch);
+                self.reselect_all(now, &mut hints.scratch);
                 true
             }
         }
-    }
-
-    /// Whether a route may be due. If it returns `false`, none is.
-    #[tactic(auto, unfolding(babel_state::specs::Ticks::routes_ticked))]
-    fn may_expire(&self, now: u64) -> bool
-        ensures { IsFalse result → routes_ticked now self.now ≡ self.now }
-    {
-        self.routes.may_be_due(now)
-    }
-
-    /// Takes the deadlines of routes (RFC 8966, section 3.5.4).
-    #[tactic(auto, unfolding(babel_state::specs::Ticks::routes_ticked))]
-    fn tick_routes(&mut self, now: u64)
-        ensures { self.new ≡ routes_ticked now self.old }
-    {
-        let _ = self.routes.expire(now);
     }
 
     /// Makes the set that of the prefixes that have a route which is due.
@@ -110,12 +84,15 @@ impl Core {
         scratch.gather_expiring(&self.routes, now);
     }
 
-    /// The routes and the selections are in the order of their keys. The call does nothing.
-    fn tables_are_in_order(&self)
-        ensures routes { AreRoutesInOrder self.now }
-        ensures selections { AreSelectionsInOrder self.now }
+    /// Takes the deadlines of routes (RFC 8966, section 3.5.4). If it returns `false`, none is due.
+    #[tactic(auto, unfolding(babel_state::specs::Ticks::routes_ticked))]
+    fn tick_routes(&mut self, now: u64) -> bool
+        ensures state { self.new ≡ routes_ticked now self.old }
+        ensures quiet { IsFalse result → self.new ≡ self.old }
+        ensures in_order { AreRoutesInOrder self.new }
+        ensures selections_in_order { AreSelectionsInOrder self.new }
     {
-        let _count = self.routes.len();
+        self.routes.expire(now)
     }
 
     /// Takes the deadlines of routes, and selects the routes of their prefixes again. All other selections stay current,
@@ -127,13 +104,10 @@ impl Core {
         ensures current { AreCurrent self.new }
         ensures quiet { IsFalse result → self.new ≡ self.old }
     {
-        self.tables_are_in_order();
-        if !self.may_expire(now) {
+        self.gather_expiring(now, scratch);
+        if !self.tick_routes(now) {
             return false;
         }
-        self.gather_expiring(now, scratch);
-        self.tick_routes(now);
-        self.tables_are_in_order();
         self.reselect_each(now, scratch);
         true
     }
@@ -148,9 +122,7 @@ impl Core {
         if !self.collects {
             return false;
         }
-        let count = self.sources.len();
-        let _ = self.sources.collect(now);
-        self.sources.len() < count
+        self.sources.collect(now)
     }
 
     /// Repeats the requests whose wait is over (RFC 8966, section 3.8.2.1). As long as none can be, it looks
@@ -222,39 +194,33 @@ impl Core {
     /// one neighbour's prefixes if only the cost of its link changes. If it returns `false`, the selected routes are reported
     /// as before.
     #[tactic(auto, using(crate::proofs::Settling::still_current))]
-    fn tick_selections(&mut self, now: u64, settled: bool, scratch: &mut Scratch) -> bool
-        requires settled { IsTrue settled → AreCurrent self.old }
+    fn tick_selections(&mut self, now: u64, hints: &mut Hints) -> bool
+        requires settled { IsTrue hints.old.settled → AreCurrent self.old }
         ensures state { self.new ≡ routes_selected now self.old }
         ensures current { AreCurrent self.new }
         ensures kept { IsFalse result → KeepsRoutes self.old self.new }
     {
         let changes = self.tick_links(now);
-        let selected = self.reselect_links(changes, settled, now, scratch);
-        let expired = self.expire_routes(now, scratch);
+        let selected = self.reselect_links(changes, now, hints);
+        let expired = self.expire_routes(now, &mut hints.scratch);
         selected || expired
     }
 
-    /// Takes all that is due (RFC 8966, sections 3.2.5, 3.4, 3.5.4, 3.7.1 and 3.8.2.1). Returns whether the
-    /// speaker is settled then: all its selections are current, and no source was collected, so that its snapshot is as
-    /// before. Unless `changed` is `true` then, the selected routes are reported as before.
+    /// Takes all that is due (RFC 8966, sections 3.2.5, 3.4, 3.5.4, 3.7.1 and 3.8.2.1). If the speaker is settled then, all
+    /// its selections are current, and no source was collected, so that its snapshot is as before. If the hints aren't
+    /// `changed` then, the selected routes are reported as before.
     #[tactic(auto, unfolding(babel_state::specs::Ticks::ticked), using(crate::proofs::Settling::timed_current))]
-    pub fn tick(
-        &mut self,
-        now: u64,
-        settled: bool,
-        changed: &mut bool,
-        scratch: &mut Scratch,
-    ) -> bool
-        requires settled { IsTrue settled → AreCurrent self.old }
+    pub fn tick(&mut self, now: u64, hints: &mut Hints)
+        requires settled { IsTrue hints.old.settled → AreCurrent self.old }
         ensures state { self.new ≡ ticked now self.old }
-        ensures current { IsTrue result → AreCurrent self.new }
-        ensures kept { IsFalse changed.new → KeepsRoutes self.old self.new }
-        ensures saved { IsTrue result → snapshot_of self.new ≡ snapshot_of self.old }
+        ensures current { IsTrue hints.new.settled → AreCurrent self.new }
+        ensures kept { IsFalse hints.new.changed → KeepsRoutes self.old self.new }
+        ensures saved { IsTrue hints.new.settled → snapshot_of self.new ≡ snapshot_of self.old }
     {
-        *changed = self.tick_selections(now, settled, scratch);
+        hints.changed = self.tick_selections(now, hints);
         self.tick_requests(now);
-        self.tick_interfaces(now, scratch);
+        self.tick_interfaces(now, &mut hints.scratch);
         let collected = self.tick_sources(now);
-        !collected
+        hints.settled = !collected;
     }
 }

@@ -10,11 +10,11 @@ use Rattle.babel_speaker.proofs.output.datagrams.fill.Given as goal
 
 abbrev pub invariant-loop-item : goal.invariant-loop-item
 invariant-loop-item l = record {
-  current : IsTrue l.settled → AreCurrent l.core;
-  marked : IsFalse l.lowered → IsFalse l.fn.lowered;
-  saved : IsFalse l.lowered → snapshot_of l.core ≡ snapshot_of l.fn.core;
+  current : IsTrue l.hints.settled → AreCurrent l.core;
+  marked : IsFalse l.hints.lowered → IsFalse l.fn.hints.lowered;
+  saved : IsFalse l.hints.lowered → snapshot_of l.core ≡ snapshot_of l.fn.core;
   filling : (b : Built) (ms : List Message) → l.fn.builder ≡ built_of b ms →
-      IsFilling l.now b ms l.target (drafted l.now (fits_at b) l.fn.core.pending.items (draft_to l.target l.fn.core ms)) l.fn.builder l.core l.builder;
+      IsFilling l.departure.now b ms l.departure.target (drafted l.departure.now (fits_at b) l.fn.core.pending.items (draft_to l.departure.target l.fn.core ms)) l.fn.builder l.core l.builder;
 }
 
 abbrev pub decreases-loop-item : goal.decreases-loop-item

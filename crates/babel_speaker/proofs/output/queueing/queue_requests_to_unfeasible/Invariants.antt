@@ -7,5 +7,5 @@ use Rattle.babel_speaker.proofs.output.queueing.queue_requests_to_unfeasible.Giv
 
 abbrev pub invariant-loop-route : goal.invariant-loop-route
 invariant-loop-route l =
-    queued (request_items l.source l.seqno l.hops (map (λ r. r.0.peer) (filter (is_unfeasible l.sources) l.route-iterator))) l.pending
-    ≡ queued (request_items l.source l.seqno l.hops (map (λ r. r.0.peer) (filter (is_unfeasible l.sources) (routes_of l.source.prefix l.routes.entries)))) l.fn.pending
+    queued (request_items l.request.source l.request.seqno l.request.hops (map (λ r. r.0.peer) (filter (is_unfeasible l.sources) l.route-iterator))) l.pending
+    ≡ queued (request_items l.request.source l.request.seqno l.request.hops (map (λ r. r.0.peer) (filter (is_unfeasible l.sources) (routes_of l.request.source.prefix l.routes.entries)))) l.fn.pending

@@ -18,6 +18,6 @@ returns-clause-counted c =
     let before : SpeakerValue = record { state = c.self.inside.core; routes_version = c.self.inside.routes; snapshot_version = c.self.inside.snapshot } in
     let after : SpeakerValue = record { state = c.next_datagram-target.new.core; routes_version = c.self.inside.routes; snapshot_version = c.note.new.self } in
     counts_from before c.args.self.now after c.self.view_is
-    (counts before after false c.next_datagram-target.new.lowered (not_counted c.self.inside.routes) (record { grows = c.note.ensures.grows; counted = c.note.ensures.counted })
+    (counts before after false c.next_datagram-target.new.hints.lowered (not_counted c.self.inside.routes) (record { grows = c.note.ensures.grows; counted = c.note.ensures.counted })
     (λ _. subst (KeepsRoutes c.self.inside.core) (sym c.next_datagram-target.ensures.state) (selected_kept c.self.inside.core _ (sending_known c.args.now _ c.self.inside.core)))
     c.next_datagram-target.ensures.saved)

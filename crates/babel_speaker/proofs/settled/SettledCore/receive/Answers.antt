@@ -10,6 +10,6 @@ returns-clause-counted c =
     let before : SpeakerValue = record { state = c.self.inside.core; routes_version = c.self.inside.routes; snapshot_version = c.self.inside.snapshot } in
     let after : SpeakerValue = record { state = c.receive.new.core; routes_version = c.note.new.self; snapshot_version = c.note-2.new.self } in
     counts_from before c.args.self.now after c.self.view_is
-    (counts before after c.receive.new.changed c.has_grown.result (record { grows = c.note.ensures.grows; counted = c.note.ensures.counted })
+    (counts before after c.receive.new.hints.changed c.has_grown.result (record { grows = c.note.ensures.grows; counted = c.note.ensures.counted })
     (record { grows = c.note-2.ensures.grows; counted = c.note-2.ensures.counted }) c.receive.ensures.kept
-    (λ same. received_snapshot c.args.now _ _ _ c.self.inside.core c.receive.new.core _ c.in-Ok.ensures.ok (c.has_grown.ensures.seqno same ∙ c.own_seqno-seqno.ensures) (c.has_grown.ensures.raises same ∙ c.raises-raises.ensures)))
+    (λ same. received_snapshot c.args.arrival.now _ _ _ c.self.inside.core c.receive.new.core _ c.in-Ok.ensures.ok (c.has_grown.ensures.seqno same ∙ c.own_seqno-seqno.ensures) (c.has_grown.ensures.raises same ∙ c.raises-raises.ensures)))

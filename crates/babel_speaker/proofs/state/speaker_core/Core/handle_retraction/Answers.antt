@@ -8,7 +8,7 @@ use Rattle.babel_speaker.proofs.state.speaker_core.Core.handle_retraction.Goals 
 
 pub returns-then-retract-clause-kept : goal.returns-then-retract-clause-kept
 returns-then-retract-clause-kept c same =
-    subst (λ (s : State). KeepsRoutes s c.reselect_near.new.self) c.self.view_is
+    subst (λ (s : State). KeepsRoutes s c.reselect_near-hints.new.self) c.self.view_is
     (routes_through _ _ _
     (parts_routes _ _ (λ prefix. ap (λ (routes : RoutesValue). selection_at prefix routes) c.retract.ensures.routes) refl)
-    (c.reselect_near.ensures.kept same))
+    (c.reselect_near-hints.ensures.kept same))

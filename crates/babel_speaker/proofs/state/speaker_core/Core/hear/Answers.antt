@@ -7,14 +7,14 @@ use Rattle.babel_speaker.proofs.state.speaker_core.Core.hear.Goals as goal
 
 pub returns-in-Kept-clause-nothing : goal.returns-in-Kept-clause-nothing
 returns-in-Kept-clause-nothing c nothing current =
-    heard_current c.args.now c.args.peer.now c.args.unicast c.args.seqno c.args.interval c.args.self.now c.take_hello.new.self c.in-Ok.ensures.ok (sym c.in-Ok.ensures.heard ∙ c.in-Kept.is)
+    heard_current c.args.arrival.now c.args.arrival.peer c.args.hello.now.unicast c.args.hello.now.seqno c.args.hello.now.interval c.args.self.now c.take_hello.new.self c.in-Ok.ensures.ok (sym c.in-Ok.ensures.heard ∙ c.in-Kept.is)
     (same_of _ _ _ c.change_from.ensures nothing ∙ c.cost-cost.ensures) current
 
 pub returns-in-Kept-clause-kept : goal.returns-in-Kept-clause-kept
 returns-in-Kept-clause-kept c nothing =
-    hello_routes c.args.now c.args.peer.now c.args.unicast c.args.seqno c.args.interval c.args.self.now c.take_hello.new.self c.in-Ok.ensures.ok (sym c.in-Ok.ensures.heard ∙ c.in-Kept.is)
+    hello_routes c.args.arrival.now c.args.arrival.peer c.args.hello.now.unicast c.args.hello.now.seqno c.args.hello.now.interval c.args.self.now c.take_hello.new.self c.in-Ok.ensures.ok (sym c.in-Ok.ensures.heard ∙ c.in-Kept.is)
     (same_of _ _ _ c.change_from.ensures nothing ∙ c.cost-cost.ensures)
 
 pub returns-in-Kept-clause-cost : goal.returns-in-Kept-clause-cost
 returns-in-Kept-clause-cost c changed current =
-    hello_others c.args.now c.args.peer.now c.args.unicast c.args.seqno c.args.interval c.args.self.now c.take_hello.new.self c.in-Ok.ensures.ok (sym c.in-Ok.ensures.heard ∙ c.in-Kept.is) current
+    hello_others c.args.arrival.now c.args.arrival.peer c.args.hello.now.unicast c.args.hello.now.seqno c.args.hello.now.interval c.args.self.now c.take_hello.new.self c.in-Ok.ensures.ok (sym c.in-Ok.ensures.heard ∙ c.in-Kept.is) current

@@ -14,12 +14,14 @@ pub returns-clause-state : goal.returns-clause-state
 returns-clause-state c =
     let inside = c.self.inside in
     let links = c.new-links.ensures in
+    let inputs = c.new-inputs.ensures in
     let peer = c.args.peer.now in
     stale_from_reselected c.args.now peer c.args.self.now c.reselect_each.new.self c.gather_stale_from.new.self
     (subst (λ (s : State). AreRoutesInOrder s) c.self.view_is c.len-count.ensures.in_order)
     (subst (λ (s : State). AreSelectionsInOrder s) c.self.view_is c.len-count.ensures.selections_in_order)
     c.requires.others
     (c.gather_stale_from.ensures
+    ∙ (λ i. gathered (filter (is_stale (inputs.sources i) (link_cost ((inputs.costs i).interfaces.now) ((inputs.costs i).neighbours.now)) (inputs.announced i) inside.routes) (prefixes_from peer inside.routes.entries)) [])
     ∙ (λ i. gathered (filter (is_stale inside.sources (link_cost (links.interfaces i) (links.neighbours i)) inside.announced inside.routes) (prefixes_from peer inside.routes.entries)) [])
     ∙ ap (λ (s : State). gathered (filter (is_stale s.sources (cost_at s) s.announced s.routes) (prefixes_from peer s.routes.entries)) []) c.self.view_is)
     c.reselect_each.ensures

@@ -4,5 +4,5 @@ use Rattle.babel_speaker.proofs.state.speaker_core.Core.reselect_near.Goals as g
 
 pub returns-clause-kept : goal.returns-clause-kept
 returns-clause-kept c same =
-    stored_routes c.args.prefix.now c.args.self.now.routes.entries c.args.self.now c.select_near-old.new.self c.follow_up.new.self _ _ c.are_alike.result
-    c.select_near-old.ensures.state c.select_near-old.ensures.old c.select_near-old.ensures.new c.are_alike.ensures same c.follow_up.ensures.kept
+    stored_routes c.args.prefix.now c.args.self.now.routes.entries c.args.self.now c.select_near-selections.new.self c.follow_up.new.self _ _ c.are_alike.result
+    c.select_near-selections.ensures.state c.select_near-selections.ensures.old c.select_near-selections.ensures.new c.are_alike.ensures same c.follow_up.ensures.kept

@@ -6,11 +6,11 @@ use Rattle.babel_speaker.proofs.state.speaker_core.Core.tick.Goals as goal
 
 pub returns-clause-kept : goal.returns-clause-kept
 returns-clause-kept c same =
-    routes_through c.args.self.now _ _ (c.tick_selections.ensures.kept same)
+    routes_through c.args.self.now _ _ (c.tick_selections-hints.ensures.kept same)
     (timed_routes c.args.now _ _ _ _ c.tick_requests.ensures c.tick_interfaces.ensures c.tick_sources-collected.ensures.state)
 
 -- If it collects nothing, it leaves the snapshot as it is.
 pub returns-clause-saved : goal.returns-clause-saved
 returns-clause-saved c settled =
-    tick_snapshot c.args.now c.args.self.now _ _ _ _ c.tick_selections.ensures.state c.tick_requests.ensures c.tick_interfaces.ensures
+    tick_snapshot c.args.now c.args.self.now _ _ _ _ c.tick_selections-hints.ensures.state c.tick_requests.ensures c.tick_interfaces.ensures
     (c.tick_sources-collected.ensures.quiet (unsaid c.tick_sources-collected.result settled))

@@ -40,8 +40,9 @@ returns-clause-quiet c nothing current =
       pending = inside.pending;
       left_out = inside.left_out;
     } in
-    ticked_current c.args.now s c.forget_each.new.self c.tick.new.self c.as_slice.result.now c.forget_each.ensures c.tick.ensures.links (c.as_slice.ensures.value ∙ c.tick.ensures.gone)
-    (c.cost_changes-changes.ensures.costs nothing) (c.cost_changes-changes.ensures.gone (known nothing)) (subst AreCurrent (sym c.self.view_is) current)
+    let costs = c.tick_costs-changes in
+    ticked_current s c.forget_each.new.self costs.new.self c.as_slice.result.now c.forget_each.ensures.state (costs.ensures.costs nothing) (c.as_slice.ensures.value ∙ costs.ensures.flushed (known nothing))
+    (subst AreCurrent (sym c.self.view_is) current)
 
 pub returns-clause-kept : goal.returns-clause-kept
 returns-clause-kept c nothing =
@@ -60,9 +61,9 @@ returns-clause-kept c nothing =
       pending = inside.pending;
       left_out = inside.left_out;
     } in
+    let costs = c.tick_costs-changes in
     subst (λ (s : State). KeepsRoutes s c.forget_each.new.self) c.self.view_is
-    (ticked_routes c.args.now s c.forget_each.new.self c.tick.new.self c.as_slice.result.now c.forget_each.ensures c.tick.ensures.links (c.as_slice.ensures.value ∙ c.tick.ensures.gone)
-    (c.cost_changes-changes.ensures.costs nothing) (c.cost_changes-changes.ensures.gone (known nothing)))
+    (ticked_routes s c.forget_each.new.self costs.new.self c.as_slice.result.now c.forget_each.ensures.state (costs.ensures.costs nothing) (c.as_slice.ensures.value ∙ costs.ensures.flushed (known nothing)))
 
 pub returns-clause-others : goal.returns-clause-others
 returns-clause-others c peer one current =
@@ -81,5 +82,6 @@ returns-clause-others c peer one current =
       pending = inside.pending;
       left_out = inside.left_out;
     } in
-    ticked_others c.args.now peer s c.forget_each.new.self c.tick.new.self c.as_slice.result.now c.forget_each.ensures c.tick.ensures.links (c.as_slice.ensures.value ∙ c.tick.ensures.gone)
-    (c.cost_changes-changes.ensures.others peer one) (c.cost_changes-changes.ensures.gone (known_one peer one)) (subst AreCurrent (sym c.self.view_is) current)
+    let costs = c.tick_costs-changes in
+    ticked_others peer s c.forget_each.new.self costs.new.self c.as_slice.result.now c.forget_each.ensures.state (costs.ensures.others peer one) (c.as_slice.ensures.value ∙ costs.ensures.flushed (known_one peer one))
+    (subst AreCurrent (sym c.self.view_is) current)

@@ -1,10 +1,11 @@
 -- What is added from here on leaves what all leave, and there is room for it.
 use Rattle.std.proofs.Common.{◌≡◌, ◌≤◌, ◌+◌, length, map}
+use Rattle.babel_route.specs.Rooms.{most_routes}
 use Rattle.babel_state.specs.State.{gathered}
 use Rattle.babel_speaker.proofs.tables.scratch.Scratch.insert_selections.Given as goal
 
 abbrev pub invariant-loop-selection : goal.invariant-loop-selection
 invariant-loop-selection l = record {
   done : gathered (map (λ e. e.0) l.selection-iterator) l.self ≡ gathered (map (λ e. e.0) l.routes.selections) l.fn.self;
-  room : length l.self + length l.selection-iterator ≤ length l.fn.self + length l.routes.selections;
+  room : length l.self + length l.selection-iterator ≤ length l.fn.self + most_routes;
 }

@@ -1,5 +1,9 @@
 -- A prefix is passed, and it's in the set if its selection isn't current.
-use Rattle.std.proofs.Common.{◌<◌, refl, sym, ap, subst, ◌∙◌, arith}
+use Rattle.std.specs.FinMap.{is_sorted}
+use Rattle.std.proofs.Common.{◌≡◌, ◌<◌, true, refl, sym, ap, subst, ◌∙◌, arith}
+use Rattle.babel_value.specs.Orders.{prefix_cmp}
+use Rattle.babel_value.proofs.OrderLaws.{prefix_total}
+use Rattle.babel_table.proofs.PlaceLemmas.{sorted_put}
 use Rattle.babel_route.specs.Currency.{is_current}
 use Rattle.babel_route.specs.PrefixWalks.{without_prefix}
 use Rattle.babel_route.specs.Selections.{RoutesValue}
@@ -33,6 +37,7 @@ loop-prefix-preserved-then-not-pass g c =
       done = subst (λ (w : RoutesValue). AreDone sources cost announced routes c.insert.new.self w) (sym c.pass.ensures.rest)
           (subst (λ (s : PrefixSet). AreDone sources cost announced routes s (without_prefix prefix walk)) (sym c.insert.ensures.prefixes) (step_stale sources cost announced routes prefix set walk stale kept.done));
       room = omega (arith, less, kept.room, c.insert.ensures.few);
+      sorted = subst (λ (s : PrefixSet). is_sorted prefix_cmp s ≡ true) (sym c.insert.ensures.prefixes) (sorted_put prefix_cmp prefix_total prefix tt set kept.sorted);
     }
 
 pub loop-prefix-preserved : goal.loop-prefix-preserved
@@ -50,10 +55,11 @@ loop-prefix-preserved g c =
     record {
       done = subst (λ (w : RoutesValue). AreDone sources cost announced routes set w) (sym c.pass.ensures.rest) (step_current sources cost announced routes prefix set walk current kept.done);
       room = omega (arith, less, kept.room);
+      sorted = kept.sorted;
     }
 
-pub returns : goal.returns
-returns g c =
+pub returns-clause-stale : goal.returns-clause-stale
+returns-clause-stale g c =
     let sources = c.args.sources.now in
     let cost = g.C.Costs.cost_of c.args.costs.now in
     let announced = c.args.announced.now in
