@@ -33,7 +33,7 @@ pub record Laws : Type 0 where
   pub named : SoundHasNoLoop
   pub one_origin : SoundHasNoLoopWithOneOrigin
 
-network_after : EventsKeepNetworks → (done : List Event) (old : NetworkState) (networks : List NetworkState) → IsNetwork old → MakeAll done old networks → IsNetwork (last_network old networks)
+pub network_after : EventsKeepNetworks → (done : List Event) (old : NetworkState) (networks : List NetworkState) → IsNetwork old → MakeAll done old networks → IsNetwork (last_network old networks)
 network_after kept [] old [] net h = net
 network_after kept [] old (n ∷ ns) net h = absurd h
 network_after kept (e ∷ es) old [] net h = absurd h

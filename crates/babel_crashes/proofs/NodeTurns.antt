@@ -17,7 +17,7 @@ use Rattle.babel_crashes.specs.CrashLaws.{TurnsAreEvents}
 use Rattle.babel_crashes.proofs.Events.{Settings, leads_on, leads_nowhere, tick_leads, restart_leads, Emitted, emit_leads, silent_leads, deliver_leads}
 
 -- A network to which events lead.
-record Comes (node : ℕ) (config : Config) (s : State) (n : NetworkState) : Type 0 where
+pub record Comes (node : ℕ) (config : Config) (s : State) (n : NetworkState) : Type 0 where
   pub new : NetworkState
   pub leads : LeadsTo node config s n new
 
@@ -36,7 +36,7 @@ from_network laws n node now iface config old new d is (number, inside, at) (not
       leads = deliver_leads laws n node now iface number config old d placed is (slice_get_read n.sent (length n.sent) number d refl inside (sym at)) none read;
     })
 
-receives : Settings → (n : NetworkState) (node now : ℕ) (config : Config) (receipt : Receipt) (is_refused : Bool) (old new : State) → IsAt n node config old → IsFrom n.sent receipt →
+pub receives : Settings → (n : NetworkState) (node now : ℕ) (config : Config) (receipt : Receipt) (is_refused : Bool) (old new : State) → IsAt n node config old → IsFrom n.sent receipt →
     Receives now receipt is_refused old new → Comes node config new n
 receives laws n node now config (Datagram iface source octets) false old new is (d, there, same_source, same_octets) h =
     from_network laws n node now iface config old new d is there
@@ -51,7 +51,7 @@ receives laws n node now config Failed is_refused old new is from (not, same) =
 
 -- ---- what is sent
 
-record AllSent (node : ℕ) (config : Config) (xs : List Sending) (s : State) (n : NetworkState) : Type 0 where
+pub record AllSent (node : ℕ) (config : Config) (xs : List Sending) (s : State) (n : NetworkState) : Type 0 where
   pub new : NetworkState
   pub leads : LeadsTo node config s n new
   pub records : (x : Sending) → Contains xs x → IsRecorded node config new.sent x
@@ -95,7 +95,7 @@ pending laws n node now config xs old new is s =
       records = λ x h. still_recorded node config new sent.new rest.new x rest.leads (sent.records x h);
     }
 
-turn_made : Settings → (n : NetworkState) (node : ℕ) (config : Config) (t : Turn) (old new : State) → IsAt n node config old → IsFrom n.sent t.receipt → IsTurn old t new →
+pub turn_made : Settings → (n : NetworkState) (node : ℕ) (config : Config) (t : Turn) (old new : State) → IsAt n node config old → IsFrom n.sent t.receipt → IsTurn old t new →
     AllSent node config t.sendings new n
 turn_made laws n node config t old new is from turn =
     let came : Comes node config turn.received n = receives laws n node t.now config t.receipt t.is_refused old turn.received is from turn.receives in
@@ -111,7 +111,7 @@ turn_made laws n node config t old new is from turn =
 
 -- ---- steps
 
-still_from : (old new : List SentOctets) (receipt : Receipt) → ((d : SentOctets) → Contains old d → Contains new d) → IsFrom old receipt → IsFrom new receipt
+pub still_from : (old new : List SentOctets) (receipt : Receipt) → ((d : SentOctets) → Contains old d → Contains new d) → IsFrom old receipt → IsFrom new receipt
 still_from old new (Datagram iface source octets) keeps (d, there, same_source, same_octets) = (d, keeps d there, same_source, same_octets)
 still_from old new Nothing keeps from = tt
 still_from old new Failed keeps from = tt

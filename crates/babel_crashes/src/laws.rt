@@ -2,8 +2,9 @@
 //! nothing.
 
 ghost use Rattle.babel_crashes.specs.CrashLaws.{TurnsAreEvents, CrashesAreRestartEvents, LivesAreRestartEvents};
+ghost use Rattle.babel_crashes.specs.IntakeLaws.{StepsAreEvents, CrashesWithIntakesAreRestartEvents};
 
-use babel_durable::laws::what_is_kept_covers_what_was_sent;
+use babel_durable::laws::{intakes_are_covered, what_is_kept_covers_what_was_sent};
 use babel_machine::laws::sound_networks_have_no_loop;
 use babel_net::laws::networks_go_on;
 use babel_state::laws::settings_stay;
@@ -24,6 +25,23 @@ pub fn crashes_are_restart_events()
 {
     turns_are_events();
     what_is_kept_covers_what_was_sent();
+    networks_go_on();
+    sound_networks_have_no_loop();
+}
+
+/// Turns of a speaker, and datagrams that it takes in between them, are events of the network too.
+pub fn steps_are_events()
+    ensures { StepsAreEvents }
+{
+    settings_stay();
+}
+
+/// A crash of a node that takes in datagrams between its turns is the event Restart too.
+pub fn crashes_with_intakes_are_restart_events()
+    ensures { CrashesWithIntakesAreRestartEvents }
+{
+    steps_are_events();
+    intakes_are_covered();
     networks_go_on();
     sound_networks_have_no_loop();
 }

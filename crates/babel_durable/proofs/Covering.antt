@@ -14,11 +14,11 @@ use Rattle.babel_durable.proofs.Members.{AreIn, none_in, joined_in, in_one, in_m
 
 -- ---- cuts
 
-abbrev After : List Call → List Call → List Call → Type 0
+abbrev pub After : List Call → List Call → List Call → Type 0
 After xs ys cut = (later : List Call) × (cut ≡ xs ++ later) × IsCutOf later ys
 
 -- A cut of two lists of calls is in the first, or after it.
-cut_in : (xs ys cut : List Call) → IsCutOf cut (xs ++ ys) → IsCutOf cut xs ⊎ After xs ys cut
+pub cut_in : (xs ys cut : List Call) → IsCutOf cut (xs ++ ys) → IsCutOf cut xs ⊎ After xs ys cut
 cut_in [] ys cut h = inr (cut, refl, h)
 cut_in (x ∷ xs) ys [] h = inl tt
 cut_in (x ∷ xs) ys (c ∷ cs) (inr killed) = inl (inr killed)
@@ -28,11 +28,11 @@ cut_in (x ∷ xs) ys (c ∷ cs) (inl (same, rest)) = by (cut_in xs ys cs rest)
     by (inl within) = inl (inl (same, within))
     by (inr (later, is, cut)) = inr (later, ap (λ d. d ∷ cs) same ∙ ap (λ ds. x ∷ ds) is, cut)
 
-whole_cut : (xs : List Call) → IsCutOf xs xs
+pub whole_cut : (xs : List Call) → IsCutOf xs xs
 whole_cut [] = tt
 whole_cut (x ∷ xs) = inl (refl, whole_cut xs)
 
-sent_joined : (xs ys : List Call) → sent_in (xs ++ ys) ≡ sent_in xs ++ sent_in ys
+pub sent_joined : (xs ys : List Call) → sent_in (xs ++ ys) ≡ sent_in xs ++ sent_in ys
 sent_joined [] ys = refl
 sent_joined (Recv receipt ∷ xs) ys = sent_joined xs ys
 sent_joined (Now moment ∷ xs) ys = sent_joined xs ys
@@ -40,16 +40,16 @@ sent_joined (Send x ∷ xs) ys = ap (λ zs. x ∷ zs) (sent_joined xs ys)
 sent_joined (Keep octets is_done ∷ xs) ys = sent_joined xs ys
 
 -- A cut of the rest, with the same on disk and the same sent.
-abbrev Same : List Call → List Call → Type 0
+abbrev pub Same : List Call → List Call → Type 0
 Same rest cut = (later : List Call) × IsCutOf later rest × ((files : List File) → on_disk files cut ≡ on_disk files later) × (sent_in cut ≡ sent_in later)
 
-after_recv : (receipt : Receipt) (rest cut : List Call) → IsCutOf cut (Recv receipt ∷ rest) → Same rest cut
+pub after_recv : (receipt : Receipt) (rest cut : List Call) → IsCutOf cut (Recv receipt ∷ rest) → Same rest cut
 after_recv receipt rest [] h = ([], tt, (λ files. refl), refl)
 after_recv receipt rest (c ∷ cs) (inl (same, later)) = (cs, later, (λ files. ap (λ d. on_disk files (d ∷ cs)) same), ap (λ d. sent_in (d ∷ cs)) same)
 after_recv receipt rest (c ∷ cs) (inr (same, none)) =
     ([], tt, (λ files. ap (λ d. on_disk files (d ∷ cs)) same ∙ ap (λ ds. on_disk files ds) none), ap (λ d. sent_in (d ∷ cs)) same ∙ ap sent_in none)
 
-after_now : (moment : ℕ) (rest cut : List Call) → IsCutOf cut (Now moment ∷ rest) → Same rest cut
+pub after_now : (moment : ℕ) (rest cut : List Call) → IsCutOf cut (Now moment ∷ rest) → Same rest cut
 after_now moment rest [] h = ([], tt, (λ files. refl), refl)
 after_now moment rest (c ∷ cs) (inl (same, later)) = (cs, later, (λ files. ap (λ d. on_disk files (d ∷ cs)) same), ap (λ d. sent_in (d ∷ cs)) same)
 after_now moment rest (c ∷ cs) (inr (same, none)) =
@@ -75,7 +75,7 @@ sends_cut (x ∷ xs) (c ∷ cs) (inr (same, none)) =
 -- ---- one turn
 
 -- The file is the snapshot after the turn, and what was sent was taken in it. Or it is an old one, and nothing was sent.
-abbrev IsOf : List File → List Call → Snapshot → List Sending → File → Type 0
+abbrev pub IsOf : List File → List Call → Snapshot → List Sending → File → Type 0
 IsOf files cut snapshot sendings file =
     (Contains files file × (sent_in cut ≡ [])) ⊎ ((octets : List ℕ) × (file ≡ Some octets) × AreOctetsOf snapshot octets × AreIn (sent_in cut) sendings)
 
@@ -122,7 +122,7 @@ keeping_cut last snapshot (Tried octets is_done) sendings turn files (c ∷ cs) 
     (only_tried octets files snapshot sendings file keeps (subst (λ ds. Contains (on_disk files ds) file) is at))
 
 -- What may be on disk when a process is killed in a turn.
-turn_cut : (last : Option Snapshot) (snapshot : Snapshot) (t : DurableTurn) (files : List File) (cut : List Call) (file : File) →
+pub turn_cut : (last : Option Snapshot) (snapshot : Snapshot) (t : DurableTurn) (files : List File) (cut : List Call) (file : File) →
     Keeps last snapshot t.keeping → IsOnDisk last files → IsCutOf cut (calls_of_turn t) → Contains (on_disk files cut) file → IsOf files cut snapshot t.turn.sendings file
 turn_cut last snapshot t files cut file keeps disk is_cut at =
     let rest : List Call = calls_of_keeping t.keeping ++ map Send (given_in t) in
@@ -147,7 +147,7 @@ abbrev IsThat : Snapshot → File → Type 0
 IsThat snapshot file = (octets : List ℕ) × (file ≡ Some octets) × AreOctetsOf snapshot octets
 
 -- What was kept last is on disk after the turn.
-disk_after_keeping : (last : Option Snapshot) (snapshot : Snapshot) (keeping : Keeping) (xs : List Sending) (files : List File) →
+pub disk_after_keeping : (last : Option Snapshot) (snapshot : Snapshot) (keeping : Keeping) (xs : List Sending) (files : List File) →
     Keeps last snapshot keeping → IsOnDisk last files → IsOnDisk (last_kept last snapshot keeping) (on_disk files (calls_of_keeping keeping ++ map Send xs))
 disk_after_keeping last snapshot Unchanged xs files keeps disk = subst (IsOnDisk last) (sym (disk_sent files xs)) disk
 disk_after_keeping last snapshot NotMade xs files keeps disk = subst (IsOnDisk last) (sym (disk_sent files xs)) disk
@@ -155,7 +155,7 @@ disk_after_keeping last snapshot (Tried octets true) xs files keeps disk =
     subst (IsOnDisk (Some snapshot)) (sym (disk_sent (Some octets ∷ []) xs)) (All-cons (IsThat snapshot) (Some octets) [] (octets, refl, keeps) (All-nil (IsThat snapshot)))
 disk_after_keeping last snapshot (Tried octets false) xs files keeps disk = tt
 
-sent_given : (t : DurableTurn) → AreIn (sent_in (calls_of_turn t)) t.turn.sendings
+pub sent_given : (t : DurableTurn) → AreIn (sent_in (calls_of_turn t)) t.turn.sendings
 sent_given t = by t.keeping (given_in t) (λ is. ap (λ b. cond b t.turn.sendings []) is) (λ is. ap (λ b. cond b t.turn.sendings []) is)
   where
     sent : (xs : List Sending) → AreIn (sent_in (map Send xs)) xs

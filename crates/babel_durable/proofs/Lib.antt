@@ -7,3 +7,5 @@ pub mod Restored
 pub mod Takings
 pub mod Keepings
 pub mod DurableTurning
+pub mod Intaking
+pub mod IntakeCovering

@@ -5,3 +5,4 @@ pub mod DurableLaws
 pub mod ExampleCuts
 pub mod Taken
 pub mod DurableRuns
+pub mod Intakes

@@ -12,14 +12,18 @@ use crate::{DurableReport, DurableWire, Keeper};
 use arrayvec::ArrayVec;
 use babel_speaker::Speaker;
 use babel_speaker::laws::counts_add_up;
-use babel_wire::{Report, Wire, WireFault, receive};
+use babel_state::Target;
+use babel_wire::{Receipts, Report, Wire, WireFault, receive_observed};
 use std::alloc::{AllocError, Global};
 
 /// Sees each turn of a driven speaker. It is given the speaker after the snapshot of the turn was
 /// kept, or wasn't, and before a datagram is sent. It can't change the speaker.
-pub trait Observer {
+pub trait Observer: Receipts {
     /// A turn at the moment `now`, in centiseconds.
     fn turn(&mut self, now: u64, speaker: &Speaker);
+
+    /// A datagram of the turn is sent next.
+    fn sent(&mut self, _now: u64, _target: &Target, _octets: &[u8]) {}
 }
 
 /// What is kept from one call of [`drive_durable`] to the next, and the room that a turn takes.
@@ -30,7 +34,7 @@ pub struct DurableDriver {
     // The datagrams of a turn wait here until the snapshot is kept.
     outbox: Outbox,
     // A datagram that comes is written here.
-    buf: Vec<u8>,
+    pub(crate) buf: Vec<u8>,
 }
 
 impl DurableDriver {
@@ -121,7 +125,7 @@ fn run_turn<W: DurableWire, O: Observer>(
     counts_add_up();
     let came = wire.recv(&mut driver.buf);
     let now = wire.now();
-    let received = receive(speaker, now, came, &driver.buf);
+    let received = receive_observed(speaker, now, came, &driver.buf, observer);
     speaker.tick(now);
     take_pending(speaker, now, &mut driver.outbox);
     let is_kept = driver.keeper.keep(speaker, wire);
@@ -133,6 +137,7 @@ fn run_turn<W: DurableWire, O: Observer>(
             lost: driver.outbox.count() as u64,
         };
     }
+    show_sends(&driver.outbox, now, observer);
     let sends = send_all(&driver.outbox, wire);
     DurableReport {
         report: Report {
@@ -160,6 +165,13 @@ fn take_pending(speaker: &mut Speaker, now: u64, outbox: &mut Outbox)
             return;
         };
         outbox.push(target, octets);
+    }
+}
+
+/// Shows the observer all datagrams that wait.
+fn show_sends<O: Observer>(outbox: &Outbox, now: u64, observer: &mut O) {
+    for datagram in outbox.datagrams() {
+        observer.sent(now, &datagram.target, &datagram.octets);
     }
 }
 

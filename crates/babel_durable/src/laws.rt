@@ -2,6 +2,7 @@
 
 ghost use Rattle.babel_durable.specs.DurableRuns.{KeepersFitOn};
 ghost use Rattle.babel_durable.specs.DurableLaws.{DurableTurnsGoOn, WhatIsKeptCoversWhatWasSent, CrashesAreRestarts, RestoredHaveTheSnapshot, FilesAreLastTried, ProcessesAreCovered, ProcessesStayCovered};
+ghost use Rattle.babel_durable.specs.Intakes.{WhatIsKeptCoversWithIntakes, CrashesWithIntakesAreRestarts, TurnsAreSteps, StepsGoOn};
 
 /// Lists of durable turns may be joined.
 pub fn durable_turns_go_on()
@@ -39,4 +40,13 @@ pub fn processes_are_covered()
 #[tactic(auto, using(crate::proofs::Keepings::keepers_fit_on))]
 pub fn keepers_fit_on()
     ensures { KeepersFitOn }
+{}
+
+/// Datagrams may be taken in between turns ([`crate::take_in`]), while nothing is sent. What is kept
+/// covers what was sent then too, and a crash is a restart after some whole steps: turns and intakes.
+pub fn intakes_are_covered()
+    ensures covers { WhatIsKeptCoversWithIntakes }
+    ensures restarts { CrashesWithIntakesAreRestarts }
+    ensures turns { TurnsAreSteps }
+    ensures go_on { StepsGoOn }
 {}

@@ -15,3 +15,4 @@ mod CallFaults
 mod MixedNetworks
 mod HeardUpdates
 mod HeardNetworks
+mod MixedRuns

@@ -1,5 +1,6 @@
 pub mod Networks
 pub mod Steps
+pub mod Emitting
 pub mod EventRefusals
 pub mod Invariants
 pub mod Promises
@@ -11,3 +12,4 @@ pub mod Recording
 pub mod Hearing
 pub mod HearFaults
 pub mod Mixed
+pub mod MixedRuns

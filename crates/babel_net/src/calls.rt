@@ -9,6 +9,7 @@ ghost use Rattle.babel_state.specs.Restarts.{restarted};
 ghost use Rattle.babel_state.specs.State.{announces};
 ghost use Rattle.babel_state.specs.Invariants.{IsWellFormed};
 ghost use Rattle.babel_state.specs.Sameness.{has_prefix};
+ghost use Rattle.babel_net.specs.declared.calls.Way.{Way};
 ghost use Rattle.babel_net.specs.EventRefusals.{node_of, call_fault, cost_fault, interface_fault, IsFaultOrMemory};
 ghost use Rattle.babel_net.specs.HearFaults.{iface_fault, IsHearFault};
 ghost use Rattle.babel_net.specs.Hearing.{HearsAs};
@@ -22,7 +23,7 @@ use arrayvec::ArrayVec;
 use babel_machine::{Event, StepFault};
 use babel_message::Refusal;
 use babel_state::laws::{datagrams_send, items_mean_messages};
-use babel_state::{Config, ConfigFault, RecvFault, RestoreFault, SetCostFault};
+use babel_state::{Config, ConfigFault, RecvFault, RestoreFault, SetCostFault, Target};
 use babel_tlv::DATAGRAM_LEN;
 use babel_value::{Addr, Prefix};
 use std::alloc::Global;
@@ -130,23 +131,33 @@ fn withdraw(speaker: &mut NodeSpeaker, config: &Config, prefix: Prefix) -> Resul
     }
 }
 
-/// The source address of the next datagram of a node's speaker, if there is one. Its octets are written to
+/// Where a datagram comes from, and where it goes.
+#[derive(Clone, Copy)]
+pub(crate) struct Way {
+    /// The source address.
+    pub(crate) source: Addr,
+    /// Where it goes.
+    pub(crate) target: Target,
+}
+
+/// The way of the next datagram of a node's speaker, if there is one. Its octets are written to
 /// `octets`, in place of what was there.
 pub(crate) fn send(
     speaker: &mut NodeSpeaker,
     node: usize,
     now: u64,
     octets: &mut ArrayVec<u8, DATAGRAM_LEN>,
-) -> Option<Addr>
+) -> Option<Way>
     requires { IsWellFormed speaker.old }
     ensures state { speaker.new ≡ (next_of now speaker.old).state }
-    ensures sent { IsSent node speaker.old (next_of now speaker.old) (next_of now speaker.old).target (option_map (λ source. record { node = node; source = source; octets = octets.new.items }) result) }
+    ensures sent { IsSent node speaker.old (next_of now speaker.old) (next_of now speaker.old).target (option_map (λ (way : Way). record { node = node; source = way.source; octets = octets.new.items }) result) }
+    ensures target { option_map (λ (way : Way). way.target) result ≡ (next_of now speaker.old).target }
 {
     datagrams_send();
     items_mean_messages();
     let target = speaker.next_datagram(now, octets)?;
     match speaker.transport(target.iface) {
-        Some(source) => Some(source),
+        Some(source) => Some(Way { source, target }),
         None => unreachable!(),
     }
 }

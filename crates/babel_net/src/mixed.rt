@@ -22,6 +22,7 @@ ghost use Rattle.babel_net.specs.Owned.{AreOwners};
 
 use crate::acceptance::net_fault;
 use crate::hearing::{HearFault, Heard, HeardUpdate, Hearing, record, updates_heard};
+use crate::mixed_events::{MixedEvent, MixedFault};
 use crate::mixed_laws::{mixed_begin, mixed_go_on, mixed_networks_have_no_loop};
 use crate::network::{hop_of, router_of};
 use crate::nodes::Nodes;
@@ -68,6 +69,7 @@ impl MixedNetwork {
     ghost use Rattle.babel_net.specs.Hearing.{first_mixed, MakesHear};
     ghost use Rattle.babel_net.specs.Making.{IsMakingFault};
     ghost use Rattle.babel_net.specs.Mixed.{HasNoLoopOfOurs, HasNoForwardingLoopOfOurs};
+    ghost use Rattle.babel_net.specs.MixedRuns.{MakesMixed, mixed_fault, IsMixedFault, RanMixed, StopsMixedAt};
     ghost use Rattle.babel_net.specs.Networks.{world_of};
     ghost use Rattle.babel_net.specs.Steps.{Makes};
 
@@ -158,6 +160,55 @@ impl MixedNetwork {
             return Err(HearFault::Memory);
         }
         hear(&mut self.nodes, &mut self.heard, heard, &updates)
+    }
+
+    /// Makes the steps of some events and of what is heard among them, up to the first that is
+    /// refused.
+    ///
+    /// # Errors
+    ///
+    /// The index of that event, and why it is refused.
+    pub fn run(&mut self, events: &[MixedEvent<'_>]) -> Result<(), (usize, MixedFault)>
+        ensures ok { OnOk result (RanMixed events.entry.now self.old self.new) }
+        ensures err { IfErr result (λ stop. StopsMixedAt events.entry.now stop.0 stop.1 self.old self.new) }
+        // whatever was heard
+        ensures no_loop { HasNoLoopOfOurs self.new }
+        ensures no_forwarding_loop { HasNoForwardingLoopOfOurs self.new }
+    {
+        mixed_networks_have_no_loop();
+        let _ = &self.nodes;
+        let mut done = 0;
+        while done < events.len() {
+            if let Err(fault) = self.happen(&events[done]) {
+                return Err((done, fault));
+            }
+            done += 1;
+        }
+        Ok(())
+    }
+
+    /// Makes the step of the event, or refuses it and changes nothing.
+    fn happen(&mut self, event: &MixedEvent<'_>) -> Result<(), MixedFault>
+        ensures ok { OnOk result (MakesMixed event.entry.now self.old self.new) }
+        ensures accepted { OnOk result (mixed_fault event.entry.now self.old ≡ None) }
+        ensures refused { IfErr result (IsMixedFault event.entry.now self.old) }
+        ensures err { OnErr result (self.new ≡ self.old) }
+        ensures no_loop { HasNoLoopOfOurs self.new }
+        ensures no_forwarding_loop { HasNoForwardingLoopOfOurs self.new }
+    {
+        match event {
+            MixedEvent::Ours(event) => {
+                if let Err(fault) = self.step(event) {
+                    return Err(MixedFault::Ours(fault));
+                }
+            }
+            MixedEvent::Heard(heard) => {
+                if let Err(fault) = self.hear(heard) {
+                    return Err(MixedFault::Heard(fault));
+                }
+            }
+        }
+        Ok(())
     }
 
     /// The node that has the address of the neighbour of the node's selected route to the prefix.

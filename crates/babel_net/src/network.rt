@@ -14,7 +14,7 @@ ghost use Rattle.babel_machine.specs.Worlds.{next_hop_in, router_in};
 
 use crate::acceptance::net_fault;
 use crate::laws::{networks_begin, networks_go_on};
-use crate::nodes::Nodes;
+use crate::nodes::{Emitted, Nodes};
 use crate::owners::Owners;
 use babel_choice::Selection;
 use babel_machine::laws::{
@@ -51,6 +51,7 @@ impl Model for Network {
 
 impl Network {
     ghost use Rattle.babel_net.specs.EventRefusals.{step_fault, IsStepFault};
+    ghost use Rattle.babel_net.specs.Emitting.{IsEmitted, IsDueAt};
     ghost use Rattle.babel_net.specs.Invariants.{IsNetwork};
     ghost use Rattle.babel_net.specs.Making.{IsMakingFault};
     ghost use Rattle.babel_net.specs.Networks.{world_of};
@@ -136,6 +137,40 @@ impl Network {
             done += 1;
         }
         Ok(())
+    }
+
+    /// Makes the step of the event `Emit`, or refuses it and changes nothing. Returns the number of the datagram that
+    /// it recorded, and where it goes: `None` if the node had nothing to send.
+    ///
+    /// # Errors
+    ///
+    /// N1. If the node is there and an allocation fails: N6.
+    pub fn emit(&mut self, node: usize, now: u64) -> Result<Option<Emitted>, StepFault>
+        ensures event { OnOk result (Makes (Event.Emit node now) self.old self.new) }
+        ensures accepted { OnOk result (step_fault (Event.Emit node now) self.old ≡ None) }
+        ensures refused { IfErr result (IsStepFault (step_fault (Event.Emit node now) self.old) (Event.Emit node now) self.old) }
+        ensures err { OnErr result (self.new ≡ self.old) }
+        ensures invariant { IsNetwork self.new }
+        // the number of what was recorded, and the target that the speaker gave it
+        ensures emitted { IfOk result (λ emitted. (speaker : State) → slice_get self.old.speakers node ≡ Some speaker → IsEmitted now speaker self.old emitted) }
+        // as each event
+        ensures run { OnOk result (Runs self.old self.new) }
+        ensures no_loop { HasNoLoop self.new }
+        ensures one_origin { HasNoLoopWithOneOrigin self.new }
+    {
+        networks_go_on();
+        events_are_machine_runs();
+        sound_networks_have_no_loop();
+        self.nodes.send_next(node, now)
+    }
+
+    /// The moment before which a tick of the node changes nothing, as
+    /// [`Speaker::next_due`](babel_speaker::Speaker::next_due). `None` if there is no such node.
+    pub fn next_due(&self, node: usize) -> Option<u64>
+        ensures there { is_some result ≡ is_some (slice_get self.now.speakers node) }
+        ensures due { IfSome result (λ due. (speaker : State) → slice_get self.now.speakers node ≡ Some speaker → IsDueAt due speaker) }
+    {
+        self.nodes.next_due(node)
     }
 
     /// The node that has the address of the neighbour of the node's selected route to the prefix.

@@ -1,10 +1,11 @@
 //! The speaker of a node, of which a network sees the state.
 
-ghost use Rattle.std.specs.Prelude.{◌≡◌, ◌↔◌, true, false, Some, slice_get, is_some, IsOk, IsErr, IsNone, IfOk, IfErr, IfSome, OnOk, OnErr};
+ghost use Rattle.std.specs.Prelude.{◌≡◌, ◌≢◌, ◌<◌, ◌↔◌, ℕ, [], true, false, Some, slice_get, is_some, IsOk, IsErr, IsNone, IfOk, IfErr, IfSome, OnOk, OnErr};
 ghost use Rattle.babel_packet.specs.Meaning.{meaning};
 ghost use Rattle.babel_state.specs.Addresses.{source_fault, transport_at};
 ghost use Rattle.babel_state.specs.Calls.{set_cost_fault, cost_set, first_state, is_prefix_too_many, announced_also, withdrawn, selected_route};
 ghost use Rattle.babel_state.specs.Configs.{config_fault};
+ghost use Rattle.babel_state.specs.CurrentSelections.{AreCurrent};
 ghost use Rattle.babel_state.specs.Messages.{Receives, IsRecvFault};
 ghost use Rattle.babel_state.specs.NextDatagram.{next_datagram};
 ghost use Rattle.babel_state.specs.Restarts.{snapshot_of, restored};
@@ -14,6 +15,7 @@ ghost use Rattle.babel_state.specs.Ticks.{ticked};
 ghost use Rattle.babel_snapshot.specs.Octets.{snapshot_octets};
 ghost use Rattle.babel_snapshot.specs.Reading.{restore_fault, snapshot_in};
 ghost use Rattle.babel_snapshot.specs.SnapshotLaws.{IsRead};
+ghost use Rattle.babel_speaker.specs.Deadlines.{next_deadline};
 ghost use Rattle.babel_speaker.specs.Making.{IsMakingFault, IsRestoreFault};
 ghost use Rattle.babel_speaker.specs.Sending.{fits_by, IsBuiltFrom, MeansFrom};
 
@@ -172,6 +174,15 @@ impl NodeSpeaker {
         ensures { result ≡ self.now.raises }
     {
         self.speaker.raises()
+    }
+
+    pub(crate) fn next_due(&self) -> u64
+        ensures idle { (now : ℕ) → now < result → ticked now self.now ≡ self.now }
+        ensures pending { self.now.pending.items ≢ [] → result ≡ 0 }
+        ensures current { 0 < result → AreCurrent self.now }
+        ensures deadline { self.now.pending.items ≡ [] → AreCurrent self.now → result ≡ next_deadline self.now }
+    {
+        self.speaker.next_due()
     }
 
     pub(crate) fn routes_version(&self) -> u64 {

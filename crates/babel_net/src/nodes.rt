@@ -7,6 +7,7 @@ ghost use Rattle.babel_state.specs.declared.configs.Config.{Config};
 ghost use Rattle.babel_state.specs.State.{State};
 ghost use Rattle.babel_state.specs.Calls.{first_state, selected_route};
 ghost use Rattle.babel_machine.specs.Acceptance.{first_bad_from};
+ghost use Rattle.babel_net.specs.Emitting.{IsEmitted, IsDueAt};
 ghost use Rattle.babel_net.specs.EventRefusals.{deliver_fault, step_fault, IsFaultOrMemory, IsStepFault};
 ghost use Rattle.babel_net.specs.HearFaults.{place_fault};
 ghost use Rattle.babel_net.specs.Hearing.{HearsAt};
@@ -21,10 +22,19 @@ use crate::node_speakers::NodeSpeaker;
 use crate::sent::Record;
 use babel_choice::Selection;
 use babel_machine::{Event, NetFault, StepFault};
-use babel_state::{Config, Selected};
+use babel_state::{Config, Selected, Target};
 use babel_value::{Addr, Memory, Prefix};
 use std::alloc::Global;
 use std::marker::Model;
+
+/// What an emit sent.
+#[derive(Clone, Copy, Debug, PartialEq, Eq)]
+pub struct Emitted {
+    /// The number of the recorded datagram, counted from 0.
+    pub number: usize,
+    /// Over which interface it goes, and to whom.
+    pub target: Target,
+}
 
 /// The speakers by their nodes' numbers, their configurations, and all that was ever sent, in order.
 #[derive(Drop)]
@@ -96,6 +106,22 @@ impl Nodes {
         }
     }
 
+    /// The node sends its next datagram, if there is one, which is recorded. Returns its number and where it goes.
+    #[tactic(auto, unfolding(crate::specs::EventRefusals::step_fault))]
+    pub fn send_next(&mut self, node: usize, now: u64) -> Result<Option<Emitted>, StepFault>
+        requires { IsRunning self.old }
+        ensures ok { OnOk result (Makes (Event.Emit node now) self.old self.new) }
+        ensures accepted { OnOk result (step_fault (Event.Emit node now) self.old ≡ None) }
+        ensures refused { IfErr result (IsStepFault (step_fault (Event.Emit node now) self.old) (Event.Emit node now) self.old) }
+        ensures err { OnErr result (self.new ≡ self.old) }
+        ensures emitted { IfOk result (λ emitted. (speaker : State) → slice_get self.old.speakers node ≡ Some speaker → IsEmitted now speaker self.old emitted) }
+    {
+        if node >= self.speakers.len() {
+            return Err(StepFault::NoNode);
+        }
+        self.record_next(node, now)
+    }
+
     /// The node's next datagram is recorded, if there is one.
     fn emit(&mut self, node: usize, now: u64) -> Result<(), StepFault>
         requires inside { node < length self.old.speakers }
@@ -104,8 +130,25 @@ impl Nodes {
         ensures refused { IfErr result (λ fault. fault ≡ StepFault.Memory) }
         ensures err { OnErr result (self.new ≡ self.old) }
     {
+        match self.record_next(node, now) {
+            Ok(_) => Ok(()),
+            Err(fault) => Err(fault),
+        }
+    }
+
+    /// The node's next datagram is recorded, if there is one. Returns its number and where it goes.
+    fn record_next(&mut self, node: usize, now: u64) -> Result<Option<Emitted>, StepFault>
+        requires inside { node < length self.old.speakers }
+        requires sound { IsRunning self.old }
+        ensures ok { OnOk result (MakesEmit node now self.old self.new) }
+        ensures refused { IfErr result (λ fault. fault ≡ StepFault.Memory) }
+        ensures err { OnErr result (self.new ≡ self.old) }
+        ensures emitted { IfOk result (λ emitted. (speaker : State) → slice_get self.old.speakers node ≡ Some speaker → IsEmitted now speaker self.old emitted) }
+    {
+        let number = self.sent.count();
         match self.sent.record_next(&mut self.speakers[node], node, now) {
-            Ok(()) => Ok(()),
+            Ok(Some(target)) => Ok(Some(Emitted { number, target })),
+            Ok(None) => Ok(None),
             Err(fault) => Err(fault),
         }
     }
@@ -173,6 +216,17 @@ impl Nodes {
     {
         match self.speakers.get(node) {
             Some(speaker) => speaker.selected(prefix),
+            None => None,
+        }
+    }
+
+    /// The moment before which a tick of the node changes nothing; `None` if there is no such node.
+    pub fn next_due(&self, node: usize) -> Option<u64>
+        ensures there { is_some result ≡ is_some (slice_get self.now.speakers node) }
+        ensures due { IfSome result (λ due. (speaker : State) → slice_get self.now.speakers node ≡ Some speaker → IsDueAt due speaker) }
+    {
+        match self.speakers.get(node) {
+            Some(speaker) => Some(speaker.next_due()),
             None => None,
         }
     }

@@ -1,6 +1,6 @@
 //! The datagrams that were sent in a network.
 
-ghost use Rattle.std.specs.Prelude.{◌≡◌, ◌<◌, ◌≤◌, ◌+◌, ◌++◌, [], ◌∷◌, slice_get, length, vec_len, vec_capacity, OnOk, OnErr, IfErr};
+ghost use Rattle.std.specs.Prelude.{◌≡◌, ◌<◌, ◌≤◌, ◌+◌, ◌++◌, [], ◌∷◌, slice_get, length, vec_len, vec_capacity, IfOk, OnOk, OnErr, IfErr};
 ghost use Rattle.babel_state.specs.Invariants.{IsWellFormed};
 ghost use Rattle.babel_net.specs.Recording.{IsWithin, IsRecorded, datagram_in};
 ghost use Rattle.babel_net.specs.Steps.{next_of};
@@ -9,6 +9,7 @@ use crate::calls::send;
 use crate::node_speakers::NodeSpeaker;
 use arrayvec::ArrayVec;
 use babel_machine::StepFault;
+use babel_state::Target;
 use babel_tlv::DATAGRAM_LEN;
 use babel_value::Addr;
 use std::alloc::{AllocError, Global};
@@ -117,27 +118,36 @@ impl Record {
         }
     }
 
-    /// Records the next datagram of the node's speaker, if there is one.
+    /// How many datagrams are recorded.
+    pub fn count(&self) -> usize
+        ensures { result ≡ length self.now }
+    {
+        self.places.len()
+    }
+
+    /// Records the next datagram of the node's speaker, if there is one. Returns where it goes.
     pub fn record_next(
         &mut self,
         speaker: &mut NodeSpeaker,
         node: usize,
         now: u64,
-    ) -> Result<(), StepFault>
+    ) -> Result<Option<Target>, StepFault>
         requires { IsWellFormed speaker.old }
         ensures state { OnOk result (speaker.new ≡ (next_of now speaker.old).state) }
         ensures sent { OnOk result (IsRecorded node now speaker.old self.old self.new) }
+        ensures target { IfOk result (λ target. target ≡ (next_of now speaker.old).target) }
         ensures refused { IfErr result (λ fault. fault ≡ StepFault.Memory) }
         ensures err { OnErr result ((self.new ≡ self.old) × (speaker.new ≡ speaker.old)) }
     {
         if reserve(&mut self.places, &mut self.octets).is_err() {
             return Err(StepFault::Memory);
         }
-        if let Some(source) = send(speaker, node, now, &mut self.last) {
+        if let Some(way) = send(speaker, node, now, &mut self.last) {
             let sent = self.last.as_slice();
-            push(&mut self.places, &mut self.octets, node, source, sent);
+            push(&mut self.places, &mut self.octets, node, way.source, sent);
+            return Ok(Some(way.target));
         }
-        Ok(())
+        Ok(None)
     }
 }
 

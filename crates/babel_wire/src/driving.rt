@@ -5,11 +5,10 @@ ghost use Rattle.babel_speaker.specs.Versions.{CountsChanges};
 ghost use Rattle.babel_wire.specs.Calls.{receipt_of, Datagram, IsWithin};
 ghost use Rattle.babel_wire.specs.Turns.{max_sends, Receives, IsRun, IsOneTurn, IsReceived, IsSent};
 
-use crate::{Arrival, Report, Wire, WireFault};
+use crate::{Arrival, NoReceipts, Receipts, Report, Wire, WireFault};
 use arrayvec::ArrayVec;
 use babel_speaker::Speaker;
 use babel_tlv::DATAGRAM_LEN;
-use babel_value::Addr;
 
 /// How many datagrams are sent in a turn at most.
 const MAX_SENDS: usize = 64;
@@ -84,6 +83,25 @@ pub fn receive(
     ensures refused_at_most { result.refused ≤ 1 }
     ensures faults_at_most { result.faults ≤ 1 }
 {
+    let mut receipts = NoReceipts;
+    receive_observed(speaker, now, came, buf, &mut receipts)
+}
+
+/// The same as [`receive`], and shows what the speaker made of it.
+pub fn receive_observed<O: Receipts>(
+    speaker: &mut Speaker,
+    now: u64,
+    came: Result<Option<Arrival>, WireFault>,
+    buf: &[u8],
+    receipts: &mut O,
+) -> Report
+    requires { IsWithin came buf.now }
+    ensures received { IsReceived now (receipt_of came buf.now) speaker.old.state speaker.new.state result }
+    ensures counted { CountsChanges speaker.old speaker.new }
+    ensures received_at_most { result.received ≤ 1 }
+    ensures refused_at_most { result.refused ≤ 1 }
+    ensures faults_at_most { result.faults ≤ 1 }
+{
     match came {
         Err(WireFault) => Report {
             faults: 1,
@@ -92,7 +110,7 @@ pub fn receive(
         Ok(None) => Report::default(),
         Ok(Some(arrival)) => {
             let octets = &buf[..arrival.len];
-            let is_refused = receive_datagram(speaker, now, arrival.iface, arrival.source, octets);
+            let is_refused = receive_datagram(speaker, now, arrival, octets, receipts);
             Report {
                 received: 1,
                 refused: u64::from(is_refused),
@@ -103,11 +121,19 @@ pub fn receive(
 }
 
 /// Passes a datagram to the speaker, and returns whether it was refused.
-fn receive_datagram(speaker: &mut Speaker, now: u64, iface: u8, source: Addr, octets: &[u8]) -> bool
-    ensures received { Receives now (Datagram iface source octets.now) result speaker.old.state speaker.new.state }
+fn receive_datagram<O: Receipts>(
+    speaker: &mut Speaker,
+    now: u64,
+    arrival: Arrival,
+    octets: &[u8],
+    receipts: &mut O,
+) -> bool
+    ensures received { Receives now (Datagram arrival.iface arrival.source octets.now) result speaker.old.state speaker.new.state }
     ensures counted { CountsChanges speaker.old speaker.new }
 {
-    speaker.receive(now, iface, source, octets).is_err()
+    let outcome = speaker.receive(now, arrival.iface, arrival.source, octets);
+    receipts.received(now, &arrival, octets, &outcome);
+    outcome.is_err()
 }
 
 /// Sends pending datagrams, at most 64.

@@ -4,10 +4,12 @@
 
 mod driving;
 mod errors;
+mod receipts;
 mod report;
 mod wire;
 
-pub use driving::{drive, receive};
+pub use driving::{drive, receive, receive_observed};
 pub use errors::WireFault;
+pub use receipts::{NoReceipts, Receipts};
 pub use report::Report;
 pub use wire::{Arrival, Wire};

@@ -1,0 +1,38 @@
+-- Turns and intakes of a speaker at a node of a network (profile).
+use Rattle.std.specs.Prelude.{List, Contains, ℕ, Option, Some}
+use Rattle.babel_state.specs.declared.configs.Config.{Config}
+use Rattle.babel_state.specs.Restarts.{Snapshot, snapshot_of, restored}
+use Rattle.babel_state.specs.State.{State}
+use Rattle.babel_snapshot.specs.Reading.{snapshot_in}
+use Rattle.babel_wire.specs.Calls.{Receipt, Sending, Call}
+use Rattle.babel_durable.specs.Cuts.{File, IsCutOf, IsOnDisk, on_disk, sent_in}
+use Rattle.babel_durable.specs.Intakes.{DurableStep, AreSteps, AreDurableSteps, calls_of_steps, receipts_in, taken_by}
+use Rattle.babel_net.specs.Invariants.{IsNetwork}
+use Rattle.babel_net.specs.Networks.{NetworkState, SentOctets}
+use Rattle.babel_crashes.specs.NodeSteps.{IsAt, IsFrom, IsRecorded, LeadsTo, IsRestart}
+
+-- What came over the wire was sent by nodes of the network.
+abbrev pub AreReceiptsFrom : List SentOctets → List Receipt → Type 0
+AreReceiptsFrom sent receipts = (r : Receipt) → Contains receipts r → IsFrom sent r
+
+-- The steps are events, and the network records every datagram that is taken in them.
+pub record AreStepEvents (node : ℕ) (config : Config) (steps : List DurableStep) (s : State) (old : NetworkState) : Type 0 where
+  pub new : NetworkState
+  pub leads : LeadsTo node config s old new
+  pub records : (x : Sending) → Contains (taken_by steps) x → IsRecorded node config new.sent x
+
+-- Turns and intakes of a speaker at a node are events of the network.
+abbrev pub StepsAreEvents : Type 0
+StepsAreEvents =
+    (n : NetworkState) (node : ℕ) (config : Config) (old new : State) (steps : List DurableStep) →
+    IsAt n node config old → AreSteps old steps new → AreReceiptsFrom n.sent (receipts_in steps) → AreStepEvents node config steps new n
+
+-- As CrashesAreRestartEvents, with intakes between the turns.
+abbrev pub CrashesWithIntakesAreRestartEvents : Type 0
+CrashesWithIntakesAreRestartEvents =
+    (n : NetworkState) (node now : ℕ) (config : Config) (old new : State) (last later : Option Snapshot) (steps : List DurableStep) (files : List File)
+    (cut : List Call) (octets : List ℕ) →
+    IsNetwork n → IsAt n node config old → IsOnDisk (Some (snapshot_of old)) files → IsOnDisk last files →
+    AreDurableSteps last old steps later new → AreReceiptsFrom n.sent (receipts_in steps) → IsCutOf cut (calls_of_steps steps) →
+    Contains (on_disk files cut) (Some octets) →
+    IsRestart node config now (sent_in cut) (restored now config (snapshot_in octets)) n
