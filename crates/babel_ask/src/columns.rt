@@ -1,11 +1,18 @@
 //! Which fields are shown.
 
-/// Whether a column is a number in JSON.
+/// What a column has.
 #[derive(Clone, Copy, Debug, PartialEq, Eq)]
 pub(crate) enum ColumnKind {
+    /// Texts.
     Text,
+    /// Numbers, also in JSON.
     Number,
+    /// After how long the thing is given up if nothing more is heard: seconds for people, centiseconds in JSON.
+    Expiry,
 }
+
+/// How many columns a table has.
+pub(crate) const COLUMNS: usize = 8;
 
 /// A column of a table, and a member of an object.
 #[derive(Clone, Copy, Debug)]
@@ -37,8 +44,17 @@ fn number(head: &'static str, key: &'static str, field: &'static str) -> Column 
     }
 }
 
+fn expiry() -> Column {
+    Column {
+        head: "EXPIRES",
+        key: "expires",
+        field: "in",
+        kind: ColumnKind::Expiry,
+    }
+}
+
 /// The columns of neighbours.
-pub(crate) fn neighbour_columns() -> [Column; 7] {
+pub(crate) fn neighbour_columns() -> [Column; COLUMNS] {
     [
         text("NEIGHBOUR", "neighbour", "address"),
         text("DEVICE", "device", "if"),
@@ -47,11 +63,12 @@ pub(crate) fn neighbour_columns() -> [Column; 7] {
         number("RXCOST", "rxcost", "rxcost"),
         number("TXCOST", "txcost", "txcost"),
         number("COST", "cost", "cost"),
+        expiry(),
     ]
 }
 
 /// The columns of routes.
-pub(crate) fn route_columns() -> [Column; 7] {
+pub(crate) fn route_columns() -> [Column; COLUMNS] {
     [
         text("PREFIX", "prefix", "prefix"),
         text("VIA", "via", "via"),
@@ -59,6 +76,7 @@ pub(crate) fn route_columns() -> [Column; 7] {
         number("METRIC", "metric", "metric"),
         number("ADVERTISED", "advertised", "refmetric"),
         text("SELECTED", "selected", "installed"),
+        expiry(),
         text("ROUTER", "router", "id"),
     ]
 }

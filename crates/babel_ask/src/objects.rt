@@ -1,6 +1,7 @@
 //! JSON objects, one a line.
 
-use crate::columns::{Column, ColumnKind};
+use crate::cells::expiry_of;
+use crate::columns::{COLUMNS, Column, ColumnKind};
 use crate::fields::{field, is_of};
 use std::fmt;
 use std::io::{self, Write};
@@ -28,26 +29,42 @@ impl fmt::Display for Quoted<'_> {
 pub(crate) fn write_objects<W: Write>(
     answer: &str,
     kind: &str,
-    columns: &[Column; 7],
+    columns: &[Column; COLUMNS],
     out: &mut W,
 ) -> io::Result<()> {
     for line in answer.lines() {
         if is_of(line, kind) {
-            write_object(line, columns, out)?;
+            write_object(answer, line, columns, out)?;
         }
     }
     Ok(())
 }
 
-fn write_object<W: Write>(line: &str, columns: &[Column; 7], out: &mut W) -> io::Result<()> {
+fn write_object<W: Write>(
+    answer: &str,
+    line: &str,
+    columns: &[Column; COLUMNS],
+    out: &mut W,
+) -> io::Result<()> {
     let mut mark = "{";
     for column in columns.iter() {
         let key = column.key;
         write!(out, "{mark}\"{key}\":")?;
-        write_value(field(line, column.field).unwrap_or(""), column.kind, out)?;
+        match column.kind {
+            ColumnKind::Expiry => write_expiry(expiry_of(answer, line), out)?,
+            kind => write_value(field(line, column.field).unwrap_or(""), kind, out)?,
+        }
         mark = ",";
     }
     writeln!(out, "}}")
+}
+
+/// Writes centiseconds, or `null`.
+fn write_expiry<W: Write>(rest: Option<u64>, out: &mut W) -> io::Result<()> {
+    match rest {
+        Some(rest) => write!(out, "{rest}"),
+        None => write!(out, "null"),
+    }
 }
 
 /// Writes a value. What should be a number and isn't is a string.

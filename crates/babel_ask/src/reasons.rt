@@ -1,8 +1,10 @@
 //! A sentence for each route of a prefix.
 
+use crate::cells::Cell;
 use crate::fields::{field, interface_name, is_of, word};
 use crate::objects::Quoted;
-use babel_value::Addr;
+use babel_text::parse_prefix;
+use babel_value::{Addr, Prefix};
 use std::fmt;
 use std::io::{self, Write};
 use std::net::Ipv6Addr;
@@ -61,7 +63,8 @@ fn source_of(line: &str) -> Option<&str> {
     words.next()
 }
 
-/// Writes a sentence for each route of the prefix, or that there is none.
+/// Writes a sentence for each route of the prefix, and for each neighbour without one whose Updates
+/// of it were ignored; or that this router announces it, or that there is none of these.
 pub(crate) fn write_reasons<W: Write>(answer: &str, prefix: &str, out: &mut W) -> io::Result<()> {
     let mut has_route = false;
     for line in answer.lines() {
@@ -70,18 +73,129 @@ pub(crate) fn write_reasons<W: Write>(answer: &str, prefix: &str, out: &mut W) -
             write_reason(&route, out)?;
         }
     }
-    if has_route {
-        return Ok(());
-    }
     if is_announced(answer, prefix) {
-        return writeln!(out, "{prefix}: this router announces it");
+        return match has_route {
+            // Its sentence names that.
+            true => Ok(()),
+            false => writeln!(out, "{prefix}: this router announces it"),
+        };
+    }
+    if write_ignored(answer, out)? || has_route {
+        return Ok(());
     }
     writeln!(out, "{prefix}: no neighbour has advertised it")
 }
 
 /// Whether the dump has the prefix among those that the router announces.
 fn is_announced(answer: &str, prefix: &str) -> bool {
-    answer.lines().any(|line| is_of(line, "xroute") && field(line, "prefix") == Some(prefix))
+    let Some(asked) = parse_prefix(prefix) else {
+        return false;
+    };
+    answer.lines().any(|line| is_of(line, "xroute") && prefix_in(line) == Some(asked))
+}
+
+/// The prefix of a line of the dump.
+fn prefix_in(line: &str) -> Option<Prefix> {
+    parse_prefix(field(line, "prefix")?)
+}
+
+/// Writes a sentence for each neighbour whose Updates of the prefix were ignored. Returns whether there is one.
+fn write_ignored<W: Write>(answer: &str, out: &mut W) -> io::Result<bool> {
+    let mut has_one = false;
+    for line in answer.lines() {
+        if let Some(ignored) = ignored_of(answer, line) {
+            if !has_route_of(answer, &ignored) {
+                has_one = true;
+                write_ignored_by(&ignored, out)?;
+            }
+        }
+    }
+    Ok(has_one)
+}
+
+/// Whether the neighbour has a route of the prefix now: then what was ignored before it matters no
+/// more.
+fn has_route_of(answer: &str, ignored: &Ignored<'_>) -> bool {
+    answer.lines().any(|line| {
+        word(line, 1) == Some("via")
+            && word(line, 2) == Some(ignored.interface)
+            && word(line, 3) == Some(ignored.address)
+    })
+}
+
+fn write_ignored_by<W: Write>(ignored: &Ignored<'_>, out: &mut W) -> io::Result<()> {
+    let Ignored {
+        prefix,
+        address,
+        device,
+        count,
+        code,
+        ..
+    } = *ignored;
+    let from = ShortAddress(address);
+    let ago = Cell::Centiseconds(ignored.ago.parse::<u64>().unwrap_or(0));
+    write!(out, "{prefix}: {from} on {device} advertised it ")?;
+    match count {
+        "1" => write!(out, "once, {ago} ago")?,
+        _ => write!(out, "{count} times, the last time {ago} ago")?,
+    }
+    match ignored.kind {
+        Some(kind) => writeln!(
+            out,
+            ", and that was ignored: it has a sub-TLV of type {kind}, which must be understood \
+            ({code})"
+        ),
+        None => {
+            let reason = reason_of(code);
+            writeln!(out, ", and that was ignored: {reason} ({code})")
+        }
+    }
+}
+
+/// Updates of a prefix that were ignored, by the words of their line: `PREFIX from N ADDRESS
+/// ignored COUNT ago TIME for CODE`.
+#[derive(Clone, Copy, Debug)]
+struct Ignored<'l> {
+    prefix: &'l str,
+    interface: &'l str,
+    address: &'l str,
+    device: &'l str,
+    count: &'l str,
+    /// How long ago the last one came, in centiseconds.
+    ago: &'l str,
+    code: &'l str,
+    /// The type of the sub-TLV after I5.
+    kind: Option<&'l str>,
+}
+
+fn ignored_of<'l>(answer: &'l str, line: &'l str) -> Option<Ignored<'l>> {
+    if word(line, 1)? != "from" || word(line, 4)? != "ignored" {
+        return None;
+    }
+    Some(Ignored {
+        prefix: word(line, 0)?,
+        interface: word(line, 2)?,
+        address: word(line, 3)?,
+        device: interface_name(answer, word(line, 2)?),
+        count: word(line, 5)?,
+        ago: word(line, 7)?,
+        code: word(line, 9)?,
+        kind: word(line, 10),
+    })
+}
+
+/// What the code of an Update that was not stored means.
+fn reason_of(code: &str) -> &'static str {
+    match code {
+        "I4" => "a sub-TLV runs past its end",
+        "I8" => "it has no router-id, or a reserved one",
+        "I9" => "it has no next hop of its address family",
+        "I10" => "its interval is 0",
+        "V3" => "it has this router's own router-id",
+        "V4" => "no Hello of the sender came before it",
+        "V5" => "this router has no room for another route",
+        _ => "for another reason",
+    }
 }
 
 fn write_reason<W: Write>(route: &Route<'_>, out: &mut W) -> io::Result<()> {
@@ -146,14 +260,47 @@ fn write_unfeasible<W: Write>(route: &Route<'_>, out: &mut W) -> io::Result<()> 
     )
 }
 
-/// Writes an object for each route of the prefix.
-pub(crate) fn write_reason_objects<W: Write>(answer: &str, out: &mut W) -> io::Result<()> {
+/// Writes an object for each route of the prefix, for each neighbour whose Updates of it were
+/// ignored, and if this router announces it.
+pub(crate) fn write_reason_objects<W: Write>(
+    answer: &str,
+    prefix: &str,
+    out: &mut W,
+) -> io::Result<()> {
+    if is_announced(answer, prefix) {
+        let prefix = Quoted(prefix);
+        writeln!(out, "{{\"prefix\":{prefix},\"status\":\"announced\"}}")?;
+    }
     for line in answer.lines() {
         if let Some(route) = route_of(answer, line) {
             write_reason_object(&route, out)?;
         }
+        if let Some(ignored) = ignored_of(answer, line) {
+            write_ignored_object(&ignored, out)?;
+        }
     }
     Ok(())
+}
+
+fn write_ignored_object<W: Write>(ignored: &Ignored<'_>, out: &mut W) -> io::Result<()> {
+    let prefix = Quoted(ignored.prefix);
+    let via = ShortAddress(ignored.address);
+    let device = Quoted(ignored.device);
+    let count = ignored.count;
+    let ago = ignored.ago;
+    let code = Quoted(ignored.code);
+    write!(
+        out,
+        "{{\"prefix\":{prefix},\"via\":\"{via}\",\"device\":{device}"
+    )?;
+    write!(
+        out,
+        ",\"status\":\"ignored\",\"count\":{count},\"ago\":{ago},\"code\":{code}"
+    )?;
+    match ignored.kind {
+        Some(kind) => writeln!(out, ",\"kind\":{kind}}}"),
+        None => writeln!(out, "}}"),
+    }
 }
 
 fn write_reason_object<W: Write>(route: &Route<'_>, out: &mut W) -> io::Result<()> {

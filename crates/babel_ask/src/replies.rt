@@ -1,10 +1,14 @@
 //! A whole reply.
 
+ghost use Rattle.std.specs.Prelude.{◌≡◌, ◌↔◌, Err, true, false};
+ghost use Rattle.babel_ask.specs.Replies.{is_greeting, has_refusal};
+
 use crate::Question;
 use crate::columns::{ColumnKind, neighbour_columns, route_columns};
+use crate::logs::write_log;
 use crate::objects::{write_objects, write_value};
 use crate::reasons::{write_reason_objects, write_reasons};
-use crate::tables::write_table;
+use crate::tables::{Colours, write_table};
 use std::io::{self, Write};
 use thiserror::Error;
 
@@ -13,6 +17,8 @@ use thiserror::Error;
 pub enum AnswerForm {
     /// For people.
     Text,
+    /// For people at a terminal: the same in colours.
+    Coloured,
     /// An object a line.
     Json,
 }
@@ -41,17 +47,36 @@ pub fn show_answer<W: Write>(
     form: AnswerForm,
     answer: &str,
     out: &mut W,
-) -> Result<(), AskFault> {
-    if !answer.starts_with("BABEL 1.") {
+) -> Result<(), AskFault>
+    ensures foreign { result ≡ Err AskFault.Foreign ↔ is_greeting answer.now ≡ false }
+    ensures refused { result ≡ Err AskFault.Refused ↔ (is_greeting answer.now ≡ true) × (has_refusal answer.now ≡ true) }
+    ensures foreign_unwritten { result ≡ Err AskFault.Foreign → out.new ≡ out.old }
+    ensures refused_unwritten { result ≡ Err AskFault.Refused → out.new ≡ out.old }
+{
+    if !is_greeted(answer) {
         return Err(AskFault::Foreign);
     }
-    if answer.lines().any(|line| line == "bad") {
+    if is_refused(answer) {
         return Err(AskFault::Refused);
     }
     match write_answer(question, form, answer, out) {
         Ok(()) => Ok(()),
         Err(_) => Err(AskFault::Output),
     }
+}
+
+/// Whether a speaker of the protocol replied.
+fn is_greeted(answer: &str) -> bool
+    ensures { result ≡ is_greeting answer.now }
+{
+    answer.as_bytes().starts_with(b"BABEL 1.")
+}
+
+/// Whether a command was refused.
+fn is_refused(answer: &str) -> bool
+    ensures { result ≡ has_refusal answer.now }
+{
+    answer.lines().any(|line| line == "bad")
 }
 
 fn write_answer<W: Write>(
@@ -61,17 +86,26 @@ fn write_answer<W: Write>(
     out: &mut W,
 ) -> io::Result<()> {
     match form {
-        AnswerForm::Text => write_text(question, answer, out)?,
+        AnswerForm::Text => write_text(question, Colours::Hidden, answer, out)?,
+        AnswerForm::Coloured => write_text(question, Colours::Shown, answer, out)?,
         AnswerForm::Json => write_json(question, answer, out)?,
     }
     out.flush()
 }
 
-fn write_text<W: Write>(question: &Question<'_>, answer: &str, out: &mut W) -> io::Result<()> {
+fn write_text<W: Write>(
+    question: &Question<'_>,
+    colours: Colours,
+    answer: &str,
+    out: &mut W,
+) -> io::Result<()> {
     match *question {
-        Question::Neighbours => write_table(answer, "neighbour", &neighbour_columns(), out),
-        Question::Routes => write_table(answer, "route", &route_columns(), out),
+        Question::Neighbours => {
+            write_table(answer, "neighbour", &neighbour_columns(), colours, out)
+        }
+        Question::Routes => write_table(answer, "route", &route_columns(), colours, out),
         Question::Why(prefix) => write_reasons(answer, prefix, out),
+        Question::Log => write_log(AnswerForm::Text, answer, out),
         Question::Counts => write_counts(answer, out),
     }
 }
@@ -80,7 +114,8 @@ fn write_json<W: Write>(question: &Question<'_>, answer: &str, out: &mut W) -> i
     match *question {
         Question::Neighbours => write_objects(answer, "neighbour", &neighbour_columns(), out),
         Question::Routes => write_objects(answer, "route", &route_columns(), out),
-        Question::Why(_) => write_reason_objects(answer, out),
+        Question::Why(prefix) => write_reason_objects(answer, prefix, out),
+        Question::Log => write_log(AnswerForm::Json, answer, out),
         Question::Counts => write_counts_object(answer, out),
     }
 }

@@ -1,2 +1,10 @@
+pub mod Changes
+pub mod Clients
 pub mod Commands
 pub mod Limits
+pub mod LineWords
+pub mod Lines
+pub mod Places
+pub mod Replies
+pub mod Texts
+pub mod Words

@@ -1,15 +1,22 @@
 //! What changed of a speaker since it was looked at last.
 
+ghost use Rattle.std.specs.Prelude.{ℕ, List, ◌≡◌, ◌++◌, [], length, flat_map, OnOk};
+ghost use Rattle.std.specs.String.{string_bytes};
+ghost use Rattle.babel_control.specs.Changes.{dump_lines};
+ghost use Rattle.babel_control.specs.Lines.{interface_line, xroute_line};
+ghost use Rattle.babel_control.specs.declared.lines.Event.TheVariants.{Add};
+
 use crate::lines::{Event, push_interface, push_xroute};
 use crate::rows::Row;
 use crate::{DeviceAddresses, DeviceView, NeighbourRow, RouteRow, Tables, View};
 use babel_value::Prefix;
 use std::alloc::{AllocError, Global};
 use std::cmp::Ordering;
+use std::marker::Model;
 
 /// A row, and the identifier that its lines have.
 #[derive(Clone, Copy)]
-struct Known<T: Row> {
+pub(crate) struct Known<T: Row> {
     id: u64,
     row: T,
 }
@@ -27,9 +34,23 @@ pub struct Changes {
     last_id: u64,
 }
 
+impl Model for Changes {
+    ghost use Rattle.babel_control.specs.Changes.{ChangesValue};
+
+    ghost Value = { ChangesValue };
+
+    ghost view = { λ c. record { devices = c.devices.items; neighbours = c.neighbours.items; prefixes = c.prefixes.items; routes = c.routes.items; last_id = c.last_id } };
+}
+
 impl Changes {
     /// Nothing was written.
-    pub fn new(alloc: Global) -> Changes {
+    pub fn new(alloc: Global) -> Changes
+        ensures devices { result.devices ≡ [] }
+        ensures neighbours { result.neighbours ≡ [] }
+        ensures prefixes { result.prefixes ≡ [] }
+        ensures routes { result.routes ≡ [] }
+        ensures last_id { result.last_id ≡ 0 }
+    {
         Changes {
             alloc,
             devices: Vec::new(alloc),
@@ -40,13 +61,21 @@ impl Changes {
         }
     }
 
+    pub(crate) fn allocator(&self) -> Global {
+        self.alloc
+    }
+
     /// How many neighbours there were when the speaker was looked at last.
-    pub fn neighbour_count(&self) -> usize {
+    pub fn neighbour_count(&self) -> usize
+        ensures { result ≡ length self.now.neighbours }
+    {
         self.neighbours.len()
     }
 
     /// How many routes there were then.
-    pub fn route_count(&self) -> usize {
+    pub fn route_count(&self) -> usize
+        ensures { result ≡ length self.now.routes }
+    {
         self.routes.len()
     }
 
@@ -84,27 +113,42 @@ impl Changes {
     /// # Errors
     ///
     /// An allocation failed.
-    pub fn write_all(
-        &self,
-        devices: &[DeviceView<'_>],
-        out: &mut String,
-    ) -> Result<(), AllocError> {
-        for device in devices {
-            push_interface(out, Event::Add, device)?;
-        }
+    pub fn write_all(&self, devices: &[DeviceView<'_>], out: &mut String) -> Result<(), AllocError>
+        ensures { OnOk result (string_bytes out.new ≡ string_bytes out.old ++ dump_lines devices.now self.now) }
+    {
+        write_interfaces(devices, out)?;
         write_known(&self.neighbours, devices, out)?;
-        for prefix in &self.prefixes {
-            push_xroute(out, Event::Add, prefix)?;
-        }
-        write_known(&self.routes, devices, out)
+        write_xroutes(&self.prefixes, out)?;
+        write_known(&self.routes, devices, out)?;
+        Ok(())
     }
+}
+
+fn write_interfaces(devices: &[DeviceView<'_>], out: &mut String) -> Result<(), AllocError>
+    ensures { OnOk result (string_bytes out.new ≡ string_bytes out.old ++ flat_map (interface_line Add) devices.now) }
+{
+    for device in devices {
+        push_interface(out, Event::Add, device)?;
+    }
+    Ok(())
+}
+
+fn write_xroutes(prefixes: &[Prefix], out: &mut String) -> Result<(), AllocError>
+    ensures { OnOk result (string_bytes out.new ≡ string_bytes out.old ++ flat_map (xroute_line Add) prefixes.now) }
+{
+    for prefix in prefixes {
+        push_xroute(out, Event::Add, prefix)?;
+    }
+    Ok(())
 }
 
 fn write_known<T: Row>(
     known: &[Known<T>],
     devices: &[DeviceView<'_>],
     out: &mut String,
-) -> Result<(), AllocError> {
+) -> Result<(), AllocError>
+    ensures { OnOk result (string_bytes out.new ≡ string_bytes out.old ++ flat_map (λ it. T.line it.row Add it.id devices.now) known.now) }
+{
     for it in known {
         it.row.push_line(out, Event::Add, it.id, devices)?;
     }

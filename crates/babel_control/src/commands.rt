@@ -1,10 +1,21 @@
 //! The commands of the control socket.
 
-ghost use Rattle.std.specs.Prelude.{◌≡◌, ◌↔◌, Some, codes, true, IfSome};
-ghost use Rattle.babel_control.specs.Commands.{is_of_babeld};
+ghost use Rattle.std.specs.Prelude.{◌≡◌, ◌↔◌, [], ◌∷◌, Some, codes, true, false, IfSome};
+ghost use Rattle.babel_control.specs.Words.{words_of, have_no_command};
+ghost use Rattle.babel_control.specs.Commands.{is_of_babeld, IsReading};
+ghost use Rattle.babel_control.specs.LineWords.{AreWords};
 
 use babel_text::parse_prefix;
 use babel_value::Prefix;
+
+/// Whether a client is sent the log: what becomes of each datagram, as it happens.
+#[derive(Clone, Copy, Debug, PartialEq, Eq)]
+pub enum Logging {
+    /// It is.
+    On,
+    /// It isn't.
+    Off,
+}
 
 /// What a client asks for.
 #[derive(Clone, Copy, Debug, PartialEq, Eq)]
@@ -21,6 +32,10 @@ pub enum Command {
     Quit,
     /// The routes of a prefix, and why each is used or not.
     Why(Prefix),
+    /// Whether the log is sent from now on.
+    Log(Logging),
+    /// After how long neighbours and routes are given up if nothing more is heard.
+    Expiries,
     /// What was counted.
     Counts,
     /// Whether the snapshot is kept.
@@ -31,19 +46,68 @@ pub enum Command {
 
 /// Reads a line. Blanks around its words don't count, and what comes after a `#` at its beginning is a comment. `None`: there
 /// is no such command.
-pub fn parse_command(line: &str) -> Option<Command> {
+pub fn parse_command(line: &str) -> Option<Command>
+    ensures { IsReading (words_of line.now) result }
+{
+    match words_in(line) {
+        LineWords::Nothing => Some(Command::Nothing),
+        LineWords::One(word) => parse_word(word),
+        LineWords::Two(word, argument) => parse_pair(word, argument),
+        LineWords::More => None,
+    }
+}
+
+/// The words of a line, as far as a command has them.
+#[derive(Clone, Copy)]
+enum LineWords<'l> {
+    /// There is none, or the line is a comment.
+    Nothing,
+    /// One.
+    One(&'l str),
+    /// Two.
+    Two(&'l str, &'l str),
+    /// More than two.
+    More,
+}
+
+fn words_in(line: &str) -> LineWords<'_>
+    ensures { AreWords (words_of line.now) result }
+{
     let mut words = line.split_ascii_whitespace();
     let Some(word) = words.next() else {
-        return Some(Command::Nothing);
+        return LineWords::Nothing;
     };
-    if word.starts_with('#') {
-        return Some(Command::Nothing);
+    if word.as_bytes().starts_with(b"#") {
+        return LineWords::Nothing;
     }
     let Some(argument) = words.next() else {
-        return parse_word(word);
+        return LineWords::One(word);
     };
     match words.next() {
-        None if word == "why" => Some(Command::Why(parse_prefix(argument)?)),
+        None => LineWords::Two(word, argument),
+        Some(_) => LineWords::More,
+    }
+}
+
+/// A command of two words.
+fn parse_pair(word: &str, argument: &str) -> Option<Command>
+    ensures { have_no_command (word.now ∷ argument.now ∷ []) ≡ false → IsReading (word.now ∷ argument.now ∷ []) result }
+{
+    match word {
+        "why" => Some(Command::Why(parse_prefix(argument)?)),
+        "log" => Some(Command::Log(parse_logging(argument)?)),
+        _ => None,
+    }
+}
+
+/// What comes after `log`.
+pub(crate) fn parse_logging(word: &str) -> Option<Logging>
+    ensures on { result ≡ Some Logging.On ↔ word.now ≡ codes "on" }
+    ensures off { result ≡ Some Logging.Off ↔ word.now ≡ codes "off" }
+{
+    match word {
+        "on" => Some(Logging::On),
+        "off" => Some(Logging::Off),
         _ => None,
     }
 }
@@ -53,9 +117,12 @@ pub(crate) fn parse_word(word: &str) -> Option<Command>
     ensures stop { result ≡ Some Command.Stop ↔ word.now ≡ codes "stop" }
     ensures keep { result ≡ Some Command.Keep ↔ word.now ≡ codes "keep" }
     ensures counts { result ≡ Some Command.Counts ↔ word.now ≡ codes "counts" }
+    ensures expiries { result ≡ Some Command.Expiries ↔ word.now ≡ codes "expiries" }
+    ensures reads { have_no_command (word.now ∷ []) ≡ false → IsReading (word.now ∷ []) result }
 {
     match word {
         "counts" => Some(Command::Counts),
+        "expiries" => Some(Command::Expiries),
         "keep" => Some(Command::Keep),
         "stop" => Some(Command::Stop),
         _ => parse_babeld_word(word),

@@ -8,7 +8,7 @@
 //! - `views`: what the socket shows of a speaker and its devices.
 //! - `texts`: addresses, prefixes and router-ids, as babeld writes them. `lines`: the lines of the protocol.
 //! - `rows`: the speaker's tables as these lines show them, and `changes`: what changed of them.
-//! - `replies`: the reply to a command. `clients`: a client.
+//! - `replies`: the reply to a command. `clients`: a client. `places`: where a control socket is.
 #![tactic(auto)]
 
 mod changes;
@@ -17,15 +17,18 @@ mod commands;
 mod input;
 mod lines;
 mod output;
+mod places;
 mod replies;
 mod rows;
 mod texts;
 mod views;
 
 pub use changes::Changes;
-pub use clients::{Client, Monitoring, Wish, needs_tables};
-pub use commands::{Command, parse_command};
+pub use clients::{Access, Client, Monitoring, Stage, Wish, needs_tables};
+pub use commands::{Command, Logging, parse_command};
 pub use input::{InputLine, MAX_LINE, TakenOctet};
+pub use lines::VERSION;
 pub use output::{MAX_OUTPUT, Output, OutputFull};
-pub use rows::{Installed, NeighbourRow, RouteRow, Rows, Tables};
-pub use views::{DeviceAddresses, DeviceView, Keeping, TurnCounts, View};
+pub use places::{ControlPlace, parse_place};
+pub use rows::{Expiries, Installed, NeighbourRow, RouteRow, Rows, Tables};
+pub use views::{DeviceAddresses, DeviceView, Keeping, LogSource, TurnCounts, View};

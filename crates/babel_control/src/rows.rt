@@ -1,5 +1,11 @@
 //! The tables of a speaker, as the lines of the protocol show them.
 
+ghost use Rattle.std.specs.Prelude.{◌≡◌, ◌++◌, ℕ, List, Some, OnOk};
+ghost use Rattle.std.specs.String.{string_bytes};
+ghost use Rattle.babel_control.specs.Lines.{installed_text, neighbour_line, route_line};
+ghost use Rattle.babel_control.specs.declared.lines.Event.{Event as EventOf};
+ghost use Rattle.babel_control.specs.declared.views.DeviceView.{DeviceView as DeviceOf};
+
 use crate::DeviceView;
 use crate::lines::{Event, push_neighbour, push_route};
 use babel_value::{Metric, Peer, Prefix, RouterId};
@@ -12,8 +18,21 @@ pub trait Tables {
     /// Its tables as of now.
     fn rows(&self, alloc: Global) -> Result<Rows, AllocError>;
 
+    /// When each neighbour and route is given up if nothing more is heard.
+    fn expiries(&self, alloc: Global) -> Result<Expiries, AllocError>;
+
     /// Adds a line for each route of the prefix: what was advertised, and whether it is used or why not.
     fn push_why(&self, prefix: &Prefix, out: &mut String) -> Result<(), AllocError>;
+}
+
+/// When neighbours and routes are given up if nothing more is heard.
+#[derive(Drop)]
+pub struct Expiries {
+    /// The neighbours, in ascending order, each with the moment at which its next Hello is missed. `None`: its Hellos have no
+    /// interval.
+    pub neighbours: Vec<(Peer, Option<u64>)>,
+    /// The routes, ascending by prefix, then neighbour, each with the moment at which it is too old.
+    pub routes: Vec<(Prefix, Peer, u64)>,
 }
 
 /// The tables of a speaker.
@@ -29,6 +48,9 @@ pub struct Rows {
 
 /// A thing of which there are many: a neighbour, or a route.
 pub(crate) trait Row: Copy + PartialEq {
+    /// Its line.
+    ghost line: { Self → EventOf → ℕ → List DeviceOf → List ℕ };
+
     /// By what it is named.
     fn compare(&self, other: &Self) -> Ordering;
 
@@ -39,7 +61,8 @@ pub(crate) trait Row: Copy + PartialEq {
         event: Event,
         id: u64,
         devices: &[DeviceView<'_>],
-    ) -> Result<(), AllocError>;
+    ) -> Result<(), AllocError>
+        ensures { OnOk result (string_bytes out.new ≡ string_bytes out.old ++ line self.now event id devices.now) };
 }
 
 /// A neighbour.
@@ -60,6 +83,8 @@ pub struct NeighbourRow {
 }
 
 impl Row for NeighbourRow {
+    ghost line = { λ row event id devices. neighbour_line event id row devices };
+
     fn compare(&self, other: &NeighbourRow) -> Ordering {
         self.peer.cmp(&other.peer)
     }
@@ -85,6 +110,8 @@ pub enum Installed {
 }
 
 impl fmt::Display for Installed {
+    ghost output = { λ installed. Some (installed_text installed) };
+
     fn fmt<W: fmt::Write>(&self, f: &mut fmt::Formatter<W>) -> fmt::Result {
         f.write_str(match self {
             Installed::Yes => "yes",
@@ -111,6 +138,8 @@ pub struct RouteRow {
 }
 
 impl Row for RouteRow {
+    ghost line = { λ row event id devices. route_line event id row devices };
+
     fn compare(&self, other: &RouteRow) -> Ordering {
         match self.prefix.cmp(&other.prefix) {
             Ordering::Equal => self.peer.cmp(&other.peer),

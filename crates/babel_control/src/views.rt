@@ -7,7 +7,7 @@ use babel_value::RouterId;
 #[derive(Clone, Copy, Debug, PartialEq, Eq)]
 pub struct DeviceAddresses {
     /// Its link-local address.
-    pub ipv6: [u8; 16],
+    pub ipv6: Option<[u8; 16]>,
     /// Its IPv4 address.
     pub ipv4: Option<[u8; 4]>,
 }
@@ -47,6 +47,15 @@ pub enum Keeping {
     Never,
 }
 
+/// Whether the speaker has a log that a client can be sent.
+#[derive(Clone, Copy, Debug, PartialEq, Eq)]
+pub enum LogSource {
+    /// It has.
+    Speaker,
+    /// It has none.
+    Nothing,
+}
+
 /// What the control socket shows.
 #[derive(Clone, Copy)]
 pub struct View<'v, T: Tables> {
@@ -54,6 +63,8 @@ pub struct View<'v, T: Tables> {
     pub tables: &'v T,
     /// Its router-id.
     pub router: RouterId,
+    /// The moment, in centiseconds.
+    pub now: u64,
     /// Its devices, by the numbers of the interfaces.
     pub devices: &'v [DeviceView<'v>],
     /// The name of the machine.
@@ -62,4 +73,6 @@ pub struct View<'v, T: Tables> {
     pub counts: TurnCounts,
     /// Whether its snapshot is kept.
     pub keeping: Keeping,
+    /// Whether it has a log.
+    pub log: LogSource,
 }

@@ -1,12 +1,11 @@
 //! A client with its stream.
 
-use babel_control::{Client, Command, Tables, View};
+use crate::streams::Stream;
+use babel_control::{Client, Command};
 use mio::unix::SourceFd;
 use mio::{Interest, Registry, Token};
 use std::alloc::Global;
-use std::io::{self, Read, Write};
-use std::os::fd::AsRawFd;
-use std::os::unix::net::UnixStream;
+use std::io;
 
 /// How often a client is read from in a turn, and how many octets each time.
 const MAX_READS: u32 = 4;
@@ -23,7 +22,7 @@ pub(crate) type Asked = (usize, Option<Command>);
 /// A client, and the stream that it is connected by.
 #[derive(Drop)]
 pub(crate) struct Connection {
-    stream: UnixStream,
+    stream: Stream,
     token: usize,
     pub(crate) client: Client,
 }
@@ -42,18 +41,15 @@ enum Came {
 }
 
 impl Connection {
-    /// Greets a new client, whose stream is watched with the token.
-    pub(crate) fn open<T: Tables>(
-        alloc: Global,
-        stream: UnixStream,
+    /// A client whose stream is watched with the token.
+    pub(crate) fn open(
+        stream: Stream,
         registry: &Registry,
         token: usize,
-        view: &View<'_, T>,
+        client: Client,
     ) -> io::Result<Connection> {
-        stream.set_nonblocking(true)?;
-        let fd = stream.as_raw_fd();
+        let fd = stream.descriptor();
         registry.register(&mut SourceFd(&fd), Token(token), both_ways())?;
-        let client = Client::new(alloc, view);
         Ok(Connection {
             stream,
             token,
@@ -76,7 +72,7 @@ impl Connection {
             }
         }
         // So that what is left is reported again.
-        let fd = self.stream.as_raw_fd();
+        let fd = self.stream.descriptor();
         let again = registry.reregister(&mut SourceFd(&fd), Token(self.token), both_ways());
         if again.is_err() {
             self.client.note_failure();
@@ -89,7 +85,7 @@ impl Connection {
             if self.client.waiting().is_empty() {
                 return;
             }
-            match self.stream.write(self.client.waiting()) {
+            match self.stream.send(self.client.waiting()) {
                 Ok(count) => self.client.note_sent(count),
                 Err(error) => return self.note_error(error),
             }
@@ -108,8 +104,8 @@ fn both_ways() -> Interest {
     Interest::READABLE | Interest::WRITABLE
 }
 
-fn read_once(stream: &mut UnixStream, room: &mut [u8]) -> Came {
-    match stream.read(room) {
+fn read_once(stream: &mut Stream, room: &mut [u8]) -> Came {
+    match stream.receive(room) {
         Ok(0) => Came::End,
         Ok(count) => Came::Octets(count),
         Err(error) => match error.kind() {

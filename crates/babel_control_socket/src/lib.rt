@@ -1,12 +1,13 @@
-//! The control socket of a running speaker: a Unix socket that doesn't wait, and its clients.
+//! The control socket of a running speaker, which doesn't wait, and its clients: a Unix socket, or one of TCP at ::1.
 //!
-//! `listening` makes the socket's file, `connections` is one client with its stream, and `serving` serves all of them once a turn.
+//! `listening` makes the socket, `streams` has that of a client, `connections` is one client with it, and `serving` serves all of them once a turn.
 //! What a client asks, and the reply to it, is in `babel_control`.
 #![tactic(auto)]
 
 mod connections;
 mod listening;
 mod serving;
+mod streams;
 
-pub use listening::bind_path;
+pub use listening::{bind_path, local_address};
 pub use serving::{ControlSocket, MAX_CLIENTS};

@@ -1,16 +1,16 @@
 //! All clients, served once a turn.
 
-use crate::bind_path;
 use crate::connections::{Asked, Connection};
-use babel_control::{Changes, Monitoring, Tables, View, Wish, needs_tables};
+use crate::listening::Listener;
+use babel_control::{
+    Changes, Client, ControlPlace, Logging, Monitoring, Tables, View, Wish, needs_tables,
+};
 use mio::unix::SourceFd;
 use mio::{Interest, Registry, Token};
 use std::alloc::{AllocError, Global};
 use std::fs::Files;
 use std::io;
 use std::net::Net;
-use std::os::fd::AsRawFd;
-use std::os::unix::net::UnixListener;
 
 /// The most clients at once. One more is closed at once.
 pub const MAX_CLIENTS: usize = 16;
@@ -22,7 +22,7 @@ const MAX_ACCEPTED: u32 = 16;
 #[derive(Drop)]
 pub struct ControlSocket {
     alloc: Global,
-    listener: UnixListener,
+    listener: Listener,
     /// The token of the listener. That of the client with number `n` is `n + 1` more.
     token: usize,
     clients: Vec<Option<Connection>>,
@@ -30,7 +30,7 @@ pub struct ControlSocket {
 }
 
 impl ControlSocket {
-    /// Makes the socket at the path, see [`bind_path`]. It and its clients are watched with `MAX_CLIENTS + 1` tokens.
+    /// Makes the socket at the place. It and its clients are watched with `MAX_CLIENTS + 1` tokens.
     ///
     /// # Errors
     ///
@@ -38,13 +38,13 @@ impl ControlSocket {
     pub fn open<R: Files + Net>(
         alloc: Global,
         rt: &R,
-        path: &str,
+        place: ControlPlace<'_>,
         registry: &Registry,
         token: usize,
     ) -> io::Result<ControlSocket> {
         let clients = no_clients(alloc)?;
-        let listener = bind_path(rt, path)?;
-        let fd = listener.as_raw_fd();
+        let listener = Listener::open(rt, place)?;
+        let fd = listener.descriptor();
         registry.register(&mut SourceFd(&fd), Token(token), Interest::READABLE)?;
         Ok(ControlSocket {
             alloc,
@@ -75,6 +75,24 @@ impl ControlSocket {
         wish
     }
 
+    /// Whether a client is sent the log.
+    pub fn has_log_reader(&self) -> bool {
+        self.clients.iter().any(|slot| match slot {
+            Some(connection) => connection.client.logging() == Logging::On,
+            None => false,
+        })
+    }
+
+    /// Adds lines of the log for each client that is sent it. `None`: there was no room for them, and no client can go on with
+    /// the log: the connections of those that are sent it end.
+    pub fn push_log(&mut self, lines: Option<&str>) {
+        for slot in self.clients.iter_mut() {
+            if let Some(connection) = slot {
+                push_log_to(&mut connection.client, lines);
+            }
+        }
+    }
+
     /// Writes the changes to the clients that monitor, and then the replies.
     fn answer_all<T: Tables>(&mut self, asked: &[Asked], view: &View<'_, T>) -> Wish {
         if has_monitor(&self.clients) || wants_tables(asked) {
@@ -97,21 +115,30 @@ impl ControlSocket {
     /// Takes the clients that wait at the listener.
     fn accept<T: Tables>(&mut self, registry: &Registry, view: &View<'_, T>) {
         for _ in 0..MAX_ACCEPTED {
-            let Ok((stream, _)) = self.listener.accept() else {
+            let Ok(stream) = self.listener.accept() else {
                 return;
             };
             let Some(number) = free_slot(&self.clients) else {
                 continue;
             };
             let token = self.token.saturating_add(number).saturating_add(1);
-            let opened = Connection::open(self.alloc, stream, registry, token, view);
+            let client = Client::new(self.alloc, self.listener.access(), view);
+            let opened = Connection::open(stream, registry, token, client);
             if let (Some(slot), Ok(connection)) = (self.clients.get_mut(number), opened) {
                 *slot = Some(connection);
             }
         }
         // So that those that are left are reported again.
-        let fd = self.listener.as_raw_fd();
+        let fd = self.listener.descriptor();
         let _ = registry.reregister(&mut SourceFd(&fd), Token(self.token), Interest::READABLE);
+    }
+}
+
+fn push_log_to(client: &mut Client, lines: Option<&str>) {
+    match lines {
+        Some(lines) => client.push_log(lines),
+        None if client.logging() == Logging::On => client.note_failure(),
+        None => {}
     }
 }
 

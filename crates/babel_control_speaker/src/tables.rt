@@ -1,24 +1,32 @@
 //! The neighbours, announced prefixes and routes of a speaker.
 
+use crate::IgnoredUpdates;
 use crate::reasons::push_routes;
-use babel_control::{Installed, NeighbourRow, RouteRow, Rows, Tables};
+use babel_control::{Expiries, Installed, NeighbourRow, RouteRow, Rows, Tables};
 use babel_link::History;
 use babel_speaker::{Neighbour, Speaker};
-use babel_value::Prefix;
+use babel_value::{Peer, Prefix};
 use std::alloc::{AllocError, Global};
 
 /// How many prefixes a speaker may have a route to, and how many routes to one of them: more than it has room for.
 const MAX_STEPS: usize = 1 << 16;
 
-/// The tables of a speaker.
+/// The tables of a speaker, and the Updates that it has not stored.
 #[derive(Clone, Copy)]
-pub struct SpeakerTables<'s>(pub &'s Speaker);
+pub struct SpeakerTables<'s> {
+    /// The speaker.
+    pub speaker: &'s Speaker,
+    /// What is known of such Updates.
+    pub ignored: &'s IgnoredUpdates,
+    /// The moment, in centiseconds.
+    pub now: u64,
+}
 
 impl Tables for SpeakerTables<'_> {
     fn rows(&self, alloc: Global) -> Result<Rows, AllocError> {
-        let neighbours = neighbours_of(alloc, self.0)?;
-        let prefixes = prefixes_of(alloc, self.0)?;
-        let routes = routes_of(alloc, self.0)?;
+        let neighbours = neighbours_of(alloc, self.speaker)?;
+        let prefixes = prefixes_of(alloc, self.speaker)?;
+        let routes = routes_of(alloc, self.speaker)?;
         Ok(Rows {
             neighbours,
             prefixes,
@@ -26,8 +34,15 @@ impl Tables for SpeakerTables<'_> {
         })
     }
 
+    fn expiries(&self, alloc: Global) -> Result<Expiries, AllocError> {
+        let neighbours = neighbour_expiries(alloc, self.speaker)?;
+        let routes = route_expiries(alloc, self.speaker)?;
+        Ok(Expiries { neighbours, routes })
+    }
+
     fn push_why(&self, prefix: &Prefix, out: &mut String) -> Result<(), AllocError> {
-        push_routes(self.0, prefix, out)
+        push_routes(self.speaker, prefix, out)?;
+        self.ignored.push_to(prefix, self.now, out)
     }
 }
 
@@ -106,6 +121,65 @@ fn push_routes_to(
             metric: advertised.add(cost),
             advertised,
         })?;
+    }
+    Ok(())
+}
+
+/// When the next Hello of each neighbour is missed.
+fn neighbour_expiries(
+    alloc: Global,
+    speaker: &Speaker,
+) -> Result<Vec<(Peer, Option<u64>)>, AllocError> {
+    let mut expiries = Vec::new(alloc);
+    for place in 0..speaker.neighbour_count() {
+        if let Some(neighbour) = speaker.neighbour(place) {
+            expiries.push((neighbour.peer, due_of(&neighbour)))?;
+        }
+    }
+    Ok(expiries)
+}
+
+/// When a multicast Hello of the neighbour is missed, or else a unicast one.
+fn due_of(neighbour: &Neighbour) -> Option<u64> {
+    match due_in(&neighbour.link.multicast) {
+        Some(due) => Some(due),
+        None => due_in(&neighbour.link.unicast),
+    }
+}
+
+fn due_in(history: &Option<History>) -> Option<u64> {
+    let history = history.as_ref()?;
+    let timer = history.timer?;
+    Some(timer.due)
+}
+
+/// When each route is too old, ascending by prefix, then neighbour.
+fn route_expiries(
+    alloc: Global,
+    speaker: &Speaker,
+) -> Result<Vec<(Prefix, Peer, u64)>, AllocError> {
+    let mut expiries = Vec::new(alloc);
+    let mut after: Option<Prefix> = None;
+    for _ in 0..MAX_STEPS {
+        let Some(prefix) = speaker.next_prefix(after.as_ref()) else {
+            return Ok(expiries);
+        };
+        push_expiries_of(&mut expiries, speaker, &prefix)?;
+        after = Some(prefix);
+    }
+    Ok(expiries)
+}
+
+fn push_expiries_of(
+    expiries: &mut Vec<(Prefix, Peer, u64)>,
+    speaker: &Speaker,
+    prefix: &Prefix,
+) -> Result<(), AllocError> {
+    for index in 0..MAX_STEPS {
+        let Some((peer, entry, _)) = speaker.entry(prefix, index) else {
+            return Ok(());
+        };
+        expiries.push((*prefix, peer, entry.deadline))?;
     }
     Ok(())
 }

@@ -2,7 +2,7 @@
 //!
 //! `devices` is what the system reports of a device, `tracking` how the devices of a run change, `settings` the configuration that
 //! the speaker gets of them, `sockets` what a device has, `links` the wire over all of them, `printing` what is
-//! printed, `controlling` the control socket, `turns` the turns of the speaker with the changes of devices, `running` the run, and `words` what the command
+//! printed, `controlling` the control socket, `pacing` when it sends, `turns` the turns of the speaker with the changes of devices, `running` the run, and `words` what the command
 //! line and the file of `--config` ask for.
 #![tactic(auto)]
 
@@ -10,6 +10,7 @@ mod controlling;
 mod devices;
 mod errors;
 mod links;
+mod pacing;
 mod printing;
 mod running;
 mod settings;

@@ -151,6 +151,11 @@ impl<'a, R: Clock, I: Read + AsRawFd> LinkWire<'a, R, I> {
         self.has_ended
     }
 
+    /// The moment that was returned last.
+    pub(crate) fn moment(&self) -> u64 {
+        self.moment
+    }
+
     /// Closes the sockets of a device.
     pub(crate) fn close_link(&mut self, number: usize)
         ensures { self.new.faults ≡ self.old.faults }
@@ -210,6 +215,17 @@ impl<'a, R: Clock, I: Read + AsRawFd> LinkWire<'a, R, I> {
             Err(_) => due,
         };
         self.wait = due.saturating_sub(passed);
+    }
+
+    /// Waits until this moment, whatever comes meanwhile. The next `recv` doesn't wait.
+    pub(crate) fn pause_until(&mut self, moment: u64)
+        ensures { self.new.faults ≡ self.old.faults }
+    {
+        if moment > self.moment {
+            self.wait_until(moment);
+            self.system.sleep(self.wait);
+        }
+        self.wait = Duration::from_millis(0);
     }
 
     /// Whether a datagram may wait at a socket.

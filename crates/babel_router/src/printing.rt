@@ -2,10 +2,14 @@
 
 use crate::DeviceFault;
 use crate::running::{Printed, RunOptions};
+use babel_control_speaker::LiveLog;
 use babel_durable::{DurableReport, Observer};
 use babel_speaker::Speaker;
+use babel_state::{Note as TlvNote, RecvFault, Target};
 use babel_text::LineFault;
 use babel_udp::{Counts, LastKeep, RouteLines, Selections};
+use babel_value::Peer;
+use babel_wire::{Arrival, Receipts};
 use std::alloc::{AllocError, Global};
 use std::fmt;
 use std::io::Write;
@@ -42,6 +46,10 @@ pub(crate) struct Printer<'s, 'a, W: Write, E: Write> {
     routes: Option<Selections<'a>>,
     last_keep: LastKeep,
     written: Result<(), LineFault>,
+    /// What clients of the control socket are sent.
+    pub(crate) log: LiveLog,
+    /// Whether there is a control socket.
+    has_control: bool,
 }
 
 fn selections<'a>(
@@ -73,6 +81,8 @@ impl<'s, 'a, W: Write, E: Write> Printer<'s, 'a, W, E> {
             routes,
             last_keep: LastKeep::Done,
             written: Ok(()),
+            log: LiveLog::new(alloc),
+            has_control: options.control.is_some(),
         })
     }
 
@@ -84,10 +94,11 @@ impl<'s, 'a, W: Write, E: Write> Printer<'s, 'a, W, E> {
         }
     }
 
-    /// The kernel may have lost the routes over the device of this number: they are given to it again.
-    pub(crate) fn forget(&mut self, number: usize) {
+    /// The kernel may have lost the routes over the device of this number: they are given to it
+    /// again, or taken away if they aren't selected any more.
+    pub(crate) fn doubt(&mut self, number: usize) {
         if let (Some(commands), Ok(iface)) = (&mut self.commands, u8::try_from(number)) {
-            commands.forget(iface);
+            commands.doubt(iface);
         }
     }
 
@@ -99,6 +110,7 @@ impl<'s, 'a, W: Write, E: Write> Printer<'s, 'a, W, E> {
         if let Some(routes) = &mut self.routes {
             routes.note_restart();
         }
+        self.log.note_restart();
     }
 
     /// A device may have another number. `ip` keeps the numbers that it has seen; this command lets it read them again.
@@ -160,12 +172,35 @@ impl<'s, 'a, W: Write, E: Write> Printer<'s, 'a, W, E> {
     }
 }
 
+impl<W: Write, E: Write> Receipts for Printer<'_, '_, W, E> {
+    fn received(
+        &mut self,
+        now: u64,
+        arrival: &Arrival,
+        octets: &[u8],
+        outcome: &Result<Vec<TlvNote>, RecvFault>,
+    ) {
+        if self.has_control {
+            let peer = Peer {
+                iface: arrival.iface,
+                addr: arrival.source,
+            };
+            self.log.take_received(now, peer, octets, outcome);
+        }
+    }
+}
+
 impl<W: Write, E: Write> Observer for Printer<'_, '_, W, E> {
     /// What has changed is written after the snapshot was kept, and before a datagram is sent.
     fn turn(&mut self, now: u64, speaker: &Speaker) {
         if self.written.is_ok() {
             self.written = self.write_changes(speaker, now);
         }
+        self.log.take_turn(now, speaker);
+    }
+
+    fn sent(&mut self, now: u64, target: &Target, octets: &[u8]) {
+        self.log.take_sent(now, target, octets);
     }
 }
 

@@ -1,14 +1,17 @@
 //! `babel run DEVICE..`: a speaker on real links.
 
-use crate::controlling::{close_control, open_control};
+use crate::controlling::open_control;
 use crate::devices::Lists;
 use crate::links::LinkWire;
+use crate::pacing::Pace;
 use crate::printing::Printer;
 use crate::settings::{DeviceSettings, Settings, config_of};
 use crate::tracking::Tracked;
 use crate::turns::Router;
 use crate::{DeviceFault, RunFault};
-use babel_durable::DurableDriver;
+use babel_control::ControlPlace;
+use babel_control_speaker::remove_socket;
+use babel_durable::{DurableDriver, DurableReport};
 use babel_snapshot_file::{Kept, LockFile, SnapshotStore};
 use babel_speaker::Speaker;
 use babel_state::Config;
@@ -49,7 +52,7 @@ pub struct RunOptions<'a> {
     /// Where the snapshot is kept before anything is sent. Without it nothing is kept over a restart.
     pub keep: Option<Kept<'a>>,
     /// Where the control socket is. Without it nobody can ask the speaker anything.
-    pub control: Option<&'a str>,
+    pub control: Option<ControlPlace<'a>>,
     /// Each change of a selected route, and all of them at the end.
     pub routes: Printed,
     /// Each change of a selected route, as a command for `ip -force -batch -`.
@@ -61,7 +64,8 @@ pub struct RunOptions<'a> {
 ///
 /// In each turn the snapshot is kept if it has changed, then changes of routes are written, and then datagrams are
 /// sent. If the snapshot can't be kept in the first turn the run ends, and nothing was sent. Later nothing is sent until
-/// it can be kept again; that is written to the standard error once.
+/// it can be kept again; that is written to the standard error once. For a short time after datagrams were sent a turn
+/// only takes in what comes, unless something is due.
 ///
 /// # Errors
 ///
@@ -174,9 +178,13 @@ where
         driver: &mut driver,
         devices,
         control: &mut control,
+        pace: Pace::default(),
+        last_turn: DurableReport::default(),
     };
     let ended = router.take_turns(options.turns, wire, printer);
-    close_control(options.control, wire.wire.system());
+    if let Some(place) = options.control {
+        remove_socket(wire.wire.system(), place);
+    }
     ended
 }
 

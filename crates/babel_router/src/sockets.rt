@@ -27,11 +27,17 @@ pub(crate) enum Half {
 pub(crate) struct Sockets {
     scope: u32,
     /// Bound to the device's own address: all is sent from it, and datagrams for this router alone come to it.
-    own: UdpSocket,
+    own: Watched,
     /// Bound to the group, so that no datagram comes twice.
-    group: UdpSocket,
-    own_is_ready: bool,
-    group_is_ready: bool,
+    group: Watched,
+}
+
+/// A socket that a poll watches.
+#[derive(Drop)]
+struct Watched {
+    socket: UdpSocket,
+    /// Whether a datagram may wait at it.
+    is_ready: bool,
 }
 
 /// Lets the poll watch a descriptor.
@@ -61,23 +67,27 @@ impl Sockets {
         watch(poll, group.as_raw_fd(), token.saturating_add(1))?;
         Ok(Sockets {
             scope,
-            own,
-            group,
-            own_is_ready: true,
-            group_is_ready: true,
+            own: Watched {
+                socket: own,
+                is_ready: true,
+            },
+            group: Watched {
+                socket: group,
+                is_ready: true,
+            },
         })
     }
 
     /// Whether a datagram may wait at one of the sockets.
     pub(crate) fn is_ready(&self) -> bool {
-        self.own_is_ready || self.group_is_ready
+        self.own.is_ready || self.group.is_ready
     }
 
     /// A datagram waits at one of them.
     pub(crate) fn note_ready(&mut self, half: Half) {
         match half {
-            Half::Own => self.own_is_ready = true,
-            Half::Group => self.group_is_ready = true,
+            Half::Own => self.own.is_ready = true,
+            Half::Group => self.group.is_ready = true,
         }
     }
 
@@ -85,14 +95,14 @@ impl Sockets {
     pub(crate) fn take(&mut self, port: u16, buf: &mut [u8]) -> io::Result<Option<(Addr, usize)>>
         ensures { IfOk result (λ came. IfSome came (λ it. it.1 ≤ length buf.new)) }
     {
-        if self.own_is_ready {
-            let came = take_from(&self.own, &mut self.own_is_ready, port, buf)?;
+        if self.own.is_ready {
+            let came = take_from(&mut self.own, port, buf)?;
             if came.is_some() {
                 return Ok(came);
             }
         }
-        if self.group_is_ready {
-            return take_from(&self.group, &mut self.group_is_ready, port, buf);
+        if self.group.is_ready {
+            return take_from(&mut self.group, port, buf);
         }
         Ok(None)
     }
@@ -100,7 +110,7 @@ impl Sockets {
     /// Sends a datagram from the device's own address. Whether it was sent whole.
     pub(crate) fn send(&self, port: u16, to: Ipv6Addr, octets: &[u8]) -> bool {
         let to = SocketAddrV6::new(to, port, 0, self.scope);
-        match self.own.send_to(octets, to) {
+        match self.own.socket.send_to(octets, to) {
             Ok(len) => len == octets.len(),
             Err(_) => false,
         }
@@ -116,15 +126,10 @@ fn bind<R: Net>(rt: &R, address: Ipv6Addr, port: u16, scope: u32) -> io::Result<
 }
 
 /// Takes a datagram that waits at the socket. One from another port is dropped (RFC 8966, section 4).
-fn take_from(
-    socket: &UdpSocket,
-    is_ready: &mut bool,
-    port: u16,
-    buf: &mut [u8],
-) -> io::Result<Option<(Addr, usize)>>
+fn take_from(watched: &mut Watched, port: u16, buf: &mut [u8]) -> io::Result<Option<(Addr, usize)>>
     ensures { IfOk result (λ came. IfSome came (λ it. it.1 ≤ length buf.new)) }
 {
-    match socket.recv_from(buf) {
+    match watched.socket.recv_from(buf) {
         Ok((len, SocketAddr::V6(from))) if from.port() == port => {
             Ok(Some((Addr::V6(from.ip().octets()), len)))
         }
@@ -132,7 +137,7 @@ fn take_from(
         Err(error) if error.kind() == io::ErrorKind::Interrupted => Ok(None),
         Err(error) => {
             // Nothing waits, or the device has failed: its next event is waited for.
-            *is_ready = false;
+            watched.is_ready = false;
             match error.kind() {
                 io::ErrorKind::WouldBlock => Ok(None),
                 _ => Err(error),

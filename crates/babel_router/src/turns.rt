@@ -2,15 +2,17 @@
 
 ghost use Rattle.std.specs.Prelude.{◌≡◌};
 
-use crate::controlling::{Control, Service, serve_clients, views_of};
+use crate::controlling::{counts_of, serve_clients, views_of};
 use crate::devices::Lists;
 use crate::links::LinkWire;
+use crate::pacing::{self, Pace, Place};
 use crate::printing::{Note, Printer};
 use crate::settings::{Settings, config_of};
 use crate::tracking::{Step, Tracked, hear};
 use crate::{DeviceFault, RunFault};
-use babel_control::{Keeping, Wish};
-use babel_durable::{DurableDriver, DurableReport, Keeper, drive_durable};
+use babel_control::{Keeping, LogSource, Wish};
+use babel_control_speaker::{Control, Service};
+use babel_durable::{DurableDriver, DurableReport, Keeper, drive_durable, take_in};
 use babel_snapshot_file::{LockFile, SnapshotFileFault};
 use babel_speaker::Speaker;
 use babel_text::LineFault;
@@ -39,6 +41,9 @@ pub(crate) struct Router<'d, 'a> {
     /// By the numbers of the interfaces.
     pub(crate) devices: &'d mut [Tracked<'a>],
     pub(crate) control: &'d mut Option<Control>,
+    pub(crate) pace: Pace,
+    /// What was counted in the last turn. Steps that only take in what waits are none.
+    pub(crate) last_turn: DurableReport,
 }
 
 impl Router<'_, '_> {
@@ -75,26 +80,55 @@ impl Router<'_, '_> {
     where
         R::File: LockFile,
     {
-        for _ in 0..turns {
+        for number in 0..turns {
             if wire.wire.has_ended() || printer.has_failed() {
-                return Ok(());
+                break;
             }
             if wire.wire.has_to_look() {
                 self.look_at_devices(wire, printer)?;
             }
-            let Some(turn) = self.take_turn(wire, printer) else {
+            let place = place_of(number, turns);
+            let Some(counted) = self.take_step(wire, printer, place) else {
                 return Ok(());
             };
-            if turn.failed_keeps > 0 && counts.turns == 0 {
+            if counted.failed_keeps > 0 && counts.turns == 0 {
                 return Err(UNKEPT);
             }
-            counts.add(turn);
-            printer.note_keeping(turn);
-            if self.serve_control(wire, *counts, turn) == Wish::Stop {
-                return Ok(());
+            counts.add(counted);
+            printer.note_keeping(self.last_turn);
+            if self.serve_control(wire, printer, *counts) == Wish::Stop {
+                break;
             }
         }
+        self.send_rest(wire, printer, counts);
         Ok(())
+    }
+
+    /// Takes a turn, or only takes in what comes, and returns what was counted. `None`: the wire has failed too often.
+    fn take_step<'r, R: Net + Clock + Files, I: Read + AsRawFd, W: Write, E: Write>(
+        &mut self,
+        wire: &mut KeptWire<'r, LinkWire<'r, R, I>, R>,
+        printer: &mut Printer<'_, '_, W, E>,
+        place: Place,
+    ) -> Option<DurableReport>
+    where
+        R::File: LockFile,
+    {
+        let due = if self.pace.needs_due() {
+            self.speaker.next_due()
+        } else {
+            0
+        };
+        match self.pace.next(due, place) {
+            pacing::Step::Turn(until) => {
+                wire.wire.wait_until(until);
+                self.take_turn(wire, printer)
+            }
+            pacing::Step::TakeIn(until) => {
+                wire.wire.pause_until(until);
+                self.take_datagram(wire, printer)
+            }
+        }
     }
 
     /// Takes a turn. `None`: the wire has failed too often.
@@ -106,19 +140,61 @@ impl Router<'_, '_> {
     where
         R::File: LockFile,
     {
-        wire.wire.wait_until(self.speaker.next_due());
         if wire.faults() > MAX_FAULTS {
             return None;
         }
-        Some(drive_durable(self.speaker, self.driver, wire, printer, 1))
+        let turn = drive_durable(self.speaker, self.driver, wire, printer, 1);
+        self.pace.note_turn(wire.wire.moment(), turn);
+        self.last_turn = turn;
+        Some(turn)
+    }
+
+    /// Takes in a datagram, if one waits. `None`: the wire has failed too often.
+    fn take_datagram<'r, R: Net + Clock + Files, I: Read + AsRawFd, W: Write, E: Write>(
+        &mut self,
+        wire: &mut KeptWire<'r, LinkWire<'r, R, I>, R>,
+        printer: &mut Printer<'_, '_, W, E>,
+    ) -> Option<DurableReport>
+    where
+        R::File: LockFile,
+    {
+        if wire.faults() > MAX_FAULTS {
+            return None;
+        }
+        let report = take_in(self.speaker, self.driver, wire, printer);
+        self.pace.note_taken(wire.wire.moment(), report);
+        Some(DurableReport {
+            report,
+            ..DurableReport::default()
+        })
+    }
+
+    /// A run that ends leaves nothing pending.
+    fn send_rest<'r, R: Net + Clock + Files, I: Read + AsRawFd, W: Write, E: Write>(
+        &mut self,
+        wire: &mut KeptWire<'r, LinkWire<'r, R, I>, R>,
+        printer: &mut Printer<'_, '_, W, E>,
+        counts: &mut Counts,
+    )
+    where
+        R::File: LockFile,
+    {
+        if counts.turns == 0 || printer.has_failed() || self.speaker.next_due() > 0 {
+            return;
+        }
+        wire.wire.wait_until(0);
+        if let Some(turn) = self.take_turn(wire, printer) {
+            counts.add(turn);
+            printer.note_keeping(turn);
+        }
     }
 
     /// Serves the clients of the control socket.
-    fn serve_control<'r, R: Net + Clock + Files, I: Read + AsRawFd>(
+    fn serve_control<'r, R: Net + Clock + Files, I: Read + AsRawFd, W: Write, E: Write>(
         &mut self,
         wire: &mut KeptWire<'r, LinkWire<'r, R, I>, R>,
+        printer: &mut Printer<'_, '_, W, E>,
         counts: Counts,
-        turn: DurableReport,
     ) -> Wish
     where
         R::File: LockFile,
@@ -129,7 +205,7 @@ impl Router<'_, '_> {
         }
         let keeping = match wire.store {
             None => Keeping::Never,
-            Some(_) if turn.failed_keeps > 0 => Keeping::Failed,
+            Some(_) if self.last_turn.failed_keeps > 0 => Keeping::Failed,
             Some(_) => Keeping::Kept,
         };
         // Without memory for them nobody is served in this turn.
@@ -137,12 +213,21 @@ impl Router<'_, '_> {
             return Wish::Nothing;
         };
         let service = Service {
+            devices: &devices,
+            now: wire.now(),
             ready,
-            counts,
+            counts: counts_of(counts),
             keeping,
+            log: LogSource::Speaker,
         };
         let registry = wire.wire.registry();
-        serve_clients(self.control, self.speaker, &devices, registry, service)
+        serve_clients(
+            self.control,
+            &mut printer.log,
+            self.speaker,
+            registry,
+            service,
+        )
     }
 
     /// Opens and closes the sockets of devices that have changed. If an address is another one, the speaker starts again.
@@ -159,9 +244,9 @@ impl Router<'_, '_> {
         if let Ok(lists) = Lists::read(self.alloc, wire.wire.system()) {
             for (number, device) in self.devices.iter_mut().enumerate() {
                 let step = device.look(&lists);
-                take_step(number, device, step, &mut wire.wire, printer);
+                take_device_step(number, device, step, &mut wire.wire, printer);
                 if device.take_report() {
-                    printer.forget(number);
+                    printer.doubt(number);
                 }
             }
         }
@@ -200,6 +285,7 @@ impl Router<'_, '_> {
                 *self.speaker = speaker;
                 // It counts its changes from the beginning.
                 self.driver.keeper = Keeper::new();
+                self.pace = Pace::default();
                 Ok(())
             }
             Err(fault) => Err(RunFault::Restore(fault)),
@@ -207,8 +293,17 @@ impl Router<'_, '_> {
     }
 }
 
+/// Whether one of so many turns is the last.
+fn place_of(number: u64, turns: u64) -> Place {
+    if turns.saturating_sub(number) > 1 {
+        Place::Within
+    } else {
+        Place::Last
+    }
+}
+
 /// Opens or closes the sockets of a device.
-fn take_step<R: Clock + Net, I: Read + AsRawFd, W: Write, E: Write>(
+fn take_device_step<R: Clock + Net, I: Read + AsRawFd, W: Write, E: Write>(
     number: usize,
     device: &mut Tracked<'_>,
     step: Step,
@@ -226,7 +321,7 @@ fn take_step<R: Clock + Net, I: Read + AsRawFd, W: Write, E: Write>(
                 device.note_opened();
                 printer.note(device.settings.name, Note::Opened);
                 printer.list_devices();
-                printer.forget(number);
+                printer.doubt(number);
             }
             Err(_) => {
                 if device.fail() {

@@ -1,5 +1,6 @@
 //! What the command line and the file of `--config` ask for.
 
+use crate::controlling::place_of;
 use crate::running::{Printed, RunOptions, run};
 use crate::settings::{DeviceSettings, Settings};
 use crate::{RunFault, WordsFault};
@@ -47,7 +48,7 @@ pub struct RunWords<'a> {
     pub turns: u64,
     /// Where the snapshot is kept.
     pub keep: Option<Kept<'a>>,
-    /// Where the control socket is.
+    /// Where the control socket is: a path, or a port of this machine.
     pub control: Option<&'a str>,
     /// Each change of a selected route, and all of them at the end.
     pub routes: Printed,
@@ -108,7 +109,14 @@ where
         prefixes: &prefixes,
         collect: file.collect,
     };
-    let options = options_of(&words, &*devices, settings);
+    let control = match place_of(words.control) {
+        Ok(control) => control,
+        Err(fault) => return Err(WordsFault::Run(fault)),
+    };
+    let options = RunOptions {
+        control,
+        ..options_of(&words, &*devices, settings)
+    };
     let Streams { input, out, err } = streams;
     match run(rt, options, input, out, err) {
         Ok(()) => Ok(()),
@@ -116,7 +124,7 @@ where
     }
 }
 
-/// The options of a run.
+/// The options of a run without a control socket.
 fn options_of<'x>(
     words: &RunWords<'x>,
     devices: &'x [DeviceSettings<'x>],
@@ -129,7 +137,7 @@ fn options_of<'x>(
         port: words.port,
         turns: words.turns,
         keep,
-        control: words.control,
+        control: None,
         routes: words.routes,
         commands: words.commands,
     }

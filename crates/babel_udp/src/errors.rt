@@ -26,6 +26,9 @@ pub enum SpeakFault {
     /// W2: a socket can't be made, for instance since the address isn't one of this machine.
     #[error("a socket can't be made")]
     Socket,
+    /// W7: the control socket can't be made.
+    #[error("the control socket can't be made")]
+    Control,
     /// L7 and L8: writing failed, or an allocation failed.
     #[error("{0}")]
     Output(#[from] LineFault),
@@ -69,6 +72,7 @@ impl fmt::Display for SpeakCode {
             SpeakFault::SnapshotFile(fault) => f.write_str(fault.code()),
             SpeakFault::Restore(fault) => write!(f, "{}", RestoreCode { fault }),
             SpeakFault::Socket => f.write_str("W2"),
+            SpeakFault::Control => f.write_str("W7"),
             SpeakFault::Output(fault) => f.write_str(fault.code()),
         }
     }

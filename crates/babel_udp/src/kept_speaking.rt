@@ -4,17 +4,20 @@ ghost use Rattle.std.specs.Prelude.{◌≡◌};
 
 use crate::SpeakFault;
 use crate::counting::{Counts, LastKeep};
+use crate::desk::{Desk, close};
 use crate::keeping::{KeptWire, open_kept};
 use crate::links::Links;
 use crate::selections::{RouteLines, Selections};
 use crate::sockets::UdpWire;
 use crate::speaking::{MAX_DATAGRAM_LEN, checked_links};
+use babel_control::{ControlPlace, Keeping, Wish};
 use babel_durable::{DurableDriver, DurableReport, Observer, drive_durable};
-use babel_snapshot_file::{Kept, LockFile, SnapshotFileFault};
+use babel_snapshot_file::{Kept, LockFile, SnapshotFileFault, SnapshotStore};
 use babel_speaker::Speaker;
-use babel_state::Config;
+use babel_state::{Config, Note, RecvFault, Target};
 use babel_text::LineFault;
-use babel_wire::Wire;
+use babel_value::Peer;
+use babel_wire::{Arrival, Receipts, Wire};
 use std::alloc::{AllocError, Global};
 use std::fs::Files;
 use std::io::Write;
@@ -33,8 +36,10 @@ pub struct KeptOptions<'a> {
     pub port: u16,
     /// Whether each change of a selected route is printed, and all selected routes at the end.
     pub routes: bool,
-    /// The file in which its snapshot is kept.
-    pub keep: Kept<'a>,
+    /// The file in which its snapshot is kept. Without it nothing is kept over a restart.
+    pub keep: Option<Kept<'a>>,
+    /// Where the control socket is. Without it nobody can ask the speaker anything.
+    pub control: Option<ControlPlace<'a>>,
 }
 
 /// The same as [`crate::speak`], but in each turn the snapshot is kept if it has changed, then changes of
@@ -45,7 +50,7 @@ pub struct KeptOptions<'a> {
 ///
 /// # Errors
 ///
-/// C1 to C6, W1, K10, K8, K9, K1 to K7, C7, W2, by the first cause in this order, before anything is sent.
+/// C1 to C6, W1, K10, K8, K9, K1 to K7, C7, W2, W7, by the first cause in this order, before anything is sent.
 /// Then K9 of the first turn, L7 and L8.
 pub fn speak_kept<R: AllocGlobal + Net + Clock + Files, W: Write, E: Write>(
     rt: &R,
@@ -58,7 +63,7 @@ where
     R::File: LockFile,
 {
     let mut started = start(rt, config, options)?;
-    print_turns(rt.alloc(), options, &mut started, out, err)
+    print_turns(rt, options, &mut started, out, err)
 }
 
 /// A speaker that may send, and what it is driven over.
@@ -92,13 +97,12 @@ fn start_over<'a, R: AllocGlobal + Net + Clock + Files>(
 where
     R::File: LockFile,
 {
-    let (store, speaker) = match open_kept(rt.alloc(), rt, config, options.keep) {
+    let (store, speaker) = match opened(rt, config, options.keep) {
         Ok(opened) => opened,
-        Err(fault) => return Err(SpeakFault::from(fault)),
+        Err(fault) => return Err(fault),
     };
     match UdpWire::bind(rt.alloc(), rt, links, options.port) {
         Ok(wire) => {
-            let store = Some(store);
             let wire = KeptWire { wire, store };
             Ok(Started { speaker, wire })
         }
@@ -106,9 +110,44 @@ where
     }
 }
 
+/// The speaker, and the file that it is kept in if there is to be one.
+fn opened<'a, R: AllocGlobal + Files>(
+    rt: &'a R,
+    config: Config,
+    keep: Option<Kept<'a>>,
+) -> Result<(Option<SnapshotStore<'a, R>>, Speaker), SpeakFault>
+where
+    R::File: LockFile,
+{
+    match keep {
+        Some(keep) => match open_kept(rt.alloc(), rt, config, keep) {
+            Ok((store, speaker)) => Ok((Some(store), speaker)),
+            Err(fault) => Err(SpeakFault::from(fault)),
+        },
+        None => match Speaker::new(rt.alloc(), config) {
+            Ok(speaker) => Ok((None, speaker)),
+            Err(fault) => Err(SpeakFault::Config(fault)),
+        },
+    }
+}
+
+/// Opens the control socket, if there is to be one.
+fn open_desk<R: AllocGlobal + Net + Files>(
+    rt: &R,
+    place: Option<ControlPlace<'_>>,
+) -> Result<Option<Desk>, SpeakFault> {
+    match place {
+        Some(place) => match Desk::open(rt.alloc(), rt, place) {
+            Ok(desk) => Ok(Some(desk)),
+            Err(_) => Err(SpeakFault::Control),
+        },
+        None => Ok(None),
+    }
+}
+
 /// Drives the speaker for all turns, and prints what is asked for.
-fn print_turns<R: Net + Clock + Files, W: Write, E: Write>(
-    alloc: Global,
+fn print_turns<R: AllocGlobal + Net + Clock + Files, W: Write, E: Write>(
+    rt: &R,
     options: KeptOptions<'_>,
     started: &mut Started<'_, R>,
     out: &mut W,
@@ -117,10 +156,25 @@ fn print_turns<R: Net + Clock + Files, W: Write, E: Write>(
 where
     R::File: LockFile,
 {
-    let mut printer = Printer::new(alloc, options.routes, out, err)?;
-    let mut driver = DurableDriver::new(alloc, MAX_DATAGRAM_LEN)?;
-    take_turns(options.turns, started, &mut driver, &mut printer)?;
+    let routes = printed_routes(rt.alloc(), options)?;
+    let mut driver = DurableDriver::new(rt.alloc(), MAX_DATAGRAM_LEN)?;
+    let mut printer = Printer::new(routes, out, err);
+    printer.desk = open_desk(rt, options.control)?;
+    let taken = take_turns(options.turns, started, &mut driver, &mut printer);
+    close(rt, options.control);
+    taken?;
     Ok(printer.end(&started.speaker)?)
+}
+
+/// What is printed of the selected routes, if anything.
+fn printed_routes<'s>(
+    alloc: Global,
+    options: KeptOptions<'_>,
+) -> Result<Option<Selections<'s>>, AllocError> {
+    if !options.routes {
+        return Ok(None);
+    }
+    Ok(Some(Selections::new(alloc, RouteLines::Numbers)?))
 }
 
 /// Drives the speaker turn by turn, until its lines can't be written.
@@ -143,8 +197,24 @@ where
             return Err(SnapshotFileFault::Unwritable);
         }
         printer.add(turn);
+        let keeping = keeping_of(wire, turn);
+        if printer.serve(speaker, wire.now(), keeping) == Wish::Stop {
+            break;
+        }
     }
     Ok(())
+}
+
+/// Whether the snapshot is kept.
+fn keeping_of<R: Net + Clock + Files>(
+    wire: &KeptWire<'_, UdpWire<'_, R>, R>,
+    turn: DurableReport,
+) -> Keeping {
+    match wire.store {
+        None => Keeping::Never,
+        Some(_) if turn.failed_keeps > 0 => Keeping::Failed,
+        Some(_) => Keeping::Kept,
+    }
 }
 
 /// What was counted and printed, and to where the rest is.
@@ -156,27 +226,29 @@ struct Printer<'s, W: Write, E: Write> {
     counts: Counts,
     last_keep: LastKeep,
     written: Result<(), LineFault>,
+    /// Where the speaker can be asked.
+    desk: Option<Desk>,
 }
 
 impl<'s, W: Write, E: Write> Printer<'s, W, E> {
-    fn new(
-        alloc: Global,
-        routes: bool,
-        out: &'s mut W,
-        err: &'s mut E,
-    ) -> Result<Printer<'s, W, E>, AllocError> {
-        let routes = match routes {
-            true => Some(Selections::new(alloc, RouteLines::Numbers)?),
-            false => None,
-        };
-        Ok(Printer {
+    fn new(routes: Option<Selections<'s>>, out: &'s mut W, err: &'s mut E) -> Printer<'s, W, E> {
+        Printer {
             out,
             err,
             routes,
             counts: Counts::default(),
             last_keep: LastKeep::Done,
             written: Ok(()),
-        })
+            desk: None,
+        }
+    }
+
+    /// Serves those who ask the speaker, and returns what one wants of it.
+    fn serve(&mut self, speaker: &Speaker, now: u64, keeping: Keeping) -> Wish {
+        match &mut self.desk {
+            Some(desk) => desk.serve(speaker, now, self.counts, keeping),
+            None => Wish::Nothing,
+        }
     }
 
     /// Counts a turn.
@@ -209,11 +281,38 @@ impl<'s, W: Write, E: Write> Printer<'s, W, E> {
     }
 }
 
+impl<W: Write, E: Write> Receipts for Printer<'_, W, E> {
+    fn received(
+        &mut self,
+        now: u64,
+        arrival: &Arrival,
+        octets: &[u8],
+        outcome: &Result<Vec<Note>, RecvFault>,
+    ) {
+        if let Some(desk) = &mut self.desk {
+            let peer = Peer {
+                iface: arrival.iface,
+                addr: arrival.source,
+            };
+            desk.log.take_received(now, peer, octets, outcome);
+        }
+    }
+}
+
 impl<W: Write, E: Write> Observer for Printer<'_, W, E> {
     /// Changes are written after the snapshot was kept, and before a datagram is sent.
     fn turn(&mut self, now: u64, speaker: &Speaker) {
         if self.written.is_ok() {
             self.written = self.write_changes(speaker, now);
+        }
+        if let Some(desk) = &mut self.desk {
+            desk.log.take_turn(now, speaker);
+        }
+    }
+
+    fn sent(&mut self, now: u64, target: &Target, octets: &[u8]) {
+        if let Some(desk) = &mut self.desk {
+            desk.log.take_sent(now, target, octets);
         }
     }
 }

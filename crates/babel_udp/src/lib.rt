@@ -2,11 +2,12 @@
 //!
 //! `links` is what the sockets need of a configuration, `sockets` the wire over them, `selections` the
 //! selected routes as they are printed, `snapshots` how a speaker is restored and saved, `speaking` the
-//! command, and `kept_speaking` the command with a snapshot that is kept all the time. `keeping` and `counting`
+//! command, `kept_speaking` the command with a snapshot that is kept all the time, and `desk` its control socket. `keeping` and `counting`
 //! are used by the command `run` too: a wire with the snapshot's file, and what is counted.
 #![tactic(auto)]
 
 mod counting;
+mod desk;
 mod errors;
 mod keeping;
 mod kept_speaking;

@@ -117,19 +117,28 @@ impl<'a> RouteLines<'a> {
         };
         let next_hop = route.next_hop;
         // An IPv4 prefix over a next hop of IPv6 needs the family named (RFC 9229); the others take it too.
-        let family = match next_hop {
-            Addr::V4(_) => "inet",
-            Addr::V6(_) => "inet6",
+        // A neighbour's IPv4 address may be outside of the device's networks, as on links where
+        // each address is a /32. The kernel refuses it without `onlink`.
+        let (family, link) = match next_hop {
+            Addr::V4(_) => ("inet", " onlink"),
+            Addr::V6(_) => ("inet6", ""),
         };
         writeln!(
             out,
-            "route replace {prefix} via {family} {next_hop} dev {interface} proto babel metric {KERNEL_METRIC}"
+            "route replace {prefix} via {family} {next_hop} dev {interface}{link} proto babel metric {KERNEL_METRIC}"
         )
     }
 }
 
-/// A prefix, and the selected route that was printed last. It is none only while changes are written.
-type PrintedRoute = (Prefix, Option<Selected>);
+/// A prefix, and what was printed of it last.
+#[derive(Clone, Copy, Debug)]
+struct PrintedRoute {
+    prefix: Prefix,
+    /// The selected route. It is none only while changes are written.
+    route: Option<Selected>,
+    /// Whether it is printed again, whatever is selected.
+    is_doubtful: bool,
+}
 
 /// The prefixes of which a selected route was printed, in ascending order.
 #[derive(Drop)]
@@ -177,14 +186,19 @@ impl<'a> Selections<'a> {
         }
         add_new(&mut self.printed, speaker)?;
         let has_changed = write_changed(&self.lines, &mut self.printed, speaker, moment, out)?;
-        self.printed.retain(|(_, printed)| printed.is_some());
+        self.printed.retain(|printed| printed.route.is_some());
         self.version = Some(version);
         Ok(has_changed)
     }
 
-    /// Forgets what was printed of the routes over an interface, so that each is printed again.
-    pub fn forget(&mut self, iface: u8) {
-        self.printed.retain(|(_, printed)| printed.is_some_and(|route| route.peer.iface != iface));
+    /// The reader of the lines may have lost the routes over an interface: what is selected of
+    /// their prefixes is printed again, also if it is none by then.
+    pub fn doubt(&mut self, iface: u8) {
+        for printed in self.printed.iter_mut() {
+            if printed.route.is_some_and(|route| route.peer.iface == iface) {
+                printed.is_doubtful = true;
+            }
+        }
         self.version = None;
     }
 
@@ -199,10 +213,10 @@ impl<'a> Selections<'a> {
     ///
     /// L7 if writing fails.
     pub fn write_removals<W: Write>(&self, out: &mut W) -> Result<(), LineFault> {
-        for (prefix, printed) in &self.printed {
-            if printed.is_some() {
+        for printed in &self.printed {
+            if printed.route.is_some() {
                 self.lines
-                    .write_command(prefix, &None, out)
+                    .write_command(&printed.prefix, &None, out)
                     .map_err(LineFault::of_writing)?;
             }
         }
@@ -248,7 +262,7 @@ fn add_new(printed: &mut Vec<PrintedRoute>, speaker: &Speaker) -> Result<(), All
 fn index_near(printed: &[PrintedRoute], index: usize, prefix: &Prefix) -> usize {
     for place in index..printed.len() {
         match printed.get(place) {
-            Some((known, _)) if known.cmp(prefix).is_lt() => {}
+            Some(known) if known.prefix.cmp(prefix).is_lt() => {}
             _ => return place,
         }
     }
@@ -263,15 +277,21 @@ fn insert_near(
 ) -> Result<(), AllocError> {
     if printed
         .get(index)
-        .is_some_and(|(known, _)| *known == prefix)
+        .is_some_and(|known| known.prefix == prefix)
     {
         return Ok(());
     }
-    printed.insert(index.min(printed.len()), (prefix, None))?;
+    let new = PrintedRoute {
+        prefix,
+        route: None,
+        is_doubtful: false,
+    };
+    printed.insert(index.min(printed.len()), new)?;
     Ok(())
 }
 
-/// Writes a line for each of the prefixes whose selected route is another one. Returns whether there was one.
+/// Writes a line for each of the prefixes whose selected route is another one, or that is doubtful.
+/// Returns whether there was one.
 fn write_changed<W: Write>(
     lines: &RouteLines<'_>,
     printed: &mut [PrintedRoute],
@@ -282,12 +302,13 @@ fn write_changed<W: Write>(
     let mut has_changed = false;
     let mut place = 0;
     for entry in printed.iter_mut() {
-        let selected = selected_near(speaker, &mut place, &entry.0);
-        if !lines.are_same(&selected, &entry.1) {
+        let selected = selected_near(speaker, &mut place, &entry.prefix);
+        if entry.is_doubtful || !lines.are_same(&selected, &entry.route) {
             lines
-                .write_change(moment, &entry.0, &selected, out)
+                .write_change(moment, &entry.prefix, &selected, out)
                 .map_err(LineFault::of_writing)?;
-            entry.1 = selected;
+            entry.route = selected;
+            entry.is_doubtful = false;
             has_changed = true;
         }
     }

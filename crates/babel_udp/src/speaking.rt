@@ -44,29 +44,27 @@ pub struct SpeakOptions<'a> {
 ///
 /// C1 to C6, W1, K8, K1 to K7, C7, W2, by the first cause in this order, before anything is sent. Then
 /// K9, L7 and L8.
-pub fn speak<R: Net + Clock + Files, S: Read + Drop, W: Write>(
-    alloc: Global,
+pub fn speak<R: AllocGlobal + Net + Clock + Files, S: Read + Drop, W: Write>(
     rt: &R,
     config: Config,
     snapshot: Option<S>,
     options: SpeakOptions<'_>,
     out: &mut W,
 ) -> Result<(), SpeakFault> {
-    let links = checked_links(alloc, &config)?;
-    let mut speaker = make_speaker(alloc, config, snapshot)?;
-    speak_over(alloc, rt, links, &mut speaker, options, out)
+    let links = checked_links(rt.alloc(), &config)?;
+    let mut speaker = make_speaker(rt.alloc(), config, snapshot)?;
+    speak_over(rt, links, &mut speaker, options, out)
 }
 
-fn speak_over<R: Net + Clock + Files, W: Write>(
-    alloc: Global,
+fn speak_over<R: AllocGlobal + Net + Clock + Files, W: Write>(
     rt: &R,
     links: Links,
     speaker: &mut Speaker,
     options: SpeakOptions<'_>,
     out: &mut W,
 ) -> Result<(), SpeakFault> {
-    let mut wire = UdpWire::bind(alloc, rt, links, options.port)?;
-    speak_and_save(alloc, rt, speaker, &mut wire, options, out)
+    let mut wire = UdpWire::bind(rt.alloc(), rt, links, options.port)?;
+    speak_and_save(rt, speaker, &mut wire, options, out)
 }
 
 /// The links of a configuration that a speaker can be made of, if they all have IPv4 transport.
@@ -81,8 +79,7 @@ pub(crate) fn checked_links(alloc: Global, config: &Config) -> Result<Links, Spe
 }
 
 /// Drives the speaker for all turns, saves it, and writes the counts.
-fn speak_and_save<R: Net + Clock + Files, W: Write>(
-    alloc: Global,
+fn speak_and_save<R: AllocGlobal + Net + Clock + Files, W: Write>(
     rt: &R,
     speaker: &mut Speaker,
     wire: &mut UdpWire<'_, R>,
@@ -91,8 +88,8 @@ fn speak_and_save<R: Net + Clock + Files, W: Write>(
 ) -> Result<(), SpeakFault>
     requires { wire.old.faults ≡ 0 }
 {
-    let report = take_turns(alloc, speaker, wire, options, out);
-    let saved = save(alloc, rt, speaker, options.save);
+    let report = take_turns(rt.alloc(), speaker, wire, options, out);
+    let saved = save(rt.alloc(), rt, speaker, options.save);
     // The counts are written also if the speaker can't be saved.
     let written = match report {
         Ok(report) => write_report(u64::from(options.turns), report, out),
@@ -112,12 +109,11 @@ fn take_turns<R: Net + Clock, W: Write>(
 ) -> Result<Report, LineFault>
     requires { wire.old.faults ≡ 0 }
 {
-    let mut buf = vec![in alloc; 0u8; MAX_DATAGRAM_LEN]?;
     if options.routes {
-        speak_with_routes(alloc, speaker, wire, &mut buf, options.turns, out)
-    } else {
-        Ok(drive(speaker, wire, &mut buf, options.turns))
+        return speak_with_routes(alloc, speaker, wire, options.turns, out);
     }
+    let mut buf = vec![in alloc; 0u8; MAX_DATAGRAM_LEN]?;
+    Ok(drive(speaker, wire, &mut buf, options.turns))
 }
 
 /// Drives the speaker turn by turn. After each one the changes of the selected routes are written, and at
@@ -126,16 +122,16 @@ fn speak_with_routes<R: Net + Clock, W: Write>(
     alloc: Global,
     speaker: &mut Speaker,
     wire: &mut UdpWire<'_, R>,
-    buf: &mut [u8],
     turns: u32,
     out: &mut W,
 ) -> Result<Report, LineFault>
     requires { wire.old.faults ≡ 0 }
 {
+    let mut buf = vec![in alloc; 0u8; MAX_DATAGRAM_LEN]?;
     let mut selections = Selections::new(alloc, RouteLines::Numbers)?;
     let mut report = Report::default();
     for _ in 0..turns {
-        let turn = drive(speaker, wire, buf, 1);
+        let turn = drive(speaker, wire, &mut buf, 1);
         report.received += turn.received;
         report.sent += turn.sent;
         report.refused += turn.refused;
