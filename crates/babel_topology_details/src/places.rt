@@ -55,6 +55,18 @@ impl Element {
         }
     }
 
+    /// The names of the nodes at its ends, if it is a link.
+    pub(crate) fn ends<'t>(&self, file: &'t Table) -> Option<(&'t str, &'t str)> {
+        if self.list != "link" {
+            return None;
+        }
+        let Some(Value::Array(items)) = file.get(self.list) else {
+            return None;
+        };
+        let link = items.get(self.number)?;
+        Some((link.get("a")?.as_str()?, link.get("b")?.as_str()?))
+    }
+
     /// Its position in the text of the file.
     pub(crate) fn position(&self, alloc: Global, octets: &[u8]) -> Option<Position> {
         match self.steps(alloc) {

@@ -73,6 +73,9 @@ fn write_fault<W: Write>(
         if let Some(text) = element.text(table) {
             write!(out, ": {}", Excerpt(text))?;
         }
+        if let Some((a, b)) = element.ends(table) {
+            write!(out, ": the link of {} and {}", Excerpt(a), Excerpt(b))?;
+        }
     }
     writeln!(out, ": {fault}; {}", advice(fault))
 }

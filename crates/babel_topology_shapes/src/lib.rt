@@ -7,4 +7,4 @@ mod parents;
 mod writing;
 
 pub use parents::{MAX_NODES, Parents, Shape};
-pub use writing::write_topology;
+pub use writing::{MAX_SEED, write_topology};

@@ -5,8 +5,12 @@ use rand_core::utils::NextWord;
 use rand_pcg::Pcg32;
 use std::io::{self, Write};
 
+/// The greatest seed: TOML has no greater number.
+pub const MAX_SEED: u64 = i64::MAX as u64;
+
 /// Writes the file of a network of this shape. Each node announces a prefix of its own. The same seed gives the
-/// same file. More than 4,096 nodes are written as they are asked for, and refused when the file is read.
+/// same file, which has the seed, or `MAX_SEED` if that is less. More than 4,096 nodes are written as they are asked for, and refused
+/// when the file is read.
 pub fn write_topology<W: Write>(
     out: &mut W,
     shape: Shape,
@@ -14,7 +18,8 @@ pub fn write_topology<W: Write>(
     seed: u64,
 ) -> io::Result<()> {
     writeln!(out, "duration = \"120 s\"")?;
-    writeln!(out, "seed = {}", seed >> 1)?;
+    let written = seed.min(MAX_SEED);
+    writeln!(out, "seed = {written}")?;
     writeln!(out, "node = [")?;
     for node in 0..nodes {
         write_node(out, node)?;

@@ -1,0 +1,26 @@
+//! Pictures of networks: SVG that needs nothing else, and DOT for Graphviz.
+//!
+//! - `pictures`: what a picture shows, as plain structs.
+//! - `shapes`: the shape of a network, if its links have one.
+//! - `places`: where the nodes are drawn; `forces` places those of a network without a shape.
+//! - `svg`: the whole SVG; `network` and `timeline` are its two parts, and `style` has its colours.
+//! - `dot`: the file for Graphviz.
+//! - `texts`: escaped and shortened texts; `numbers`: floats, which nothing but drawing needs.
+#![tactic(auto)]
+
+mod dot;
+mod forces;
+mod network;
+mod numbers;
+mod pictures;
+mod places;
+mod shapes;
+mod style;
+mod svg;
+mod texts;
+mod timeline;
+
+pub use dot::write_dot;
+pub use pictures::{DrawnLink, DrawnNode, Hop, LinkState, Mark, Picture, Row, Span, Timeline};
+pub use shapes::{Form, form_of};
+pub use svg::write_svg;

@@ -1,0 +1,98 @@
+//! Texts as a picture has them.
+
+use std::fmt::{self, Write};
+
+/// The most characters of a name that are drawn.
+pub(crate) const MAX_NAME_LEN: usize = 14;
+
+/// A text in XML: what would be read as markup is escaped, and what XML can't have is replaced.
+#[derive(Clone, Copy)]
+pub(crate) struct Escaped<'a>(pub(crate) &'a str);
+
+impl fmt::Display for Escaped<'_> {
+    fn fmt<W: fmt::Write>(&self, f: &mut fmt::Formatter<W>) -> fmt::Result {
+        for c in self.0.chars() {
+            write_escaped(c, f)?;
+        }
+        Ok(())
+    }
+}
+
+fn write_escaped<W: fmt::Write>(c: char, f: &mut fmt::Formatter<W>) -> fmt::Result {
+    match c {
+        '&' => f.write_str("&amp;"),
+        '<' => f.write_str("&lt;"),
+        '>' => f.write_str("&gt;"),
+        '"' => f.write_str("&quot;"),
+        '\t' => f.write_char(' '),
+        _ if is_unwritable(c) => f.write_char('\u{fffd}'),
+        _ => f.write_char(c),
+    }
+}
+
+/// Whether XML 1.0 can't have the character.
+fn is_unwritable(c: char) -> bool {
+    c < ' ' || ('\u{7f}'..='\u{9f}').contains(&c) || c == '\u{fffe}' || c == '\u{ffff}'
+}
+
+/// A name in XML that is cut off if it is long.
+#[derive(Clone, Copy)]
+pub(crate) struct Short<'a>(pub(crate) &'a str);
+
+impl fmt::Display for Short<'_> {
+    fn fmt<W: fmt::Write>(&self, f: &mut fmt::Formatter<W>) -> fmt::Result {
+        let is_cut = self.0.chars().count() > MAX_NAME_LEN;
+        let most = if is_cut {
+            MAX_NAME_LEN - 1
+        } else {
+            MAX_NAME_LEN
+        };
+        for c in self.0.chars().take(most) {
+            write_escaped(c, f)?;
+        }
+        if is_cut { f.write_char('…') } else { Ok(()) }
+    }
+}
+
+/// How many characters of a name are drawn.
+pub(crate) fn drawn_len(name: &str) -> usize {
+    name.chars().count().min(MAX_NAME_LEN)
+}
+
+/// A text between quotation marks of DOT.
+#[derive(Clone, Copy)]
+pub(crate) struct Quoted<'a>(pub(crate) &'a str);
+
+impl fmt::Display for Quoted<'_> {
+    fn fmt<W: fmt::Write>(&self, f: &mut fmt::Formatter<W>) -> fmt::Result {
+        f.write_char('"')?;
+        for c in self.0.chars() {
+            match c {
+                '"' => f.write_str("\\\"")?,
+                '\\' => f.write_str("\\\\")?,
+                _ if c < ' ' => f.write_char(' ')?,
+                _ => f.write_char(c)?,
+            }
+        }
+        f.write_char('"')
+    }
+}
+
+/// A time as seconds with a fraction, without zeros at its end.
+#[derive(Clone, Copy)]
+pub(crate) struct Seconds(pub(crate) u64);
+
+impl fmt::Display for Seconds {
+    fn fmt<W: fmt::Write>(&self, f: &mut fmt::Formatter<W>) -> fmt::Result {
+        let whole = self.0 / 100;
+        let tenths = self.0 / 10 % 10;
+        let hundredths = self.0 % 10;
+        if hundredths != 0 {
+            write!(f, "{whole}.{tenths}{hundredths}")
+        } else if tenths != 0 {
+            write!(f, "{whole}.{tenths}")
+        } else {
+            write!(f, "{whole}")
+        }
+    }
+}

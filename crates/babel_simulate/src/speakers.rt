@@ -1,0 +1,261 @@
+//! What the speakers do: they are ticked when they are due, they send, and they receive.
+
+use crate::agenda::{Arrival, Entry};
+use crate::building::address_of;
+use crate::errors::SimulationFault;
+use crate::links::{Condition, Way};
+use crate::options::KeptEvents;
+use crate::outcome::HopChange;
+use crate::paths::Moment;
+use crate::simulation::Simulation;
+use babel_machine::Event;
+use babel_net::Emitted;
+use babel_topology::NextHop;
+
+/// How many datagrams a speaker sends at one moment at most.
+const MAX_SENT: usize = 1 << 20;
+
+/// How late a datagram is that others overtake, at most, in centiseconds.
+const MAX_LATENESS: u64 = 100;
+
+impl Simulation {
+    /// Makes an event of the network.
+    pub(crate) fn make(&mut self, event: Event) -> Result<(), SimulationFault> {
+        self.network.step(&event)?;
+        self.note(event)
+    }
+
+    fn note(&mut self, event: Event) -> Result<(), SimulationFault> {
+        self.event_count = self.event_count.saturating_add(1);
+        if self.options.events == KeptEvents::Kept {
+            self.events.push(event)?;
+        }
+        Ok(())
+    }
+
+    /// Whether the node sends and receives.
+    pub(crate) fn is_up(&self, node: usize) -> bool {
+        match self.nodes.get(node) {
+            Some(state) => state.condition == Condition::Up,
+            None => false,
+        }
+    }
+
+    /// The node is due, unless it was due otherwise meanwhile.
+    pub(crate) fn wake(&mut self, node: usize) -> Result<(), SimulationFault> {
+        let now = self.now;
+        let Some(state) = self.nodes.get_mut(node) else {
+            return Ok(());
+        };
+        if state.wake != now {
+            return Ok(());
+        }
+        if state.condition == Condition::Down {
+            state.condition = Condition::Up;
+            self.restore_settings(node)?;
+        }
+        self.settle(node)
+    }
+
+    /// The node's timers run if it is due, and it sends what it has to send. Then it waits.
+    pub(crate) fn settle(&mut self, node: usize) -> Result<(), SimulationFault> {
+        let now = self.now;
+        let speaker = self.instances.current(node);
+        if self.due_at(speaker) <= now {
+            self.make(Event::Tick { node: speaker, now })?;
+            self.send_all(node, speaker)?;
+        }
+        self.see_hops(node, speaker)?;
+        let wake = self.due_at(speaker).max(now.saturating_add(1));
+        if let Some(state) = self.nodes.get_mut(node) {
+            if state.wake != wake {
+                state.wake = wake;
+                self.agenda.push(wake, Entry::Wake(node))?;
+            }
+        }
+        Ok(())
+    }
+
+    /// When the speaker is due.
+    fn due_at(&self, speaker: usize) -> u64 {
+        self.network.next_due(speaker).unwrap_or(u64::MAX)
+    }
+
+    /// The node sends all that it has to send.
+    fn send_all(&mut self, node: usize, speaker: usize) -> Result<(), SimulationFault> {
+        let now = self.now;
+        for _ in 0..MAX_SENT {
+            let emitted = self.network.emit(speaker, now)?;
+            self.note(Event::Emit { node: speaker, now })?;
+            match emitted {
+                Some(emitted) => self.carry(node, emitted)?,
+                None => return Ok(()),
+            }
+        }
+        Ok(())
+    }
+
+    /// The datagram goes over each link that it is for.
+    fn carry(&mut self, node: usize, emitted: Emitted) -> Result<(), SimulationFault> {
+        let octets = match self.network.sent(emitted.number) {
+            Some((_, _, octets)) => octets.len(),
+            None => 0,
+        };
+        self.sent.add(octets);
+        if let Some(state) = self.nodes.get_mut(node) {
+            state.counts.datagrams = state.counts.datagrams.saturating_add(1);
+            state.counts.octets = state.counts.octets.saturating_add(octets as u64);
+        }
+        for number in 0..self.links.way_count(node) {
+            if let Some(way) = self.links.way(node, number) {
+                if self.is_for(&emitted, &way) {
+                    self.send_over(emitted.number, way)?;
+                }
+            }
+        }
+        Ok(())
+    }
+
+    /// Whether the datagram is for the neighbour at the other end of the way.
+    fn is_for(&self, emitted: &Emitted, way: &Way) -> bool {
+        if usize::from(emitted.target.iface) != way.iface {
+            return false;
+        }
+        match emitted.target.to {
+            Some(to) => to == address_of(self.instances.current(way.far.node), way.far.iface),
+            None => true,
+        }
+    }
+
+    /// The datagram goes over a link, and is lost or not.
+    fn send_over(&mut self, datagram: usize, way: Way) -> Result<(), SimulationFault> {
+        let Some(state) = self.links.get(way.link) else {
+            return Ok(());
+        };
+        if state.condition == Condition::Down || self.chances.is_hit(state.link.loss) {
+            self.lose(way.far.node);
+            return Ok(());
+        }
+        let arrival = Arrival {
+            datagram,
+            link: way.link,
+            to: way.far,
+        };
+        let at = self.now.saturating_add(state.link.delay);
+        self.add_arrival(at, arrival)?;
+        if self.chances.is_hit(self.options.repeated) {
+            self.add_arrival(at, arrival)?;
+        }
+        Ok(())
+    }
+
+    /// The datagram arrives at the moment, or later if it is late.
+    fn add_arrival(&mut self, at: u64, arrival: Arrival) -> Result<(), SimulationFault> {
+        let mut at = at;
+        if self.chances.is_hit(self.options.late) {
+            at = at.saturating_add(self.chances.below(MAX_LATENESS).saturating_add(1));
+        }
+        self.agenda.push(at, Entry::Arrival(arrival))?;
+        Ok(())
+    }
+
+    fn lose(&mut self, node: usize) {
+        if let Some(state) = self.nodes.get_mut(node) {
+            state.counts.lost = state.counts.lost.saturating_add(1);
+        }
+    }
+
+    /// A datagram arrives, if the link and the node are up.
+    pub(crate) fn arrive(&mut self, arrival: Arrival) -> Result<(), SimulationFault> {
+        let Arrival { datagram, link, to } = arrival;
+        let is_carried = match self.links.get(link) {
+            Some(state) => state.condition == Condition::Up,
+            None => false,
+        };
+        if !is_carried || !self.is_up(to.node) {
+            self.lose(to.node);
+            return Ok(());
+        }
+        if let Some(state) = self.nodes.get_mut(to.node) {
+            state.counts.received = state.counts.received.saturating_add(1);
+        }
+        let Ok(iface) = u8::try_from(to.iface) else {
+            return Ok(());
+        };
+        let now = self.now;
+        let node = self.instances.current(to.node);
+        self.make(Event::Deliver {
+            datagram,
+            node,
+            iface,
+            now,
+        })?;
+        self.settle(to.node)
+    }
+
+    /// Looks at the next hops of the node, if they may have changed.
+    pub(crate) fn see_hops(&mut self, node: usize, speaker: usize) -> Result<(), SimulationFault> {
+        let version = self.network.routes_version(speaker);
+        let Some(state) = self.nodes.get_mut(node) else {
+            return Ok(());
+        };
+        if state.version == version && version != Some(u64::MAX) {
+            return Ok(());
+        }
+        state.version = version;
+        for index in 0..self.prefixes.len() {
+            let hop = self.hop_of(speaker, index);
+            self.see_hop(node, index, hop)?;
+        }
+        Ok(())
+    }
+
+    /// The next hop of the speaker.
+    fn hop_of(&self, speaker: usize, index: usize) -> NextHop {
+        let Some(prefix) = self.prefixes.get(index).copied() else {
+            return NextHop::Unreachable;
+        };
+        let Some(next) = self.network.next_hop(speaker, &prefix) else {
+            return NextHop::Unreachable;
+        };
+        match self.instances.node_of(next) {
+            Some(node) => NextHop::Via(node),
+            None => NextHop::Unreachable,
+        }
+    }
+
+    /// The node has this next hop now.
+    pub(crate) fn see_hop(
+        &mut self,
+        node: usize,
+        prefix: usize,
+        hop: NextHop,
+    ) -> Result<(), SimulationFault> {
+        if self.hops.get(node, prefix) == hop {
+            return Ok(());
+        }
+        self.hops.set(node, prefix, hop);
+        let kind = self.moment().kind_of(node, prefix);
+        self.measured.add_change(self.now, self.sent);
+        if let Some(state) = self.nodes.get_mut(node) {
+            state.counts.changes = state.counts.changes.saturating_add(1);
+        }
+        self.changes.push(HopChange {
+            at: self.now,
+            node,
+            prefix,
+            hop,
+            kind,
+        })?;
+        Ok(())
+    }
+
+    /// The network as it is now.
+    pub(crate) fn moment(&self) -> Moment<'_> {
+        Moment {
+            nodes: self.nodes.as_slice(),
+            links: &self.links,
+            hops: &self.hops,
+        }
+    }
+}

@@ -1,0 +1,81 @@
+//! The picture of what is known of a run.
+
+use crate::histories::rows_of;
+use crate::states::links_at;
+use babel_drawing::{DrawnNode, Hop, Mark, Picture, Row, Timeline};
+use babel_simulation_report::Shown;
+use babel_value::Prefix;
+use std::alloc::{AllocError, Global};
+
+/// What of a run is drawn.
+#[derive(Clone, Copy)]
+pub struct Scene {
+    /// The prefix.
+    pub prefix: Prefix,
+    /// The moment of the picture, in centiseconds.
+    pub at: u64,
+}
+
+/// The picture of a run. At a moment after its end it is that of the end.
+///
+/// # Errors
+///
+/// `AllocError` if an allocation fails.
+pub fn picture_of(alloc: Global, shown: &Shown<'_>, scene: Scene) -> Result<Picture, AllocError> {
+    let prefix = scene.prefix;
+    let end = shown.outcome.ended;
+    let moment = scene.at.min(end);
+    let rows = rows_of(alloc, shown, prefix)?;
+    Ok(Picture {
+        title: format!(in alloc; "Next hops to {prefix}")?,
+        nodes: nodes_at(alloc, shown, &rows, moment)?,
+        links: links_at(alloc, shown, moment)?,
+        timeline: Timeline {
+            begin: 0,
+            end,
+            moment,
+            marks: marks_of(alloc, shown)?,
+            rows,
+        },
+    })
+}
+
+fn nodes_at(
+    alloc: Global,
+    shown: &Shown<'_>,
+    rows: &[Row],
+    moment: u64,
+) -> Result<Vec<DrawnNode>, AllocError> {
+    let mut nodes = Vec::with_capacity(alloc, rows.len())?;
+    for (node, row) in shown.topology.nodes.iter().zip(rows.iter()) {
+        nodes.push(DrawnNode {
+            name: node.name.clone()?,
+            hop: hop_at(row, moment),
+        })?;
+    }
+    Ok(nodes)
+}
+
+/// What a node does at a moment.
+fn hop_at(row: &Row, moment: u64) -> Hop {
+    let mut hop = Hop::Unreachable;
+    for span in &row.spans {
+        if span.from <= moment {
+            hop = span.hop;
+        }
+    }
+    hop
+}
+
+/// The steps of the plan.
+fn marks_of(alloc: Global, shown: &Shown<'_>) -> Result<Vec<Mark>, AllocError> {
+    let mut marks = Vec::with_capacity(alloc, shown.topology.steps.len())?;
+    for step in &shown.topology.steps {
+        let action = shown.step(step.action);
+        marks.push(Mark {
+            at: step.at,
+            text: format!(in alloc; "{action}")?,
+        })?;
+    }
+    Ok(marks)
+}

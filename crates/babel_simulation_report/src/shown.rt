@@ -1,0 +1,192 @@
+//! What is shown of a run, and the texts of its parts.
+
+use babel_simulate::{Outcome, Route};
+use babel_topology::{Action, Expectation, NextHop, Topology};
+use babel_value::Prefix;
+use std::fmt;
+
+/// What is shown of a run.
+#[derive(Clone, Copy)]
+pub struct Shown<'a> {
+    /// The network.
+    pub topology: &'a Topology,
+    /// What is known of the run.
+    pub outcome: &'a Outcome,
+    /// The seed of the run.
+    pub seed: u64,
+    /// The one prefix whose next hops and ways are shown; `None`: all.
+    pub prefix: Option<Prefix>,
+}
+
+/// Whether each expectation was met, and none is missing.
+pub fn is_as_expected(shown: &Shown<'_>) -> bool {
+    shown.outcome.tested.iter().all(|tested| tested.is_met)
+        && shown.outcome.tested.len() == shown.topology.expectations.len()
+}
+
+impl<'a> Shown<'a> {
+    /// The name of a node.
+    pub(crate) fn name(&self, node: usize) -> &'a str {
+        match self.topology.nodes.get(node) {
+            Some(node) => node.name.as_str(),
+            None => "?",
+        }
+    }
+
+    /// The prefix of this index, if it is shown.
+    pub(crate) fn prefix(&self, index: usize) -> Option<Prefix> {
+        let prefix = self.outcome.prefixes.get(index).copied()?;
+        match self.prefix {
+            Some(only) if only != prefix => None,
+            _ => Some(prefix),
+        }
+    }
+
+    /// The way of the node to the prefix at the end.
+    pub(crate) fn route(&self, node: usize, prefix: usize) -> Option<Route> {
+        let index = node
+            .saturating_mul(self.outcome.prefixes.len())
+            .saturating_add(prefix);
+        self.outcome.routes.get(index).copied()
+    }
+
+    /// The ways that are not shortest at the end of the phase of this number.
+    pub(crate) fn not_shortest(&self, phase: usize) -> &'a [Route] {
+        match self.outcome.not_shortest.get(phase) {
+            Some(ways) => ways.as_slice(),
+            None => &[],
+        }
+    }
+
+    /// The name of a next hop.
+    pub(crate) fn hop(&self, hop: NextHop) -> &'a str {
+        self.via(hop).unwrap_or("none")
+    }
+
+    /// The name of the node that is the next hop, if there is one.
+    pub(crate) fn via(&self, hop: NextHop) -> Option<&'a str> {
+        match hop {
+            NextHop::Via(node) => Some(self.name(node)),
+            NextHop::Unreachable => None,
+        }
+    }
+
+    /// The names of the ends of a link.
+    fn ends(&self, link: usize) -> (&'a str, &'a str) {
+        match self.topology.links.get(link) {
+            Some(link) => (self.name(link.a.node), self.name(link.b.node)),
+            None => ("?", "?"),
+        }
+    }
+
+    /// A step, as it is written.
+    pub fn step(&self, action: Action) -> StepText<'a> {
+        let names = match action {
+            Action::Cut { link } => self.ends(link),
+            Action::Join { link } => self.ends(link),
+            Action::SetCost { link, .. } => self.ends(link),
+            Action::SetLoss { link, .. } => self.ends(link),
+            Action::Announce { node, .. } => (self.name(node), ""),
+            Action::Withdraw { node, .. } => (self.name(node), ""),
+            Action::Restart { node } => (self.name(node), ""),
+            Action::Crash { node } => (self.name(node), ""),
+        };
+        StepText { action, names }
+    }
+
+    /// An expectation, as it is written.
+    pub(crate) fn expectation(&self, expectation: Expectation) -> ExpectationText<'a> {
+        ExpectationText {
+            at: expectation.at,
+            name: self.name(expectation.node),
+            prefix: expectation.prefix,
+            via: self.via(expectation.hop),
+        }
+    }
+}
+
+/// A time in seconds, as it is written.
+#[derive(Clone, Copy, Debug)]
+pub(crate) struct Seconds(pub(crate) u64);
+
+impl fmt::Display for Seconds {
+    fn fmt<W: fmt::Write>(&self, f: &mut fmt::Formatter<W>) -> fmt::Result {
+        let whole = self.0 / 100;
+        let rest = self.0 % 100;
+        write!(f, "{whole}.{rest:02} s")
+    }
+}
+
+/// A number and what is counted: one of it, or several.
+#[derive(Clone, Copy, Debug)]
+pub(crate) struct Counted(
+    pub(crate) usize,
+    pub(crate) &'static str,
+    pub(crate) &'static str,
+);
+
+impl fmt::Display for Counted {
+    fn fmt<W: fmt::Write>(&self, f: &mut fmt::Formatter<W>) -> fmt::Result {
+        let name = if self.0 == 1 { self.1 } else { self.2 };
+        write!(f, "{} {name}", self.0)
+    }
+}
+
+/// A next hop, as it is written: the name of a node, or none.
+#[derive(Clone, Copy)]
+pub(crate) struct HopText<'a>(pub(crate) Option<&'a str>);
+
+impl fmt::Display for HopText<'_> {
+    fn fmt<W: fmt::Write>(&self, f: &mut fmt::Formatter<W>) -> fmt::Result {
+        match self.0 {
+            Some(name) => write!(f, "via {name}"),
+            None => f.write_str("none"),
+        }
+    }
+}
+
+/// A step of the plan, as it is written.
+#[derive(Clone, Copy)]
+pub struct StepText<'a> {
+    action: Action,
+    /// Of the ends of its link, or of its node.
+    names: (&'a str, &'a str),
+}
+
+impl fmt::Display for StepText<'_> {
+    fn fmt<W: fmt::Write>(&self, f: &mut fmt::Formatter<W>) -> fmt::Result {
+        let (one, other) = self.names;
+        match self.action {
+            Action::Cut { .. } => write!(f, "cut {one}-{other}"),
+            Action::Join { .. } => write!(f, "join {one}-{other}"),
+            Action::SetCost { cost, .. } => write!(f, "cost {one}-{other} {cost}"),
+            Action::SetLoss { loss, .. } => write!(f, "lossy {one}-{other} {loss} %"),
+            Action::Announce { prefix, .. } => write!(f, "announce {one} {prefix}"),
+            Action::Withdraw { prefix, .. } => write!(f, "withdraw {one} {prefix}"),
+            Action::Restart { .. } => write!(f, "restart {one}"),
+            Action::Crash { .. } => write!(f, "crash {one}"),
+        }
+    }
+}
+
+/// An expectation, as it is written.
+#[derive(Clone, Copy)]
+pub(crate) struct ExpectationText<'a> {
+    at: u64,
+    name: &'a str,
+    prefix: Prefix,
+    via: Option<&'a str>,
+}
+
+impl fmt::Display for ExpectationText<'_> {
+    fn fmt<W: fmt::Write>(&self, f: &mut fmt::Formatter<W>) -> fmt::Result {
+        let hop = HopText(self.via);
+        write!(
+            f,
+            "{} {} {} {hop}",
+            Seconds(self.at),
+            self.name,
+            self.prefix
+        )
+    }
+}
