@@ -3,7 +3,7 @@ _babel() {
     local word=${COMP_WORDS[COMP_CWORD]} last=${COMP_WORDS[COMP_CWORD-1]}
     COMPREPLY=()
     if [ "$COMP_CWORD" -eq 1 ]; then
-        COMPREPLY=($(compgen -W "show check replay explain net speak run ask -h --help -V --version" -- "$word"))
+        COMPREPLY=($(compgen -W "show check replay explain net simulate speak run ask topology -h --help -V --version" -- "$word"))
         return
     fi
     case "${COMP_WORDS[1]}" in
@@ -40,8 +40,24 @@ _babel() {
     net)
         case "$last" in
         esac
-        if [[ $word == -* ]]; then COMPREPLY=($(compgen -W "--json --details -h --help" -- "$word")); return; fi
+        if [[ $word == -* ]]; then COMPREPLY=($(compgen -W "--events --json --details -h --help" -- "$word")); return; fi
         COMPREPLY=()
+        ;;
+    simulate)
+        case "$last" in
+        --seed) compopt +o default 2>/dev/null; return ;;
+        --seconds) compopt +o default 2>/dev/null; return ;;
+        --repeated) compopt +o default 2>/dev/null; return ;;
+        --late) compopt +o default 2>/dev/null; return ;;
+        --memory) compopt +o default 2>/dev/null; return ;;
+        --prefix) compopt +o default 2>/dev/null; return ;;
+        --scenario) COMPREPLY=(); return ;;
+        --svg) COMPREPLY=(); return ;;
+        --dot) COMPREPLY=(); return ;;
+        --at) compopt +o default 2>/dev/null; return ;;
+        esac
+        if [[ $word == -* ]]; then COMPREPLY=($(compgen -W "--seed --seconds --repeated --late --memory --prefix --scenario --json --details --svg --dot --at -h --help" -- "$word")); return; fi
+        compopt +o default 2>/dev/null
         ;;
     speak)
         case "$last" in
@@ -50,8 +66,9 @@ _babel() {
         --restore) COMPREPLY=(); return ;;
         --save) COMPREPLY=(); return ;;
         --keep) COMPREPLY=(); return ;;
+        --control) COMPREPLY=(); return ;;
         esac
-        if [[ $word == -* ]]; then COMPREPLY=($(compgen -W "--turns --port --routes --restore --save --keep --new --details -h --help" -- "$word")); return; fi
+        if [[ $word == -* ]]; then COMPREPLY=($(compgen -W "--turns --port --routes --restore --save --keep --new --control --details -h --help" -- "$word")); return; fi
         COMPREPLY=()
         ;;
     run)
@@ -65,16 +82,25 @@ _babel() {
         --port) compopt +o default 2>/dev/null; return ;;
         --turns) compopt +o default 2>/dev/null; return ;;
         --keep) COMPREPLY=(); return ;;
-        --control) compopt +o default 2>/dev/null; return ;;
+        --control) COMPREPLY=(); return ;;
         esac
         if [[ $word == -* ]]; then COMPREPLY=($(compgen -W "--router-id --announce --ipv4 --cost --hello --config --port --turns --keep --new --control --routes --ip --details -h --help" -- "$word")); return; fi
         COMPREPLY=($(compgen -W "$(ls /sys/class/net)" -- "$word"))
         ;;
     ask)
         case "$last" in
-        --control) compopt +o default 2>/dev/null; return ;;
+        --control) COMPREPLY=(); return ;;
         esac
         if [[ $word == -* ]]; then COMPREPLY=($(compgen -W "--control --json --details -h --help" -- "$word")); return; fi
+        case ' neighbours routes why log counts ' in *" $last "*) ;; *) COMPREPLY=($(compgen -W "neighbours routes why log counts" -- "$word")); return ;; esac
+        compopt +o default 2>/dev/null
+        ;;
+    topology)
+        case "$last" in
+        --nodes) compopt +o default 2>/dev/null; return ;;
+        --seed) compopt +o default 2>/dev/null; return ;;
+        esac
+        if [[ $word == -* ]]; then COMPREPLY=($(compgen -W "--nodes --seed --details -h --help" -- "$word")); return; fi
         compopt +o default 2>/dev/null
         ;;
     esac

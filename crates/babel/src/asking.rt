@@ -3,14 +3,17 @@
 use crate::arguments::{details_arg, flag, option, positional};
 use crate::details::details_of;
 use crate::help;
-use babel_ask::{AnswerForm, AskFault, Question, parse_question, show_answer};
+use crate::noting::Colours;
+use babel_ask::{AnswerForm, AskFault, Question, parse_question, show_answer, show_log_line};
 use babel_commands::{Details, Status, refuse};
+use babel_control::{ControlPlace, parse_place};
+use babel_control_socket::local_address;
 use babel_line_details::Excerpt;
 use babel_text::parse_prefix;
 use clap::{Arg, ArgAction, ArgMatches, Command};
 use std::alloc::{AllocError, Global};
-use std::io::{self, IsTerminal, Read, Write};
-use std::net::Net;
+use std::io::{self, BufRead, BufReader, IsTerminal, Read, Write};
+use std::net::{Net, OpenStream, TcpStream};
 use std::os::unix::net::UnixStream;
 use std::time::Duration;
 
@@ -19,6 +22,9 @@ const DEFAULT_PATH: &str = "/run/babel/control";
 
 /// How long the speaker has for its reply, in milliseconds.
 const PATIENCE: u64 = 5000;
+
+/// How many octets of the log are read at a time.
+const LOG_LEN: usize = 65_536;
 
 /// The most octets of a reply.
 const MAX_ANSWER: u64 = 1 << 22;
@@ -40,16 +46,21 @@ enum Refused {
 pub(crate) fn run_ask<F: AllocGlobal + Net, W: Write, E: Write + IsTerminal>(
     rt: &F,
     arguments: &ArgMatches<'_>,
+    colours: Colours,
     out: &mut W,
     err: &mut E,
 ) -> Status {
     let word = arguments.get_str("question").unwrap_or("");
     let Some(question) = parse_question(word, arguments.get_str("prefix")) else {
         // If writing fails too, the status still reports it.
-        let _ = writeln!(err, "babel ask: neighbours, routes, why PREFIX or counts");
+        let _ = writeln!(
+            err,
+            "babel ask: neighbours, routes, why PREFIX, log or counts"
+        );
         return Status::Usage;
     };
-    let refused = match ask(rt, arguments, &question, out) {
+    let form = form_of(arguments, colours);
+    let refused = match ask(rt, arguments, &question, form, out) {
         Ok(()) => return Status::Done,
         Err(refused) => refused,
     };
@@ -59,6 +70,17 @@ pub(crate) fn run_ask<F: AllocGlobal + Net, W: Write, E: Write + IsTerminal>(
         let _ = explain(arguments, refused, err);
     }
     status
+}
+
+/// In which form the reply is shown.
+fn form_of(arguments: &ArgMatches<'_>, colours: Colours) -> AnswerForm {
+    if arguments.get_flag("json") {
+        return AnswerForm::Json;
+    }
+    match colours {
+        Colours::Shown => AnswerForm::Coloured,
+        Colours::Hidden => AnswerForm::Text,
+    }
 }
 
 fn code_of(refused: Refused) -> &'static str {
@@ -83,7 +105,7 @@ fn explain<E: Write>(arguments: &ArgMatches<'_>, refused: Refused, err: &mut E) 
             let path = Excerpt(arguments.get_str("control").unwrap_or(DEFAULT_PATH));
             writeln!(
                 err,
-                "--control {path}: no speaker answers there; start it by ./babel run DEVICE --control PATH"
+                "--control {path}: no speaker answers there; start it by ./babel run DEVICE --control PATH, or PORT"
             )
         }
         Refused::Output => writeln!(err, "the answer can't be written"),
@@ -95,6 +117,7 @@ fn ask<F: AllocGlobal + Net, W: Write>(
     rt: &F,
     arguments: &ArgMatches<'_>,
     question: &Question<'_>,
+    form: AnswerForm,
     out: &mut W,
 ) -> Result<(), Refused> {
     if let Question::Why(prefix) = *question {
@@ -102,13 +125,17 @@ fn ask<F: AllocGlobal + Net, W: Write>(
             return Err(Refused::Prefix);
         }
     }
-    let form = if arguments.get_flag("json") {
-        AnswerForm::Json
-    } else {
-        AnswerForm::Text
+    let text = arguments.get_str("control").unwrap_or(DEFAULT_PATH);
+    let Some(place) = parse_place(text) else {
+        return Err(Refused::Socket);
     };
-    let path = arguments.get_str("control").unwrap_or(DEFAULT_PATH);
-    let answer = answer_to(rt, path, question)?;
+    let Ok(request) = question.request(rt.alloc()) else {
+        return Err(Refused::Memory);
+    };
+    if *question == Question::Log {
+        return follow(rt, place, &request, form, out);
+    }
+    let answer = exchange(rt, place, &request)?;
     match show_answer(question, form, &answer, out) {
         Ok(()) => Ok(()),
         Err(AskFault::Output) => Err(Refused::Output),
@@ -116,31 +143,91 @@ fn ask<F: AllocGlobal + Net, W: Write>(
     }
 }
 
-fn answer_to<F: AllocGlobal + Net>(
-    rt: &F,
-    path: &str,
-    question: &Question<'_>,
-) -> Result<String, Refused> {
-    let Ok(request) = question.request(rt.alloc()) else {
-        return Err(Refused::Memory);
-    };
-    match exchange(rt, path, &request) {
-        Ok(answer) => Ok(answer),
-        Err(error) if error.kind() == io::ErrorKind::OutOfMemory => Err(Refused::Memory),
-        Err(_) => Err(Refused::Socket),
+/// W7, or L8 if memory is missing.
+impl From<io::Error> for Refused {
+    fn from(error: io::Error) -> Refused {
+        match error.kind() {
+            io::ErrorKind::OutOfMemory => Refused::Memory,
+            _ => Refused::Socket,
+        }
     }
 }
 
 /// Sends the request, and takes the reply until the speaker closes the connection.
-fn exchange<F: AllocGlobal + Net>(rt: &F, path: &str, request: &str) -> io::Result<String> {
-    let mut stream = UnixStream::connect(rt, path)?;
+fn exchange<F: AllocGlobal + Net>(
+    rt: &F,
+    place: ControlPlace<'_>,
+    request: &str,
+) -> Result<String, Refused> {
     let patience = Some(Duration::from_millis(PATIENCE));
-    stream.set_read_timeout(patience)?;
-    stream.set_write_timeout(patience)?;
-    stream.write_all(request.as_bytes())?;
     let mut answer = String::new(rt.alloc());
-    stream.take(MAX_ANSWER).read_to_string(&mut answer)?;
+    match place {
+        ControlPlace::Path(path) => {
+            let mut stream = UnixStream::connect(rt, path)?;
+            stream.set_read_timeout(patience)?;
+            stream.set_write_timeout(patience)?;
+            stream.write_all(request.as_bytes())?;
+            stream.take(MAX_ANSWER).read_to_string(&mut answer)?;
+        }
+        ControlPlace::Port(port) => {
+            let mut stream = TcpStream::connect(rt, local_address(port))?;
+            stream.set_read_timeout(patience)?;
+            stream.set_write_timeout(patience)?;
+            stream.write_all(request.as_bytes())?;
+            stream.take(MAX_ANSWER).read_to_string(&mut answer)?;
+        }
+    }
     Ok(answer)
+}
+
+/// Sends the request, and writes each line of the log as it comes, until the speaker closes the connection.
+fn follow<F: AllocGlobal + Net, W: Write>(
+    rt: &F,
+    place: ControlPlace<'_>,
+    request: &str,
+    form: AnswerForm,
+    out: &mut W,
+) -> Result<(), Refused> {
+    match place {
+        ControlPlace::Path(path) => {
+            let mut stream = UnixStream::connect(rt, path)?;
+            stream.write_all(request.as_bytes())?;
+            follow_stream(rt.alloc(), stream, form, out)
+        }
+        ControlPlace::Port(port) => {
+            let mut stream = TcpStream::connect(rt, local_address(port))?;
+            stream.write_all(request.as_bytes())?;
+            follow_stream(rt.alloc(), stream, form, out)
+        }
+    }
+}
+
+fn follow_stream<S: Read + Drop, W: Write>(
+    alloc: Global,
+    stream: S,
+    form: AnswerForm,
+    out: &mut W,
+) -> Result<(), Refused> {
+    let mut reader = BufReader::with_capacity(alloc, LOG_LEN, stream)?;
+    let mut line = String::new(alloc);
+    for number in 0..u64::MAX {
+        line.clear();
+        if reader.read_line(&mut line)? == 0 {
+            break;
+        }
+        if number == 0 && !is_greeting(&line) {
+            return Err(Refused::Socket);
+        }
+        if line.starts_with("bad") || line.starts_with("no ") {
+            return Err(Refused::Socket);
+        }
+        show_log_line(form, &line, out).map_err(|_| Refused::Output)?;
+    }
+    Ok(())
+}
+
+fn is_greeting(line: &str) -> bool {
+    line.starts_with("BABEL 1.")
 }
 
 fn prefix_arg<'a>(alloc: Global) -> Arg<'a> {
@@ -161,14 +248,14 @@ pub(crate) fn ask_command<'a>(alloc: Global) -> Result<Command<'a>, AllocError> 
             alloc,
             "question",
             "QUESTION",
-            "neighbours, routes, why or counts",
+            "neighbours, routes, why, log or counts",
         ))?
         .arg(prefix_arg(alloc))?
         .arg(option(
             alloc,
             "control",
-            "PATH",
-            "The control socket of the speaker [default: /run/babel/control]",
+            "PLACE",
+            "The control socket of the speaker: its path, or its port [default: /run/babel/control]",
         ))?
         .arg(flag(alloc, "json", "Writes a JSON object a line"))?
         .arg(details_arg(alloc))

@@ -8,16 +8,20 @@ use crate::forms::{
     report_details, short_arg, until_arg, until_of,
 };
 use crate::help;
-use crate::noting::NotingWriter;
+use crate::noting::{Colours, NotingWriter};
 use crate::opening::{open_config_and_snapshot, restore_arg};
 use crate::routing::run_router;
 use crate::routing_arguments::run_command as router_command;
+use crate::simulating::{run_simulate, simulate_command};
 use crate::speaking::{run_speak, speak_command};
+use crate::topologies::{run_topology, topology_command};
 use babel_commands::{
-    BadLines, Details, Fault, LineOptions, Log, SelectedLog, Status, report_fault, show_lines,
-    try_check, try_explain, try_net, try_replay, try_replay_selected, try_show, try_show_explained,
+    BadLines, Details, EventLines, Fault, LineOptions, Log, SelectedLog, Status, report_fault,
+    show_lines, try_check, try_explain, try_net, try_replay, try_replay_selected, try_show,
+    try_show_explained,
 };
 use babel_config::FileFault;
+use babel_control::VERSION;
 use babel_json::{FaultWriter, FormWriter, LineFilter};
 use babel_snapshot_file::LockFile;
 use babel_text::LineFault;
@@ -37,6 +41,14 @@ const DEFAULT_SOURCE: &str = "fe80::1";
 
 /// How many octets of the output are written at a time.
 const WRITE_LEN: usize = 65_536;
+
+/// The arguments of the command line, and whether the output may have colours.
+#[derive(Drop)]
+pub(crate) struct Arguments {
+    /// The program's name first.
+    pub(crate) words: Vec<String>,
+    pub(crate) colours: Colours,
+}
 
 /// Why the arguments can't be read.
 #[derive(Clone, Copy, Debug)]
@@ -77,7 +89,7 @@ pub(crate) fn report_arguments<E: Write>(error: ArgumentsError, err: &mut E) -> 
 /// Runs the command that the arguments name.
 pub(crate) fn run<F, R: Read + AsRawFd + Drop, W: Write + Drop, E: Write + IsTerminal>(
     rt: &F,
-    arguments: &[String],
+    arguments: &Arguments,
     input: R,
     out: W,
     err: &mut E,
@@ -94,7 +106,7 @@ where
 
 fn try_run<F, R: Read + AsRawFd + Drop, W: Write + Drop, E: Write + IsTerminal>(
     rt: &F,
-    arguments: &[String],
+    arguments: &Arguments,
     input: R,
     out: W,
     err: &mut E,
@@ -103,11 +115,11 @@ where
     F: AllocGlobal + Files + Net + Clock,
     F::File: LockFile,
 {
-    let out = NotingWriter::new(FormWriter::new(rt.alloc(), out));
+    let out = NotingWriter::new(FormWriter::new(rt.alloc(), out), arguments.colours);
     let mut out = BufWriter::with_capacity(rt.alloc(), WRITE_LEN, out).map_err(
         LineFault::of_writing,
     )?;
-    run_command(rt, arguments, input, &mut out, err)
+    run_command(rt, arguments.words.as_slice(), input, &mut out, err)
 }
 
 fn run_command<'a, F, R: Read + AsRawFd + Drop, W: Write + Drop, E: Write + IsTerminal>(
@@ -196,7 +208,11 @@ where
         return run_router(rt, arguments, &mut input, out, err);
     }
     if command == "ask" {
-        return run_ask(rt, arguments, out, err);
+        let colours = out.get_ref().colours();
+        return run_ask(rt, arguments, colours, out, err);
+    }
+    if command == "simulate" {
+        return run_simulate(rt, arguments, out, err);
     }
     let details = details_of(arguments, err);
     // If writing the sentence fails, the status still reports the fault.
@@ -254,6 +270,7 @@ where
         "explain" => run_explain(rt, arguments, out)?,
         "net" => run_net(rt, arguments, out)?,
         "speak" => run_speak(rt, arguments, out, err)?,
+        "topology" => run_topology(arguments, out)?,
         _ => return Ok(Status::Usage),
     }
     Ok(Status::Done)
@@ -380,13 +397,18 @@ fn run_net<F: AllocGlobal + Files, W: Write>(
 ) -> Result<(), Fault> {
     let path = arguments.get_str("scenario").unwrap_or("");
     let file = fs::open(rt, path).map_err(FileFault::from)?;
-    try_net(rt.alloc(), file, out)
+    let lines = if arguments.get_flag("events") {
+        EventLines::Shown
+    } else {
+        EventLines::Hidden
+    };
+    try_net(rt.alloc(), file, lines, out)
 }
 
 /// The commands and their arguments.
 fn command<'a>(alloc: Global) -> Result<Command<'a>, AllocError> {
     Command::new(alloc, "babel")
-        .version("0.4.0")
+        .version(VERSION)
         .about("Shows what Babel (RFC 8966) datagrams mean, and what a speaker makes of them")
         .after_help(help::PROGRAM)
         .subcommand_required(true)
@@ -396,9 +418,11 @@ fn command<'a>(alloc: Global) -> Result<Command<'a>, AllocError> {
         .subcommand(replay_command(alloc)?)?
         .subcommand(explain_command(alloc)?)?
         .subcommand(net_command(alloc)?)?
+        .subcommand(simulate_command(alloc)?)?
         .subcommand(speak_command(alloc)?)?
         .subcommand(router_command(alloc)?)?
-        .subcommand(ask_command(alloc)?)
+        .subcommand(ask_command(alloc)?)?
+        .subcommand(topology_command(alloc)?)
 }
 
 fn source_arg<'a>(alloc: Global) -> Arg<'a> {
@@ -543,6 +567,11 @@ fn net_command<'a>(alloc: Global) -> Result<Command<'a>, AllocError> {
         .about("Runs a network of speakers, and shows its next hops")
         .after_help(help::NET)
         .arg(scenario_arg(alloc))?
+        .arg(flag(
+            alloc,
+            "events",
+            "Writes for each event what it did, as the number of the datagram that was sent",
+        ))?
         .arg(json_arg(alloc))?
         .arg(details_arg(alloc))
 }

@@ -114,6 +114,13 @@ pub(crate) fn explain_fault<F: AllocGlobal + Files, E: Write>(
         Fault::Restore(fault) => explain_restore(arguments, fault, err),
         Fault::Line(number, fault) => explain_line(rt, arguments, number, fault, err),
         Fault::Output(fault) => explain_argument(arguments, fault, err),
+        Fault::Control => {
+            let place = babel_line_details::Excerpt(argument(arguments, "control"));
+            writeln!(
+                err,
+                "--control {place} can't be made a control socket: another process listens there, or the path or port can't be used"
+            )
+        }
         Fault::Socket => writeln!(
             err,
             "a socket can't be made: the address of an interface is not one of this machine, {}",

@@ -369,6 +369,12 @@ datagrams:
   end <n> events <n> datagrams
 The third form is that of a route over a router that is no node, by its address.
 Its packets go to the next hop; node <node> follows if that is a node's address.
+With --events a line for each event comes before these:
+  <event> did <word> <node>
+  <event> did emit <node> datagram <k> octets <n> iface <i> to <address>|all
+  <event> did emit <node> nothing
+  <event> did deliver <node> datagram <k> octets <n> from <node>
+If a node hears a router that is no node, iface and to are left out.
 An event that is refused is the last line: <event> refused <code>. Nodes, events
 and datagrams count from 0. Moments are in centiseconds. With --json each line
 is an object, and so is a fault on standard error (docs/JSON.md).
@@ -447,7 +453,8 @@ has a route.
 With --ip, each change is a line for ip -force -batch -, which needs the right
 to change routes. The first two lines flush the routes of a run that was killed,
 and at the end each own route is deleted. Routes have the kernel's metric 1024.
-The lines of --routes and the counts are on standard error then.
+The lines of --routes and the counts are on standard error then. Ctrl-C in a
+terminal ends ip too, unless it ignores that, as in the examples.
 
 With --config FILE there are settings by device, in TOML, all of which may be
 left out:
@@ -455,8 +462,9 @@ left out:
   [device.eth0]
   cost = 96    hello = 400    ipv4 = \"192.168.0.1/24\"
 
-With --control PATH the speaker answers on a Unix socket at PATH, as babeld does
-on its own (docs/CONTROL.md). `babel ask` asks it.
+With --control PLACE the speaker answers on a Unix socket at a path, or on a TCP
+port of ::1 if PLACE is a number, as babeld does (docs/CONTROL.md). `babel ask`
+asks it.
 
 A device that goes down and comes back, or is created again, is opened again. If
 it gets another address, the speaker starts again from its snapshot. Each change
@@ -469,7 +477,7 @@ and, if there were any, `failed keeps <n> unsent datagrams <n>`.
 Examples:
   ./babel run eth0 wlan0 --announce 10.1.0.0/16 --routes
   ./babel run eth0 --keep router.kept --new
-  ./babel run eth0 --ip | sudo ip -force -batch -
+  ./babel run eth0 --ip | sudo sh -c 'trap \"\" INT HUP; exec ip -force -batch -'
 
 Exit status:
   0  stopped in order
@@ -492,18 +500,27 @@ that can't be read, then
   L7  writing failed                L8  out of memory";
 
 /// After the help of `ask`.
-pub(crate) const ASK: &str = "The speaker has to run with --control PATH. The questions are
-  neighbours    each neighbour, its Hellos as 16 bits with the newest first, and
-                the costs of receiving, sending and the link
-  routes        each route, its metric and the one that was advertised
+pub(crate) const ASK: &str =
+    "The speaker has to run with --control PLACE, the path or the port that is asked
+here. The questions are
+  neighbours    each neighbour, its Hellos as 16 bits with the newest first, the
+                costs of receiving, sending and the link, and when its next
+                Hello is missed
+  routes        each route, its metric, the one that was advertised, and when it
+                is too old
   why PREFIX    a sentence for each route of the prefix: whether it is used, or
-                why not
+                why not; or why its Updates were ignored
+  log           what becomes of each message, as `babel replay` prints it, until
+                the speaker ends
   counts        what was counted since the speaker started
 
 Examples:
   babel ask --control babel.sock neighbours
   babel ask --control babel.sock why 10.1.0.0/16
   babel ask --control babel.sock routes --json | jq -r .prefix
+  babel ask --control 6700 log
+
+At a terminal tables have colours, unless NO_COLOR is set.
 
 Exit status:
   0  answered
@@ -512,4 +529,67 @@ Exit status:
 
 Codes:
   F3  the prefix can't be read      L7  writing failed
-  W7  no speaker answers at PATH    L8  out of memory";
+  W7  no speaker answers at PLACE   L8  out of memory";
+
+/// After the help of `topology`.
+pub(crate) const TOPOLOGY: &str = "\
+Writes a file of a topology to standard output. Node K is named nK, and announces
+a prefix of 256 addresses in 10.0.0.0/8. docs/TOPOLOGIES.md has the keys of the
+file, and the steps of a plan that can be added.
+  ring      each node is linked to the next, and the last one to the first
+  line      each node is linked to the next
+  grid      the nodes are in rows, as long as there are rows or one longer
+  star      the first node is linked to each other
+  random    each node is linked to one or two nodes before it, by the seed
+
+Example:
+  babel topology grid --nodes 64 > grid.toml
+
+Exit status:
+  0  written
+  1  refused: the code is on standard error
+  2  the command line is not one of the commands
+
+Codes:
+  L7  writing failed                L8  out of memory";
+
+/// After the help of `simulate`.
+pub(crate) const SIMULATE: &str =
+    "Runs the network of the file TOPOLOGY (docs/TOPOLOGIES.md), and writes
+  the next hops that change, with the steps of the plan between them;
+  after each change of the plan: how long it took until no next hop changed any
+    more, how many datagrams and octets were sent until then, and at the end of
+    that time how many ways are shortest ones, as a plain search finds them;
+  the ways at the end, what was sent and received at each node, and for each
+    expectation whether it was met.
+
+Each node begins within its first Hello interval, and its speaker is the one that
+`run` runs. It is ticked when it is due, and what it sends goes over each link
+that is there. The same seed gives the same run. An expectation is tested before
+the steps of its moment. A node that begins again with nothing has another
+router-id and other addresses from then on.
+
+Each datagram is recorded, since the theorem on loops is about all that were ever
+sent: with its octets it takes some 100 to 2000 octets of memory.
+
+Examples:
+  babel simulate examples/topologies/ring.toml
+  babel simulate examples/topologies/grid.toml --seed 3 --prefix 10.1.0.0/16
+  babel simulate examples/topologies/ring.toml --scenario ring-events.toml
+  babel net ring-events.toml
+
+Exit status:
+  0  the network ran, and all that was expected was there
+  1  something else was there, as the output shows, or the command was refused: the
+     code is on standard error
+  2  the command line is not one of the commands
+
+Codes:
+  T1 to T19    the file has no topology (docs/CODES.md)
+  T20          the run would take more memory than --memory
+  T21          the file of --scenario can't be written
+  T22, T23     --at is no time; the file of --svg or --dot can't be written
+  M5, M7       more than 64 speakers; a node's configuration: its number and
+               C1 to C7 follow (babel net --help)
+  F3           --prefix is no prefix
+  L7, L8       writing failed; out of memory";

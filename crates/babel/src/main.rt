@@ -13,17 +13,26 @@ mod forms;
 mod help;
 mod noting;
 mod opening;
+mod pictures;
 mod routing;
 mod routing_arguments;
+mod simulating;
 mod speaking;
+mod topologies;
 
-use command_line::{read_arguments, report_arguments, run};
+use command_line::{Arguments, read_arguments, report_arguments, run};
+use noting::colours_at;
 use std::process::ExitCode;
 
 fn main(rt: HostRuntime) -> ExitCode {
     let mut err = rt.stderr();
     let status = match read_arguments(&rt) {
-        Ok(words) => run(&rt, words.as_slice(), rt.stdin(), rt.stdout(), &mut err),
+        Ok(words) => {
+            let out = rt.stdout();
+            let colours = colours_at(&rt, &out);
+            let arguments = Arguments { words, colours };
+            run(&rt, &arguments, rt.stdin(), out, &mut err)
+        }
         Err(error) => report_arguments(error, &mut err),
     };
     ExitCode::from(status)

@@ -1,6 +1,30 @@
 //! The standard output, and why it couldn't be written.
 
-use std::io::{self, Write};
+use std::env;
+use std::io::{self, IsTerminal, Write};
+use std::rt::Env;
+
+/// Whether what people read may have colours.
+#[derive(Clone, Copy, Debug, PartialEq, Eq)]
+pub(crate) enum Colours {
+    /// It may.
+    Shown,
+    /// It may not.
+    Hidden,
+}
+
+/// Colours are shown at a terminal, unless the environment has `NO_COLOR` with a text that isn't empty.
+pub(crate) fn colours_at<R: AllocGlobal + Env, O: IsTerminal>(rt: &R, out: &O) -> Colours {
+    let is_off = match env::var(rt, "NO_COLOR") {
+        Ok(value) => !value.is_empty(),
+        Err(_) => false,
+    };
+    if out.is_terminal() && !is_off {
+        Colours::Shown
+    } else {
+        Colours::Hidden
+    }
+}
 
 /// A writer that keeps whether it took anything, and why it failed.
 #[derive(Drop)]
@@ -8,15 +32,22 @@ pub(crate) struct NotingWriter<W: Write + Drop> {
     inner: W,
     is_written: bool,
     failure: Option<io::ErrorKind>,
+    colours: Colours,
 }
 
 impl<W: Write + Drop> NotingWriter<W> {
-    pub(crate) fn new(inner: W) -> NotingWriter<W> {
+    pub(crate) fn new(inner: W, colours: Colours) -> NotingWriter<W> {
         NotingWriter {
             inner,
             is_written: false,
             failure: None,
+            colours,
         }
+    }
+
+    /// Whether what it takes may have colours.
+    pub(crate) fn colours(&self) -> Colours {
+        self.colours
     }
 
     /// The writer that it writes to.

@@ -114,8 +114,8 @@ fn with_keep<'a>(alloc: Global, command: Command<'a>) -> Result<Command<'a>, All
     command.arg(keep_arg(alloc))?.arg(new)?.arg(option(
         alloc,
         "control",
-        "PATH",
-        "A Unix socket on which the running speaker answers, as babeld's does",
+        "PLACE",
+        "A Unix socket at a path, or a port of ::1, on which the running speaker answers as babeld's does",
     ))
 }
 

@@ -5,7 +5,8 @@ use crate::help;
 use crate::opening::{keep_arg, kept, new_arg, open_config, open_config_and_snapshot, restore_arg};
 use babel_commands::Fault;
 use babel_config::{FileFault, read_config, read_file};
-use babel_snapshot_file::{Kept, LockFile};
+use babel_control::{ControlPlace, parse_place};
+use babel_snapshot_file::LockFile;
 use babel_state::Config;
 use babel_udp::{KeptOptions, SpeakFault, SpeakOptions, speak, speak_kept};
 use clap::builder::ValueParser;
@@ -32,17 +33,16 @@ pub(crate) fn run_speak<F: AllocGlobal + Files + Net + Clock, W: Write, E: Write
 where
     F::File: LockFile,
 {
-    match kept(arguments) {
-        Some(keep) => run_kept(rt, arguments, keep, out, err),
-        None => run_saved(rt, arguments, out),
+    if kept(arguments).is_some() || arguments.get_str("control").is_some() {
+        return run_kept(rt, arguments, out, err);
     }
+    run_saved(rt, arguments, out)
 }
 
-/// A speaker whose snapshot is kept all the time.
+/// A speaker whose snapshot is kept all the time, or that can be asked.
 fn run_kept<F: AllocGlobal + Files + Net + Clock, W: Write, E: Write>(
     rt: &F,
     arguments: &ArgMatches<'_>,
-    keep: Kept<'_>,
     out: &mut W,
     err: &mut E,
 ) -> Result<(), Fault>
@@ -55,9 +55,21 @@ where
         turns: arguments.get_one::<u32>("turns").unwrap_or(1),
         port: arguments.get_one::<u16>("port").unwrap_or(DEFAULT_PORT),
         routes: arguments.get_flag("routes"),
-        keep,
+        keep: kept(arguments),
+        control: control_of(arguments)?,
     };
     speak_kept(rt, config, options, out, err).map_err(fault_of)
+}
+
+/// Where the control socket is, if there is to be one.
+fn control_of<'m>(arguments: &'m ArgMatches<'_>) -> Result<Option<ControlPlace<'m>>, Fault> {
+    match arguments.get_str("control") {
+        Some(text) => match parse_place(text) {
+            Some(place) => Ok(Some(place)),
+            None => Err(Fault::Control),
+        },
+        None => Ok(None),
+    }
 }
 
 /// A speaker whose snapshot is saved at the end, if at all.
@@ -75,7 +87,7 @@ fn run_saved<F: AllocGlobal + Files + Net + Clock, W: Write>(
         routes: arguments.get_flag("routes"),
         save: arguments.get_str("save"),
     };
-    speak(alloc, rt, config, snapshot, options, out).map_err(fault_of)
+    speak(rt, config, snapshot, options, out).map_err(fault_of)
 }
 
 /// The fault of a command for that of a speaker.
@@ -86,6 +98,7 @@ fn fault_of(fault: SpeakFault) -> Fault {
         SpeakFault::SnapshotFile(fault) => Fault::SnapshotFile(fault),
         SpeakFault::Restore(fault) => Fault::Restore(fault),
         SpeakFault::Socket => Fault::Socket,
+        SpeakFault::Control => Fault::Control,
         SpeakFault::Output(fault) => Fault::Output(fault),
     }
 }
@@ -150,13 +163,26 @@ fn only_keep_arg<'a>(alloc: Global) -> Result<Arg<'a>, AllocError> {
     keep.conflicts_with("save")
 }
 
+/// The argument `--control`. A speaker that can be asked is neither restored from another file nor saved at the end.
+fn control_arg<'a>(alloc: Global) -> Result<Arg<'a>, AllocError> {
+    let control = option(
+        alloc,
+        "control",
+        "PLACE",
+        "A Unix socket at a path, or a port of ::1, on which the running speaker answers as babeld's does",
+    );
+    let control = control.conflicts_with("restore")?;
+    control.conflicts_with("save")
+}
+
 /// The arguments with which a speaker begins and ends.
 fn add_snapshot_args<'a>(alloc: Global, command: Command<'a>) -> Result<Command<'a>, AllocError> {
     command
         .arg(restore_arg(alloc))?
         .arg(save_arg(alloc))?
         .arg(only_keep_arg(alloc)?)?
-        .arg(new_arg(alloc)?)
+        .arg(new_arg(alloc)?)?
+        .arg(control_arg(alloc)?)
 }
 
 /// The arguments of the command.

@@ -18,7 +18,7 @@ mod showing;
 
 pub use checking::{check, try_check};
 pub use faults::{Fault, end, report_fault};
-pub use hops::{EventFault, net, try_net};
+pub use hops::{EventFault, EventLines, net, try_net};
 pub use reporting::{
     Absence, Log, LogUntil, SelectedLog, absence_of, explain, replay, try_explain, try_replay,
     try_replay_selected,

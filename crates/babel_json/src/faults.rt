@@ -1,5 +1,6 @@
 //! The writer through which the standard error goes.
 
+use crate::keys::key_in;
 use crate::objects::Object;
 use crate::places::{Sentence, file_len};
 use crate::words::Words;
@@ -146,6 +147,7 @@ fn put_sentence<'a>(object: &mut Object<'a>, sentence: &Sentence<'a>, line: Opti
     object.text_or_null("file", sentence.file);
     object.number_or_null("line", sentence.line.or(line));
     object.number_or_null("column", sentence.column);
+    object.text_or_null("key", key_in(sentence.message));
     if sentence.message.is_empty() {
         object.null("message");
     } else {

@@ -302,7 +302,29 @@ fn stepped<'a>(words: &mut Words<'a>) -> Option<Object<'a>> {
     if words.skip("hop") {
         return hop(words, event);
     }
+    if words.skip("did") {
+        return did(words, event);
+    }
     None
+}
+
+/// The line of what an event did.
+fn did<'a>(words: &mut Words<'a>, event: u64) -> Option<Object<'a>> {
+    let mut object = Object::new("event");
+    object.number("event", event);
+    object.text("did", words.word()?);
+    object.number("node", words.number()?);
+    let _ = words.skip("nothing");
+    object.number_or_null("datagram", number_after(words, "datagram"));
+    object.number_or_null("octets", number_after(words, "octets"));
+    object.number_or_null("from", number_after(words, "from"));
+    object.number_or_null("iface", number_after(words, "iface"));
+    if words.skip("to") && !words.skip("all") {
+        object.text("to", words.word()?);
+    } else {
+        object.null("to");
+    }
+    Some(object)
 }
 
 /// The line of an event that is refused.

@@ -2,7 +2,7 @@
 
 use arrayvec::ArrayVec;
 use babel_link::*;
-use babel_value::{Addr, Metric, Peer, Seqno};
+use babel_value::{Addr, HelloKind, Metric, Peer, Seqno};
 use std::process::Abort;
 use std::test::Fail;
 
@@ -75,7 +75,7 @@ fn a_flush_clears_both_histories(rt: HostRuntime) -> Result<(), Fail> {
         neighbours.hello(0, peer(1), false, Seqno(seqno), 400)?;
     }
     // The first unicast Hello begins a history of its own.
-    check_hello(&rt, &mut neighbours, true, 100, Heard::Kept);
+    check_hello(&rt, &mut neighbours, HelloKind::Unicast, 100, Heard::Kept);
     neighbours.ihu(0, peer(1), Metric(96), 1200);
     assert_eq!(rt; neighbours.cost(peer(1), NOMINAL), Metric(96));
     check_flush(&rt, &mut neighbours);
@@ -86,10 +86,11 @@ fn a_flush_clears_both_histories(rt: HostRuntime) -> Result<(), Fail> {
 fn check_hello(
     rt: &impl Abort,
     neighbours: &mut Neighbours,
-    unicast: bool,
+    kind: HelloKind,
     seqno: u16,
     heard: Heard,
 ) {
+    let unicast = kind == HelloKind::Unicast;
     assert_eq!(rt;
         neighbours.hello(0, peer(1), unicast, Seqno(seqno), 0),
         Ok(heard)
@@ -97,11 +98,11 @@ fn check_hello(
 }
 
 fn check_flush(rt: &impl Abort, neighbours: &mut Neighbours) {
-    check_hello(rt, neighbours, true, 118, Heard::Flush);
+    check_hello(rt, neighbours, HelloKind::Unicast, 118, Heard::Flush);
     assert_eq!(rt; neighbours.rxcost(peer(1), NOMINAL), Metric::INFINITE);
     // Its multicast history begins again too, whatever the number is.
-    check_hello(rt, neighbours, false, 1000, Heard::Kept);
-    check_hello(rt, neighbours, true, 119, Heard::Kept);
+    check_hello(rt, neighbours, HelloKind::Multicast, 1000, Heard::Kept);
+    check_hello(rt, neighbours, HelloKind::Unicast, 119, Heard::Kept);
     assert_eq!(rt; neighbours.rxcost(peer(1), NOMINAL), NOMINAL);
     assert_eq!(rt; neighbours.cost(peer(1), NOMINAL), Metric::INFINITE);
 }

@@ -15,6 +15,8 @@ mod machines;
 #[cfg(test)]
 mod mixed_memory;
 #[cfg(test)]
+mod mixed_runs;
+#[cfg(test)]
 mod network_memory;
 #[cfg(test)]
 mod replay_memory;

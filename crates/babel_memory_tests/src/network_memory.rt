@@ -60,12 +60,8 @@ fn interface(alloc: Global, number: u8) -> Interface {
     }
 }
 
-/// The router of a number, which lists 10.0.0.0/8 or nothing.
-fn config(alloc: Global, number: u8, is_origin: bool) -> Result<Config, AllocError> {
-    let mut prefixes = Vec::new(alloc);
-    if is_origin {
-        prefixes.push(ten())?;
-    }
+/// The router of a number, which lists these prefixes.
+fn config(alloc: Global, number: u8, prefixes: Vec<Prefix>) -> Result<Config, AllocError> {
     let mut interfaces = Vec::new(alloc);
     interfaces.push(interface(alloc, number))?;
     Ok(Config {
@@ -79,9 +75,11 @@ fn config(alloc: Global, number: u8, is_origin: bool) -> Result<Config, AllocErr
 
 /// The routers 1 and 2 on one link.
 pub(crate) fn configs(alloc: Global) -> Result<Vec<Config>, AllocError> {
+    let mut listed = Vec::new(alloc);
+    listed.push(ten())?;
     let mut configs = Vec::new(alloc);
-    configs.push(config(alloc, 1, true)?)?;
-    configs.push(config(alloc, 2, false)?)?;
+    configs.push(config(alloc, 1, listed)?)?;
+    configs.push(config(alloc, 2, Vec::new(alloc))?)?;
     Ok(configs)
 }
 

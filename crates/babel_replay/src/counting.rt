@@ -13,7 +13,7 @@ use babel_tlv::walk;
 const BODY_LEN_AT: usize = 2;
 
 /// How many messages a datagram of the builder has. Router-Id and Next Hop only set state for Updates.
-pub(crate) fn count_messages(datagram: &[u8]) -> usize
+pub fn count_messages(datagram: &[u8]) -> usize
     ensures { CountsMessages datagram.now result }
 {
     reasons_are_the_first_that_apply();

@@ -19,7 +19,7 @@ use crate::replaying::{Buffers, write_line};
 use crate::stepping::make_step;
 use crate::{Event, LineFault, ReplayFault, parse_line};
 use arrayvec::ArrayVec;
-use babel_choice::Entry;
+use babel_choice::{Entry, RouteKey};
 use babel_speaker::Speaker;
 use babel_speaker::laws::datagrams_take_items;
 use babel_state::Config;
@@ -220,8 +220,8 @@ fn write_route<W: Write>(
     )
 }
 
-/// What is printed of a route.
-fn route_fields(
+/// What is printed of a route: the entry of a neighbour for the prefix, over a link of this cost.
+pub fn route_fields(
     speaker: &Speaker,
     prefix: &Prefix,
     peer: Peer,
@@ -236,7 +236,11 @@ fn route_fields(
     };
     let source = speaker.source(&key);
     let metric = metric_over(&entry.distance, cost);
-    let status = route_status(speaker, prefix, &peer, &entry.distance, &source, metric);
+    let key = RouteKey {
+        prefix: *prefix,
+        peer,
+    };
+    let status = route_status(speaker, &key, &entry.distance, &source, metric);
     RouteLine {
         prefix: *prefix,
         peer,
@@ -252,15 +256,14 @@ fn route_fields(
 /// Whether a route is used, or why not, by the first reason that holds.
 fn route_status(
     speaker: &Speaker,
-    prefix: &Prefix,
-    peer: &Peer,
+    key: &RouteKey,
     advertised: &Distance,
     source: &Option<Distance>,
     metric: Metric,
 ) -> RouteStatus
-    ensures { result ≡ status_by (announces prefix.now speaker.now.state) advertised.now source.now metric (is_selected_over prefix.now peer.now speaker.now.state) }
+    ensures { result ≡ status_by (announces key.now.prefix speaker.now.state) advertised.now source.now metric (is_selected_over key.now.prefix key.now.peer speaker.now.state) }
 {
-    if speaker.announced(prefix) {
+    if speaker.announced(&key.prefix) {
         return RouteStatus::Local;
     }
     if !is_finite(advertised) {
@@ -272,7 +275,7 @@ fn route_status(
     if !metric.is_finite() {
         return RouteStatus::Unreachable;
     }
-    if is_selected(speaker, prefix, peer) {
+    if is_selected(speaker, &key.prefix, &key.peer) {
         return RouteStatus::Selected;
     }
     RouteStatus::Candidate

@@ -20,7 +20,11 @@ pub use babel_config::{
     FileFault, HeardDatagram, Scenario, ScenarioEvent, read_config, read_scenario,
 };
 pub use babel_text::{Action, Event, LineFault, MAX_LINE_LEN, parse_line};
+pub use counting::count_messages;
 pub use errors::ReplayFault;
-pub use explaining::explain;
-pub use lines::{RouteLine, RouteStatus, route_line};
+pub use explaining::{explain, route_fields};
+pub use lines::{
+    Choice, RouteLine, RouteStatus, push_tlv, route_line, set_moment, set_out, set_refused,
+    set_select,
+};
 pub use replaying::replay;

@@ -14,7 +14,7 @@ use crate::{Action, Event, LineFault};
 use babel_message::Refusal;
 use babel_speaker::{Decoded, Speaker};
 use babel_state::{Note, RecvFault, SetCostFault};
-use babel_value::Addr;
+use babel_value::Peer;
 
 /// What the speaker returned.
 #[derive(Drop)]
@@ -29,46 +29,43 @@ pub(crate) enum Outcome {
     CostRefused(SetCostFault),
 }
 
-/// Takes a datagram that is decoded already.
-fn receive_decoded(
-    speaker: &mut Speaker,
-    time: u64,
-    iface: u8,
-    source: Addr,
-    octets: &[u8],
-    decoded: &Decoded,
-) -> Result<Vec<Note>, RecvFault>
-    requires source { decoded.now.source ≡ source }
-    requires decoded { meaning octets.now source ≡ Ok decoded.now.placed }
-    ensures ok { IfOk result (λ notes. Receives time (record { iface = iface; addr = source }) (source_fault iface source speaker.old.state) (meaning octets.now source) speaker.old.state speaker.new.state notes.items) }
-    ensures refused { IfErr result (IsRecvFault (source_fault iface source speaker.old.state) (meaning octets.now source)) }
-    ensures unchanged { OnErr result (speaker.new ≡ speaker.old) }
-    ensures counted { CountsChanges speaker.old speaker.new }
-{
-    let _ = octets;
-    let _ = source;
-    speaker.receive_decoded(time, iface, decoded)
-}
-
-/// Takes a datagram. If it is decoded already, it isn't decoded again.
+/// Takes a datagram of the neighbour. If it is decoded already, it isn't decoded again.
 fn receive(
     speaker: &mut Speaker,
     time: u64,
-    iface: u8,
-    source: Addr,
+    peer: Peer,
     octets: &[u8],
     decoded: Option<&Decoded>,
 ) -> Result<Vec<Note>, RecvFault>
-    requires decoded { IfSome decoded (λ d. (d.now.source ≡ source) × (meaning octets.now source ≡ Ok d.now.placed)) }
-    ensures ok { IfOk result (λ notes. Receives time (record { iface = iface; addr = source }) (source_fault iface source speaker.old.state) (meaning octets.now source) speaker.old.state speaker.new.state notes.items) }
-    ensures refused { IfErr result (IsRecvFault (source_fault iface source speaker.old.state) (meaning octets.now source)) }
+    requires decoded { IfSome decoded (λ d. (d.now.source ≡ peer.addr) × (meaning octets.now peer.addr ≡ Ok d.now.placed)) }
+    ensures ok { IfOk result (λ notes. Receives time (record { iface = peer.iface; addr = peer.addr }) (source_fault peer.iface peer.addr speaker.old.state) (meaning octets.now peer.addr) speaker.old.state speaker.new.state notes.items) }
+    ensures refused { IfErr result (IsRecvFault (source_fault peer.iface peer.addr speaker.old.state) (meaning octets.now peer.addr)) }
     ensures unchanged { OnErr result (speaker.new ≡ speaker.old) }
     ensures counted { CountsChanges speaker.old speaker.new }
 {
     match decoded {
-        Some(decoded) => receive_decoded(speaker, time, iface, source, octets, decoded),
-        None => speaker.receive(time, iface, source, octets),
+        Some(decoded) => receive_decoded(speaker, time, peer, octets, decoded),
+        None => speaker.receive(time, peer.iface, peer.addr, octets),
     }
+}
+
+/// The same for a datagram that is decoded already: the octets are those that were decoded.
+fn receive_decoded(
+    speaker: &mut Speaker,
+    time: u64,
+    peer: Peer,
+    octets: &[u8],
+    decoded: &Decoded,
+) -> Result<Vec<Note>, RecvFault>
+    requires source { decoded.now.source ≡ peer.addr }
+    requires decoded { meaning octets.now peer.addr ≡ Ok decoded.now.placed }
+    ensures ok { IfOk result (λ notes. Receives time (record { iface = peer.iface; addr = peer.addr }) (source_fault peer.iface peer.addr speaker.old.state) (meaning octets.now peer.addr) speaker.old.state speaker.new.state notes.items) }
+    ensures refused { IfErr result (IsRecvFault (source_fault peer.iface peer.addr speaker.old.state) (meaning octets.now peer.addr)) }
+    ensures unchanged { OnErr result (speaker.new ≡ speaker.old) }
+    ensures counted { CountsChanges speaker.old speaker.new }
+{
+    let _ = octets;
+    speaker.receive_decoded(time, peer.iface, decoded)
 }
 
 /// Makes the speaker's step for the line. The only fault is memory, and then the speaker is unchanged. If the line's
@@ -94,8 +91,11 @@ pub(crate) fn make_step(
             let Ok(iface) = u8::try_from(iface) else {
                 return Ok(Outcome::Refused(RecvFault::NoInterface));
             };
-            let time = event.time;
-            match receive(speaker, time, iface, source, octets, decoded) {
+            let peer = Peer {
+                iface,
+                addr: source,
+            };
+            match receive(speaker, event.time, peer, octets, decoded) {
                 Ok(notes) => Ok(Outcome::Notes(notes)),
                 Err(RecvFault::Refused(Refusal::Memory)) => Err(LineFault::Memory),
                 Err(fault) => Ok(Outcome::Refused(fault)),

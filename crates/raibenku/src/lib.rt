@@ -4,7 +4,8 @@
 //!
 //! - `Config` and `Interface` are the configuration, `read_config` reads it from TOML;
 //! - `Speaker` is the speaker: datagrams and moments in, datagrams and selected routes out;
-//! - `drive` gives it its turns over a `Wire`, and `drive_durable` keeps its snapshot as well;
+//! - `drive` gives it its turns over a `Wire`, and `drive_durable` keeps its snapshot as well; `take_in` takes in a
+//!   datagram between turns;
 //! - `UdpWire` is a wire over UDP sockets;
 //! - `Addr`, `Prefix`, `Metric` and the others are the values that the calls take and return.
 #![tactic(auto)]
@@ -12,7 +13,7 @@
 pub use babel_choice::{Entry, Selection};
 pub use babel_config::{FileFault, read_config};
 pub use babel_durable::{
-    DurableDriver, DurableReport, DurableWire, Keeper, Observer, StoreFault, drive_durable,
+    DurableDriver, DurableReport, DurableWire, Keeper, Observer, StoreFault, drive_durable, take_in,
 };
 pub use babel_link::{History, Link, Marks, Timer};
 pub use babel_speaker::{Neighbour, Speaker};
@@ -22,8 +23,8 @@ pub use babel_state::{
 };
 pub use babel_text::{parse_network, parse_prefix, parse_router_id};
 pub use babel_tlv::DATAGRAM_LEN;
-pub use babel_udp::UdpWire;
+pub use babel_udp::{Links, SpeakCode, SpeakFault, UdpWire};
 pub use babel_value::{
     Addr, Distance, Family, Memory, Metric, Peer, Prefix, RouterId, Seqno, Source,
 };
-pub use babel_wire::{Arrival, Report, Wire, WireFault, drive};
+pub use babel_wire::{Arrival, NoReceipts, Receipts, Report, Wire, WireFault, drive};

@@ -34,6 +34,8 @@ pub enum Fault {
     Transport,
     /// W2: a socket can't be made.
     Socket,
+    /// W7: the control socket can't be made.
+    Control,
 }
 
 impl fmt::Display for Fault {
@@ -52,6 +54,7 @@ impl fmt::Display for Fault {
             Fault::Output(fault) => f.write_str(fault.code()),
             Fault::Transport => f.write_str("W1"),
             Fault::Socket => f.write_str("W2"),
+            Fault::Control => f.write_str("W7"),
         }
     }
 }

@@ -3,7 +3,7 @@
 use babel_choice::Selection;
 use babel_config::{HeardDatagram, ScenarioEvent};
 use babel_machine::{Event, StepFault};
-use babel_net::{HearFault, Heard, MixedNetwork, Network, node_of};
+use babel_net::{Emitted, HearFault, Heard, MixedNetwork, Network, node_of};
 use babel_value::{Addr, Memory, Prefix, RouterId};
 
 /// Why an event of a scenario is refused.
@@ -52,8 +52,8 @@ pub(crate) trait Runs {
     /// The event, if it is one of our nodes.
     fn ours(event: &Self::Event) -> Option<&Event>;
 
-    /// Makes the step of the event, or refuses it and changes nothing.
-    fn step(&mut self, event: &Self::Event) -> Result<(), EventFault>;
+    /// Makes the step of the event, or refuses it and changes nothing. Returns what it sent, if the network reports it.
+    fn step(&mut self, event: &Self::Event) -> Result<Option<Emitted>, EventFault>;
 
     /// Reserves the room for so many more datagrams.
     fn reserve(&mut self, datagrams: usize) -> Result<(), Memory>;
@@ -72,6 +72,9 @@ pub(crate) trait Runs {
 
     /// Whether a datagram of this number was sent.
     fn is_sent(&self, number: usize) -> bool;
+
+    /// The node that sent the datagram of this number, and how many octets it has.
+    fn sent_by(&self, number: usize) -> Option<(usize, usize)>;
 }
 
 impl Runs for Network {
@@ -85,8 +88,14 @@ impl Runs for Network {
         Some(event)
     }
 
-    fn step(&mut self, event: &Event) -> Result<(), EventFault> {
-        self.step(event).map_err(EventFault::Ours)
+    fn step(&mut self, event: &Event) -> Result<Option<Emitted>, EventFault> {
+        if let Event::Emit { node, now } = *event {
+            return self.emit(node, now).map_err(EventFault::Ours);
+        }
+        match self.step(event) {
+            Ok(()) => Ok(None),
+            Err(fault) => Err(EventFault::Ours(fault)),
+        }
     }
 
     fn reserve(&mut self, datagrams: usize) -> Result<(), Memory> {
@@ -112,6 +121,11 @@ impl Runs for Network {
     fn is_sent(&self, number: usize) -> bool {
         self.sent(number).is_some()
     }
+
+    fn sent_by(&self, number: usize) -> Option<(usize, usize)> {
+        let (node, _, octets) = self.sent(number)?;
+        Some((node, octets.len()))
+    }
 }
 
 impl Runs for MixedNetwork {
@@ -131,11 +145,12 @@ impl Runs for MixedNetwork {
         }
     }
 
-    fn step(&mut self, event: &ScenarioEvent) -> Result<(), EventFault> {
+    fn step(&mut self, event: &ScenarioEvent) -> Result<Option<Emitted>, EventFault> {
         match event {
-            ScenarioEvent::Ours(event) => self.step(event).map_err(EventFault::Ours),
-            ScenarioEvent::Heard(heard) => self.hear(&heard_of(heard)).map_err(EventFault::Heard),
+            ScenarioEvent::Ours(event) => self.step(event).map_err(EventFault::Ours)?,
+            ScenarioEvent::Heard(heard) => self.hear(&heard_of(heard)).map_err(EventFault::Heard)?,
         }
+        Ok(None)
     }
 
     fn reserve(&mut self, datagrams: usize) -> Result<(), Memory> {
@@ -168,6 +183,11 @@ impl Runs for MixedNetwork {
 
     fn is_sent(&self, number: usize) -> bool {
         self.sent(number).is_some()
+    }
+
+    fn sent_by(&self, number: usize) -> Option<(usize, usize)> {
+        let (node, _, octets) = self.sent(number)?;
+        Some((node, octets.len()))
     }
 }
 

@@ -1,6 +1,7 @@
 //! `babel net SCENARIO`.
 
 use crate::faults::{Fault, end};
+use crate::hops::doings::{Doing, EventLines, write_event};
 use crate::hops::hops::Hops;
 use crate::hops::networks::{EventFault, Runs};
 use crate::showing::Status;
@@ -20,26 +21,28 @@ pub fn net<R: Read + Drop, W: Write, E: Write>(
     out: &mut W,
     err: &mut E,
 ) -> Status {
-    end(try_net(alloc, scenario, out), err)
+    end(try_net(alloc, scenario, EventLines::Hidden, out), err)
 }
 
-/// The same, and the fault is returned.
+/// The same, and the fault is returned. If it is asked for, there is a line for each event that says what it did.
 pub fn try_net<R: Read + Drop, W: Write>(
     alloc: Global,
     scenario: R,
+    lines: EventLines,
     out: &mut W,
 ) -> Result<(), Fault> {
     let octets = read_file(alloc, scenario)?;
     let Scenario { configs, events } = read_scenario(alloc, octets.as_slice())?;
     let hops = Hops::new(alloc, configs.as_slice())?;
     match ours_alone(alloc, events.as_slice())? {
-        Some(ours) => run(Network::new(alloc, configs)?, ours.as_slice(), hops, out),
-        None => run(
-            MixedNetwork::new(alloc, configs)?,
-            events.as_slice(),
-            hops,
-            out,
-        ),
+        Some(ours) => {
+            let network = Network::new(alloc, configs)?;
+            run(network, ours.as_slice(), lines, hops, out)
+        }
+        None => {
+            let network = MixedNetwork::new(alloc, configs)?;
+            run(network, events.as_slice(), lines, hops, out)
+        }
     }
 }
 
@@ -59,12 +62,13 @@ fn ours_alone(alloc: Global, events: &[ScenarioEvent]) -> Result<Option<Vec<Even
 fn run<N: Runs + Drop, W: Write>(
     mut network: N,
     events: &[N::Event],
+    lines: EventLines,
     mut hops: Hops,
     out: &mut W,
 ) -> Result<(), Fault> {
     // Without the room each datagram takes its own, and is refused if there is none.
     let _ = network.reserve(count_emits::<N>(events));
-    let outcome = write_events(events, &mut network, &mut hops, out)?;
+    let outcome = write_events(events, lines, &mut network, &mut hops, out)?;
     out.flush().map_err(LineFault::of_writing)?;
     match outcome {
         Outcome::AllRun => Ok(()),
@@ -95,6 +99,7 @@ enum Outcome {
 /// Runs the events, up to the first that is refused.
 fn write_events<N: Runs, W: Write>(
     events: &[N::Event],
+    lines: EventLines,
     network: &mut N,
     hops: &mut Hops,
     out: &mut W,
@@ -103,12 +108,26 @@ fn write_events<N: Runs, W: Write>(
     for (number, event) in events.iter().enumerate() {
         let node = N::node_of(event);
         let version = network.routes_version(node);
-        if let Err(fault) = network.step(event) {
-            write_refused(number, fault, out)?;
-            return Ok(Outcome::Refused(number, fault));
-        }
+        let emitted = match network.step(event) {
+            Ok(emitted) => emitted,
+            Err(fault) => {
+                write_refused(number, fault, out)?;
+                return Ok(Outcome::Refused(number, fault));
+            }
+        };
+        let mut recorded = None;
         if network.is_sent(datagrams) {
+            recorded = Some(datagrams);
             datagrams = datagrams.saturating_add(1);
+        }
+        if lines == EventLines::Shown {
+            let doing = Doing {
+                number,
+                node,
+                recorded,
+                emitted,
+            };
+            write_event(doing, N::ours(event), network, out)?;
         }
         if may_differ(event, version, network) {
             hops.write_changes(number, node, network, out)?;

@@ -4,7 +4,7 @@ use crate::showing::one::read_source;
 use babel_text::{LineFault, MAX_LINE_LEN};
 use babel_value::Addr;
 use memchr::memchr;
-use std::io::{BufRead, BufReader, Read, Write};
+use std::io::{BufRead, BufReader, ErrorKind, Read, Write};
 
 /// How many octets a command reads at a time.
 pub const READ_LEN: usize = 65_536;
@@ -49,12 +49,44 @@ pub(crate) fn skip_line<R: BufRead>(input: &mut R, line: &mut Vec<u8>) -> Result
 /// anything.
 fn read_front<R: BufRead>(input: &mut R, line: &mut Vec<u8>) -> Result<bool, LineFault> {
     line.clear();
-    let most = MAX_LINE_LEN as u64 + 1;
-    let mut front = Read::take(&mut *input, most);
-    let read = front
-        .read_until(b'\n', line)
-        .map_err(LineFault::of_reading)?;
-    Ok(read > 0)
+    for _ in 0..u64::MAX {
+        if let Part::Last = read_part(input, line)? {
+            break;
+        }
+    }
+    Ok(!line.is_empty())
+}
+
+/// What was read of a line.
+#[derive(Clone, Copy, Debug)]
+enum Part {
+    /// More of it may follow.
+    More,
+    /// All of it, or so much that it is too long.
+    Last,
+}
+
+/// Appends what the input has in its buffer of the line. The end is searched by words, not octet by octet.
+///
+/// A call that the system interrupts is made again.
+fn read_part<R: BufRead>(input: &mut R, line: &mut Vec<u8>) -> Result<Part, LineFault> {
+    let buffer = match input.fill_buf() {
+        Ok(buffer) => buffer,
+        Err(error) if error.kind() == ErrorKind::Interrupted => return Ok(Part::More),
+        Err(error) => return Err(LineFault::of_reading(error)),
+    };
+    let room = (MAX_LINE_LEN + 1).saturating_sub(line.len());
+    let shown = &buffer[..buffer.len().min(room)];
+    let (len, part) = match memchr(b'\n', shown) {
+        Some(feed) => (feed + 1, Part::Last),
+        None if shown.is_empty() => (0, Part::Last),
+        None => (shown.len(), Part::More),
+    };
+    if line.extend_from_slice(&shown[..len]).is_err() {
+        return Err(LineFault::Memory);
+    }
+    input.consume(len);
+    Ok(part)
 }
 
 /// Whether the line is blank or begins with `#`.

@@ -13,11 +13,11 @@ returns-clause-ok c =
     let old = c.args.speaker.now.state in
     let new = c.receive_decoded.new.self.state in
     let P : Addr → Result (List Placed) Refusal → Type 0 = λ a read.
-    IfOk c.receive_decoded.result (λ notes. Receives c.args.time (record { iface = c.args.iface; addr = a }) (source_fault c.args.iface a old) read old new notes.items) in
-    subst (λ read. P c.args.source read) (sym c.requires.decoded) (subst (λ (a : Addr). P a (Ok c.args.decoded.now.placed)) c.requires.source c.receive_decoded.ensures.ok)
+    IfOk c.receive_decoded.result (λ notes. Receives c.args.time (record { iface = c.args.peer.iface; addr = a }) (source_fault c.args.peer.iface a old) read old new notes.items) in
+    subst (λ read. P c.args.peer.addr read) (sym c.requires.decoded) (subst (λ (a : Addr). P a (Ok c.args.decoded.now.placed)) c.requires.source c.receive_decoded.ensures.ok)
 
 pub returns-clause-refused : goal.returns-clause-refused
 returns-clause-refused c =
     let old = c.args.speaker.now.state in
-    let P : Addr → Result (List Placed) Refusal → Type 0 = λ a read. IfErr c.receive_decoded.result (IsRecvFault (source_fault c.args.iface a old) read) in
-    subst (λ read. P c.args.source read) (sym c.requires.decoded) (subst (λ (a : Addr). P a (Ok c.args.decoded.now.placed)) c.requires.source c.receive_decoded.ensures.refused)
+    let P : Addr → Result (List Placed) Refusal → Type 0 = λ a read. IfErr c.receive_decoded.result (IsRecvFault (source_fault c.args.peer.iface a old) read) in
+    subst (λ read. P c.args.peer.addr read) (sym c.requires.decoded) (subst (λ (a : Addr). P a (Ok c.args.decoded.now.placed)) c.requires.source c.receive_decoded.ensures.refused)
