@@ -1,9 +1,12 @@
 """The completions of bash, zsh and fish, made from the help of the commands."""
+import re
 
 HEAD = "Made by tools/man-page from the help of the commands. Change that, not this file."
 # The values that are names of files, and that is the name of a network device.
-FILES = ("CONFIG", "LOG", "SCENARIO", "FILE")
+FILES = ("CONFIG", "LOG", "SCENARIO", "FILE", "PLACE")
 DEVICE = "DEVICE"
+# The argument whose help lists its words, as `a, b or c`.
+LISTED = "QUESTION"
 
 
 def kind_of(value):
@@ -11,7 +14,12 @@ def kind_of(value):
     name = value.removesuffix("...")
     if name in FILES:
         return "files"
-    return {DEVICE: "device", "WORD": "words"}.get(name, "other")
+    return {DEVICE: "device", "WORD": "words", LISTED: "listed"}.get(name, "other")
+
+
+def listed_words(item):
+    """The words that the help of an argument lists."""
+    return re.findall(r"\w+", re.sub(r" or ", ", ", item.help))
 
 
 def bash_values(kind, words):
@@ -45,6 +53,10 @@ def bash(top, commands, words):
         lines += ["        esac", f'        if [[ $word == -* ]]; then COMPREPLY=($(compgen -W "{names}" -- "$word")); return; fi']
         kinds = {kind_of(item.value) for item in command.arguments}
         kind = "files" if "files" in kinds else "device" if "device" in kinds else "other"
+        for item in command.arguments:
+            if kind_of(item.value) == "listed":
+                listed = " ".join(listed_words(item))
+                lines.append(f"        case ' {listed} ' in *\" $last \"*) ;; *) {bash_values('words', listed_words(item))}; return ;; esac")
         lines += [f"        {bash_values(kind, words)}", "        ;;"]
     return "\n".join([*lines, "    esac", "}", "complete -o default -F _babel babel"]) + "\n"
 
@@ -77,7 +89,8 @@ def zsh(top, commands, words):
                 parts.append(f"'{name}[{zsh_text(option.help)}]{tail}'")
         for number, item in enumerate(command.arguments, 1):
             place = "*" if item.is_repeated else str(number)
-            parts.append(f"'{place}:{item.value.removesuffix('...')}{zsh_values(item.value, words)}'")
+            values = f":({' '.join(listed_words(item))})" if kind_of(item.value) == "listed" else zsh_values(item.value, words)
+            parts.append(f"'{place}:{item.value.removesuffix('...')}{values}'")
         lines += ["            _arguments \\", *(f"                {part} \\" for part in parts[:-1]), f"                {parts[-1]}", "            ;;"]
     return "\n".join([*lines, "        esac", "        ;;", "    esac", "}", '_babel "$@"']) + "\n"
 
@@ -103,6 +116,10 @@ def fish(top, commands, words):
             lines.append(f"complete -c babel {seen} -F")
         elif "device" in kinds:
             lines.append(f"complete -c babel {seen} -a '(ls /sys/class/net)'")
+        for item in command.arguments:
+            if kind_of(item.value) == "listed":
+                listed = " ".join(listed_words(item))
+                lines.append(f"complete -c babel -n '__fish_seen_subcommand_from {command.name}; and not __fish_seen_subcommand_from {listed}' -a '{listed}'")
     return "\n".join(lines) + "\n"
 
 

@@ -42,7 +42,8 @@ pub fn check(datagrams: &[Datagram]) -> Result<Counts, String> {
             let number = place + 1;
             return Err(format!("datagram {number}: proved\n{proved}plain\n{plain}"));
         }
-        if proved::decode(datagram) != plain_calls::decode(datagram) {
+        let last = proved::decode(datagram);
+        if last != plain_calls::decode(datagram) || last != proved::decode_kept(datagram, 2) {
             return Err(format!("datagram {}: not the same last place", place + 1));
         }
         counts.add(&proved);

@@ -10,6 +10,13 @@ extern "C" {
         source: *const u8,
         source_len: usize,
     ) -> usize;
+    fn babel_bench_decode_kept(
+        bytes: *const u8,
+        bytes_len: usize,
+        source: *const u8,
+        source_len: usize,
+        turns: usize,
+    ) -> usize;
     fn babel_bench_text(
         bytes: *const u8,
         bytes_len: usize,
@@ -42,6 +49,21 @@ pub fn decode(datagram: &Datagram) -> usize {
     let (bytes, source) = (&datagram.bytes, &datagram.source_octets);
     // SAFETY: the pointers and lengths are those of two slices.
     unsafe { babel_bench_decode(bytes.as_ptr(), bytes.len(), source.as_ptr(), source.len()) }
+}
+
+/// Decodes the datagram this many times into one list that is kept, and returns the offset of the last TLV.
+pub fn decode_kept(datagram: &Datagram, turns: usize) -> usize {
+    let (bytes, source) = (&datagram.bytes, &datagram.source_octets);
+    // SAFETY: the pointers and lengths are those of two slices.
+    unsafe {
+        babel_bench_decode_kept(
+            bytes.as_ptr(),
+            bytes.len(),
+            source.as_ptr(),
+            source.len(),
+            turns,
+        )
+    }
 }
 
 /// What the datagram means, a line for each TLV, or the refusal.

@@ -86,7 +86,21 @@ fn timeout() -> Vec<u8> {
     steps
 }
 
+/// Two datagrams of 60 updates, each with other metrics than the one before.
+fn other_metrics() -> Vec<u8> {
+    let mut steps = Vec::new();
+    for metric in [97, 96] {
+        let messages: Vec<Message> = (60..120).map(|n| update_with(n, 2, metric)).collect();
+        steps.extend(datagram(1, 0, NOW, &messages));
+    }
+    steps
+}
+
 fn update(n: usize, router: u8) -> Message {
+    update_with(n, router, 96)
+}
+
+fn update_with(n: usize, router: u8, metric: u16) -> Message {
     Message::Update {
         prefix: Prefix {
             addr: IpAddr::from([172, 16, n as u8, 0]),
@@ -95,7 +109,7 @@ fn update(n: usize, router: u8) -> Message {
         router: RouterId::new([0, 0, 0, 0, 0, 1, 0, router]).expect("not reserved"),
         next_hop: IpAddr::V4(neighbour((n / 60) as u8, 0)),
         seqno: Seqno(7),
-        metric: Metric(96),
+        metric: Metric(metric),
         interval: 60_000,
     }
 }
@@ -211,6 +225,12 @@ pub fn all() -> Vec<Case> {
             setup: setup(),
             turn: updates(1, 2, NOW),
             times: 1,
+        },
+        Case {
+            name: "60 updates with other metrics",
+            setup: setup(),
+            turn: other_metrics(),
+            times: 2,
         },
         Case {
             name: "16 dump requests: 4,096 items",

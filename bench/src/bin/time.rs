@@ -1,7 +1,8 @@
 //! Times of the proved decoder compared with a plain one.
 //!
 //! `time rounds CORPUS ROUNDS` checks that both read the same and prints times; `time turns CORPUS CLASS
-//! proved|plain|none N` decodes the datagrams of a class N times, for callgrind to count.
+//! proved|kept|plain|none N` decodes the datagrams of a class N times, for callgrind to count: `kept` with the proved
+//! decoder into a list that is kept.
 
 use babel_bench::corpus::Datagram;
 use babel_bench::{agreement, corpus, plain_calls, proved, timing};
@@ -15,7 +16,7 @@ const CLASSES: [(&str, usize, usize); 3] = [
 ];
 
 const USAGE: &str = "usage: time rounds CORPUS ROUNDS
-       time turns CORPUS all|small|large proved|plain|none N";
+       time turns CORPUS all|small|large proved|kept|plain|none N";
 
 fn main() -> ExitCode {
     let words: Vec<String> = std::env::args().skip(1).collect();
@@ -87,6 +88,12 @@ fn take_turns(path: &str, class: &str, decoder: &str, turns: &str) -> Result<(),
     let turns: usize = turns.parse().map_err(|_| USAGE)?;
     let datagrams = corpus::read(path)?;
     let class = class_of(&datagrams, class)?;
+    if decoder == "kept" {
+        for datagram in &class {
+            std::hint::black_box(proved::decode_kept(std::hint::black_box(datagram), turns));
+        }
+        return Ok(());
+    }
     let decode = match decoder {
         "proved" => proved::decode,
         "plain" => plain_calls::decode,
