@@ -378,17 +378,20 @@ impl Replayer {
         ensures speaker { self.new.speaker.state ≡ self.old.speaker.state }
         ensures failed { IfErr result (λ fault. fault ≡ LineFault.Write) }
     {
+        // The prefixes were mostly seen in the order of the table of selections.
+        let mut near = 0;
         for index in 0..self.seen.len() {
-            self.write_selection(index, time, out)?;
+            self.write_selection(index, time, &mut near, out)?;
         }
         Ok(())
     }
 
-    /// The same for the seen prefix at the index.
+    /// The same for the seen prefix at the index, which is searched for near an index of the selections.
     fn write_selection<W: Write>(
         &mut self,
         index: usize,
         time: u64,
+        near: &mut usize,
         out: &mut W,
     ) -> Result<(), LineFault>
         ensures written { OnOk result (Appends (W.contents out.old) (W.contents out.new) (option_map_or (select_line time self.old.speaker.state) (slice_get self.old.seen.entries index) [])) }
@@ -400,7 +403,7 @@ impl Replayer {
             return Ok(());
         };
         let (prefix, last) = seen;
-        let choice = self.choice(&prefix);
+        let choice = self.choice(&prefix, near);
         if is_same(&choice, &last) {
             return Ok(());
         }
@@ -409,11 +412,12 @@ impl Replayer {
         write_line(out, &self.drafts.line)
     }
 
-    /// What is printed of the prefix's selected route.
-    fn choice(&self, prefix: &Prefix) -> Option<Choice>
+    /// What is printed of the prefix's selected route, which is searched for near an index of the selections.
+    #[inline]
+    fn choice(&self, prefix: &Prefix, near: &mut usize) -> Option<Choice>
         ensures { result ≡ choice_at self.now.speaker.state prefix.now }
     {
-        self.speaker.selected(prefix).map(choice_of)
+        self.speaker.selected_near(prefix, near).map(choice_of)
     }
 
     /// Writes a `table` line for each seen prefix, and flushes.
@@ -421,8 +425,9 @@ impl Replayer {
         ensures written { OnOk result (Appends (W.contents out.old) (W.contents out.new) (table_lines self.now.speaker.state self.now.seen.entries)) }
         ensures failed { IfErr result (λ fault. fault ≡ LineFault.Write) }
     {
+        let mut near = 0;
         for index in 0..self.seen.len() {
-            self.write_table_line(index, out)?;
+            self.write_table_line(index, &mut near, out)?;
         }
         match out.flush() {
             Ok(()) => Ok(()),
@@ -430,15 +435,20 @@ impl Replayer {
         }
     }
 
-    /// The line of the seen prefix at the index.
-    fn write_table_line<W: Write>(&self, index: usize, out: &mut W) -> Result<(), LineFault>
+    /// The line of the seen prefix at the index, which is searched for near an index of the selections.
+    fn write_table_line<W: Write>(
+        &self,
+        index: usize,
+        near: &mut usize,
+        out: &mut W,
+    ) -> Result<(), LineFault>
         ensures written { OnOk result (Appends (W.contents out.old) (W.contents out.new) (option_map_or (table_line self.now.speaker.state) (slice_get self.now.seen.entries index) [])) }
         ensures failed { IfErr result (λ fault. fault ≡ LineFault.Write) }
     {
         let Some((prefix, _)) = self.seen.get(index) else {
             return Ok(());
         };
-        let choice = self.choice(&prefix);
+        let choice = self.choice(&prefix, near);
         write_line(out, &table_line(&prefix, &choice))
     }
 }

@@ -72,12 +72,23 @@ pub fn withdraw(core: &mut Core, prefix: &Prefix) -> Result<(), NotAnnounced>
 
 /// The selected route of the prefix, with its metric by the present cost of the link (RFC 8966,
 /// section 3.6).
-#[tactic(auto, unfolding(babel_state::specs::Calls::selected_route))]
 pub fn selected_route(core: &Core, prefix: &Prefix) -> Option<Selected>
     ensures { result ≡ selected_route prefix.now core.now }
 {
-    match core.selected(prefix) {
+    let mut nowhere = usize::MAX;
+    selected_route_near(core, prefix, &mut nowhere)
+}
+
+/// The same. The search begins at the index `near` of the selections, which becomes the one after the prefix, or that
+/// at which the prefix would be.
+#[inline]
+#[tactic(auto, unfolding(babel_state::specs::Calls::selected_route))]
+pub fn selected_route_near(core: &Core, prefix: &Prefix, near: &mut usize) -> Option<Selected>
+    ensures { result ≡ selected_route prefix.now core.now }
+{
+    match core.selected_near(prefix, near) {
         Some(Selection { peer, entry }) => {
+            *near = near.wrapping_add(1);
             let Entry {
                 next_hop,
                 router,

@@ -3,7 +3,7 @@
 ghost use Rattle.std.specs.Prelude.{◌≡◌};
 
 use crate::tables::{Announced, Interfaces, PendingItems, RequestTable};
-use babel_choice::{Entry, Selection};
+use babel_choice::{Cursor, Entry, Selection};
 use babel_link::Neighbours;
 use babel_route::Routes;
 use babel_sources::Sources;
@@ -135,6 +135,19 @@ impl Core {
             Some((peer, entry)) => Some(Selection { peer, entry }),
             None => None,
         }
+    }
+
+    /// The same. The search begins at the index `near` of the selections, which becomes that of the prefix, or that at
+    /// which the prefix would be.
+    #[inline]
+    pub fn selected_near(&self, prefix: &Prefix, near: &mut usize) -> Option<Selection>
+        ensures { result ≡ selected_at prefix.now self.now }
+    {
+        let mut cursor = Cursor::new();
+        cursor.selection = *near;
+        let selection = self.routes.selected_near(prefix, &mut cursor);
+        *near = cursor.selection;
+        selection
     }
 
     /// The selection whose prefix has exactly `place` lesser ones among the selections' prefixes.
