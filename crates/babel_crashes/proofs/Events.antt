@@ -19,15 +19,15 @@ use Rattle.babel_state.specs.Restarts.{restarted, snapshot_of}
 use Rattle.babel_state.specs.State.{State, interface_at}
 use Rattle.babel_state.specs.StepLaws.{MessagesKeepSettings, TicksKeepSettings, SendingKeepsSettings}
 use Rattle.babel_state.specs.Ticks.{ticked}
-use Rattle.babel_speaker.specs.Sending.{fits_by, MeansFrom, IsBuiltFrom}
+use Rattle.babel_speaker.specs.Sending.{fits_by, MeansFrom, IsBuiltFrom, draft_at}
 use Rattle.babel_wire.specs.Calls.{Sending}
-use Rattle.babel_wire.specs.Turns.{draft_at, IsDraftSent}
+use Rattle.babel_wire.specs.Turns.{IsDraftSent}
 use Rattle.babel_machine.specs.declared.events.Event.{Event}
 use Rattle.babel_machine.specs.declared.events.Event.TheVariants as events
 use Rattle.babel_net.specs.EventRefusals.{node_of, event_fault, fault_at, step_fault}
 use Rattle.babel_net.specs.Networks.{NetworkState, SentOctets, with_speaker_state, with_octets}
 use Rattle.babel_net.specs.Promises.{MakeAll, last_network, RanBy}
-use Rattle.babel_net.specs.Steps.{Makes, IsSent, Received, next_of}
+use Rattle.babel_net.specs.Steps.{Makes, IsSent, Received}
 use Rattle.babel_crashes.specs.NodeSteps.{IsAt, IsRecorded, LeadsTo}
 use Rattle.babel_crashes.proofs.Transports.{SameTransports, kept_transports, places_keep, restored_transports}
 
@@ -171,7 +171,7 @@ emit_leads laws n node now config s x is sent = by (transport_at x.target.iface 
               speaker = s;
               is = is.speaker;
               sent = Some d;
-              is_sent = subst (λ (o : Option Target). IsSent node s (next_of now s) o (Some d)) (sym sent.target) (record { sender = refl; is_own = own; means = means; built = subst (λ (o : Option Addr). IsBuiltFrom o x.octets (draft_at now s).messages) own sent.built });
+              is_sent = subst (λ (o : Option Target). IsSent node s (draft_at now s) o (Some d)) (sym sent.target) (record { sender = refl; is_own = own; means = means; built = subst (λ (o : Option Addr). IsBuiltFrom o x.octets (draft_at now s).messages) own sent.built });
               next = refl;
             }) (no_fault (events.Emit node now) n s config is.speaker is.configured refl);
             is_at = at_after n node config s (draft_at now s).state m is (kept_transports s (draft_at now s).state (laws.sending now (fits_by s) s)) refl refl;
@@ -201,7 +201,7 @@ silent_leads laws n node now config s is none =
       speaker = s;
       is = is.speaker;
       sent = None;
-      is_sent = subst (λ (o : Option Target). IsSent node s (next_of now s) o None) (sym none) tt;
+      is_sent = subst (λ (o : Option Target). IsSent node s (draft_at now s) o None) (sym none) tt;
       next = refl;
     }) (no_fault (events.Emit node now) n s config is.speaker is.configured refl)
 

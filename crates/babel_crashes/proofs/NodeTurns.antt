@@ -9,7 +9,8 @@ use Rattle.babel_state.specs.Restarts.{restarted}
 use Rattle.babel_state.specs.State.{State}
 use Rattle.babel_state.specs.Ticks.{ticked}
 use Rattle.babel_wire.specs.Calls.{Receipt, Nothing, Failed, Datagram, Sending}
-use Rattle.babel_wire.specs.Turns.{Turn, IsTurn, Receives, draft_at, AreSent, Ends, SendsPending}
+use Rattle.babel_speaker.specs.Sending.{draft_at}
+use Rattle.babel_wire.specs.Turns.{Turn, IsTurn, Receives, AreSent, Ends, SendsPending}
 use Rattle.babel_durable.specs.Lives.{Drive, Restart, taken, turns_in}
 use Rattle.babel_net.specs.Networks.{NetworkState, SentOctets, with_speaker_state}
 use Rattle.babel_crashes.specs.NodeSteps.{IsFrom, AreFrom, IsAt, IsRecorded, LeadsTo, AreEvents}

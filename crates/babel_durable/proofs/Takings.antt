@@ -6,11 +6,11 @@ use Rattle.std.proofs.lemmas.List.Sums.{sum_by_push}
 use Rattle.babel_state.specs.declared.items.Target.{Target}
 use Rattle.babel_state.specs.Addresses.{transport_at}
 use Rattle.babel_state.specs.State.{State}
-use Rattle.babel_speaker.specs.Sending.{IsBuiltFrom, MeansFrom}
+use Rattle.babel_speaker.specs.Sending.{IsBuiltFrom, MeansFrom, draft_at}
 use Rattle.babel_wire.specs.declared.errors.WireFault.{WireFault}
 use Rattle.babel_wire.specs.declared.report.Report.{Report}
 use Rattle.babel_wire.specs.Calls.{Call, Send, Sending, Grows, call_of_send, sending_of}
-use Rattle.babel_wire.specs.Turns.{draft_at, AreSent, SendsPending, Ends, sent_by, lost_by}
+use Rattle.babel_wire.specs.Turns.{AreSent, SendsPending, Ends, sent_by, lost_by}
 use Rattle.babel_wire.proofs.Sendings.{sent_more, grows_not, grows_more, counted}
 use Rattle.babel_durable.specs.declared.outbox.Datagram.{Datagram}
 use Rattle.babel_durable.specs.Taken.{Taken, taken_of, waiting, datagram_of}

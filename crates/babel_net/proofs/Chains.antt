@@ -13,7 +13,8 @@ use Rattle.babel_machine.specs.NetworkLaws.{SoundRunsTogether, RunTogetherThroug
 use Rattle.babel_machine.specs.Views.{IsSource, IsCounted}
 use Rattle.babel_machine.specs.Worlds.{World}
 use Rattle.babel_net.specs.Networks.{NetworkState, SentOctets, with_speaker_state, world_of}
-use Rattle.babel_net.specs.Steps.{MakesCall, MakesEmit, Makes, next_of, recorded}
+use Rattle.babel_speaker.specs.Sending.{draft_at}
+use Rattle.babel_net.specs.Steps.{MakesCall, MakesEmit, Makes, recorded}
 use Rattle.babel_net.specs.EventRefusals.{node_of, step_fault, IsStepFault}
 use Rattle.babel_net.specs.Invariants.{IsNetwork}
 use Rattle.babel_net.specs.Laws.{EventsHappen, EventsKeepNetworks}
@@ -26,7 +27,7 @@ call_configs : (event : Event) (old new : NetworkState) → MakesCall (node_of e
 call_configs event old new made = ap (λ (n : NetworkState). n.configs) made.next
 
 emit_configs : (node now : ℕ) (old new : NetworkState) → MakesEmit node now old new → new.configs ≡ old.configs
-emit_configs node now old new made = by made.sent (with_speaker_state old node (next_of now made.speaker).state) refl made.next
+emit_configs node now old new made = by made.sent (with_speaker_state old node (draft_at now made.speaker).state) refl made.next
   where
     by : (sent : Option SentOctets) (mid : NetworkState) → mid.configs ≡ old.configs → new ≡ recorded mid sent → new.configs ≡ old.configs
     by None mid same next = ap (λ (n : NetworkState). n.configs) next ∙ same

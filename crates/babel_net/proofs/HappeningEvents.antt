@@ -28,7 +28,7 @@ use Rattle.babel_state.specs.Sameness.{has_prefix}
 use Rattle.babel_state.specs.Seen.{Seen, UpdateValue, seen, updates_among, IsSelecting, Moves, Sends, announcing_also, announcing_without}
 use Rattle.babel_state.specs.SeenLaws.{AreEncodable, PlacesMove, MovesAlone, TicksMove, CostsMove, AnnouncingMoves, WithdrawingMoves, RaisingMoves, DatagramsSend, NoDatagramChangesNothing}
 use Rattle.babel_state.specs.State.{State, announces}
-use Rattle.babel_speaker.specs.Sending.{fits_by}
+use Rattle.babel_speaker.specs.Sending.{fits_by, draft_at}
 use Rattle.babel_machine.specs.declared.events.Event.{Event}
 use Rattle.babel_machine.specs.declared.events.Event.TheVariants as events
 use Rattle.babel_machine.specs.declared.errors.StepFault.{StepFault}
@@ -37,7 +37,7 @@ use Rattle.babel_machine.specs.Happenings.{StepsAlone, Receives, Emits, Restarts
 use Rattle.babel_machine.specs.Owners.{Lists}
 use Rattle.babel_machine.specs.Worlds.{World, SentDatagram, speaker_at, with_speaker, with_datagram}
 use Rattle.babel_net.specs.Networks.{NetworkState, SentOctets, with_speaker_state, with_octets, updates_read, datagram_seen, world_of}
-use Rattle.babel_net.specs.Steps.{MakesEmit, MakesDeliver, MakesRestart, IsSent, IsSentBy, Received, recorded, next_of}
+use Rattle.babel_net.specs.Steps.{MakesEmit, MakesDeliver, MakesRestart, IsSent, IsSentBy, Received, recorded}
 use Rattle.babel_net.specs.EventRefusals.{node_of, event_fault, fault_at, step_fault, cost_fault}
 use Rattle.babel_net.specs.Invariants.{IsRunning, IsReadable}
 use Rattle.babel_net.specs.Laws.{EventsHappen}
@@ -179,33 +179,33 @@ transport_seen : (s : State) (iface : ℕ) (source : Addr) → transport_at ifac
 unfolding seen
 transport_seen s iface source is = is
 
-datagram_sent : SpeakerLaws → (node now : ℕ) (old new : NetworkState) (s : State) (target : Target) (d : SentOctets) → IsRunning old → slice_get old.speakers node ≡ Some s → (next_of now s).target ≡ Some target → IsSentBy node s (next_of now s) target d → new ≡ with_octets (with_speaker_state old node (next_of now s).state) d → Emits node (world_of old) (world_of new)
+datagram_sent : SpeakerLaws → (node now : ℕ) (old new : NetworkState) (s : State) (target : Target) (d : SentOctets) → IsRunning old → slice_get old.speakers node ≡ Some s → (draft_at now s).target ≡ Some target → IsSentBy node s (draft_at now s) target d → new ≡ with_octets (with_speaker_state old node (draft_at now s).state) d → Emits node (world_of old) (world_of new)
 datagram_sent laws node now old new s target d net is goes by_it next = record {
   inside = node_inside old node s is;
   iface = target.iface;
   source = d.source;
   is_own = subst (λ (x : Seen). x.transport_at target.iface ≡ Some d.source) (sym (speaker_seen old node s is)) (transport_seen s target.iface d.source by_it.is_own);
-  updates = updates_among (next_of now s).messages;
-  speaker = seen (next_of now s).state;
-  sends = subst (λ (x : Seen). Sends target.iface (updates_among (next_of now s).messages) x (seen (next_of now s).state)) (sym (speaker_seen old node s is)) (laws.sent now (fits_by s) s target (well_at old node s net is) goes);
-  next = ap world_of next ∙ world_with_octets (with_speaker_state old node (next_of now s).state) d
-      ∙ ap (λ (w : World). with_datagram w (datagram_seen d)) (world_with_speaker old node (next_of now s).state)
-      ∙ ap (with_datagram (with_speaker (world_of old) node (seen (next_of now s).state))) as_sent;
+  updates = updates_among (draft_at now s).messages;
+  speaker = seen (draft_at now s).state;
+  sends = subst (λ (x : Seen). Sends target.iface (updates_among (draft_at now s).messages) x (seen (draft_at now s).state)) (sym (speaker_seen old node s is)) (laws.sent now (fits_by s) s target (well_at old node s net is) goes);
+  next = ap world_of next ∙ world_with_octets (with_speaker_state old node (draft_at now s).state) d
+      ∙ ap (λ (w : World). with_datagram w (datagram_seen d)) (world_with_speaker old node (draft_at now s).state)
+      ∙ ap (with_datagram (with_speaker (world_of old) node (seen (draft_at now s).state))) as_sent;
 }
   where
-    as_sent : datagram_seen d ≡ record { node = node; source = d.source; updates = updates_among (next_of now s).messages }
+    as_sent : datagram_seen d ≡ record { node = node; source = d.source; updates = updates_among (draft_at now s).messages }
     as_sent =
         ap (λ (m : ℕ). let x : SentDatagram = record { node = m; source = d.source; updates = (datagram_seen d).updates } in x) by_it.sender
-        ∙ ap (λ (us : List UpdateValue). let x : SentDatagram = record { node = node; source = d.source; updates = us } in x) (updates_meant d (next_of now s) by_it.means)
+        ∙ ap (λ (us : List UpdateValue). let x : SentDatagram = record { node = node; source = d.source; updates = us } in x) (updates_meant d (draft_at now s) by_it.means)
 
 emitted : SpeakerLaws → (node now : ℕ) (old new : NetworkState) → IsRunning old → MakesEmit node now old new → Emits node (world_of old) (world_of new) ⊎ StepsAlone node 0 (speaker_at (world_of old) node).announces (world_of old) (world_of new)
-emitted laws node now old new net made = by (next_of now made.speaker).target refl made.sent made.is_sent made.next
+emitted laws node now old new net made = by (draft_at now made.speaker).target refl made.sent made.is_sent made.next
   where
     s : State
     s = made.speaker
 
-    by : (target : Option Target) → (next_of now made.speaker).target ≡ target → (sent : Option SentOctets) → IsSent node made.speaker (next_of now made.speaker) target sent → new ≡ recorded (with_speaker_state old node (next_of now made.speaker).state) sent → Emits node (world_of old) (world_of new) ⊎ StepsAlone node 0 (speaker_at (world_of old) node).announces (world_of old) (world_of new)
-    by None goes None is_sent next = inr (nothing_sent node old new made.speaker (next_of now made.speaker).state net made.is (laws.none now (fits_by made.speaker) made.speaker goes) next)
+    by : (target : Option Target) → (draft_at now made.speaker).target ≡ target → (sent : Option SentOctets) → IsSent node made.speaker (draft_at now made.speaker) target sent → new ≡ recorded (with_speaker_state old node (draft_at now made.speaker).state) sent → Emits node (world_of old) (world_of new) ⊎ StepsAlone node 0 (speaker_at (world_of old) node).announces (world_of old) (world_of new)
+    by None goes None is_sent next = inr (nothing_sent node old new made.speaker (draft_at now made.speaker).state net made.is (laws.none now (fits_by made.speaker) made.speaker goes) next)
     by None goes (Some d) is_sent next = absurd is_sent
     by (Some target) goes None is_sent next = absurd is_sent
     by (Some target) goes (Some d) is_sent next = inl (datagram_sent laws node now old new made.speaker target d net made.is goes is_sent next)

@@ -16,14 +16,14 @@ use Rattle.babel_state.specs.Restarts.{RestartsAreWellFormed, restarted}
 use Rattle.babel_state.specs.Sameness.{has_prefix}
 use Rattle.babel_state.specs.SeenLaws.{AreEncodable}
 use Rattle.babel_state.specs.State.{State}
-use Rattle.babel_speaker.specs.Sending.{fits_by, are_encodable}
+use Rattle.babel_speaker.specs.Sending.{fits_by, are_encodable, draft_at}
 use Rattle.babel_machine.specs.declared.events.Event.{Event}
 use Rattle.babel_machine.specs.declared.events.Event.TheVariants as events
 use Rattle.babel_machine.specs.NetworkLaws.{EventsAreSound}
 use Rattle.babel_machine.specs.Invariants.{IsInvariant}
 use Rattle.babel_machine.specs.Owners.{AreApart}
 use Rattle.babel_net.specs.Networks.{NetworkState, SentOctets, with_speaker_state, with_octets, world_of}
-use Rattle.babel_net.specs.Steps.{MakesCall, MakesEmit, MakesDeliver, MakesRestart, Makes, IsSent, IsSentBy, recorded, next_of, step_of}
+use Rattle.babel_net.specs.Steps.{MakesCall, MakesEmit, MakesDeliver, MakesRestart, Makes, IsSent, IsSentBy, recorded, step_of}
 use Rattle.babel_net.specs.EventRefusals.{node_of, step_fault}
 use Rattle.babel_net.specs.Invariants.{IsRunning, IsReadable}
 use Rattle.babel_net.specs.Laws.{EventsKeepNetworks}
@@ -94,35 +94,35 @@ built_call laws event old new net made ok = record {
 }
 
 -- what is sent can be read
-readable_sent : StateLaws → (node now : ℕ) (s : State) (target : Target) (d : SentOctets) → IsWellFormed s → IsSentBy node s (next_of now s) target d → IsReadable d
+readable_sent : StateLaws → (node now : ℕ) (s : State) (target : Target) (d : SentOctets) → IsWellFormed s → IsSentBy node s (draft_at now s) target d → IsReadable d
 readable_sent laws node now s target d well by_it = record {
   placed = by_it.means.placed;
   read = by_it.means.read;
-  encodable = subst AreEncodable (sym by_it.means.decoded) (all_from (next_of now s).messages (laws.encodable now (fits_by s) s well));
+  encodable = subst AreEncodable (sym by_it.means.decoded) (all_from (draft_at now s).messages (laws.encodable now (fits_by s) s well));
 }
   where
     all_from : (ms : List Message) → are_encodable ms ≡ true → AreEncodable ms
     all_from ms h = AllPass-from_list_all is_encodable ms h
 
 built_emit : StateLaws → (node now : ℕ) (old new : NetworkState) → IsRunning old → MakesEmit node now old new → IsBuiltFrom old new
-built_emit laws node now old new net made = by made.sent (next_of now made.speaker).target made.is_sent made.next
+built_emit laws node now old new net made = by made.sent (draft_at now made.speaker).target made.is_sent made.next
   where
     after : NetworkState
-    after = with_speaker_state old node (next_of now made.speaker).state
+    after = with_speaker_state old node (draft_at now made.speaker).state
 
     well : IsWellFormed made.speaker
     well = well_at old node made.speaker net made.is
 
-    built : IsBuilt (with_speaker_state old node (next_of now made.speaker).state)
-    built = built_with_speaker old node (next_of now made.speaker).state net (laws.next_datagram now (fits_by made.speaker) made.speaker (well_at old node made.speaker net made.is))
+    built : IsBuilt (with_speaker_state old node (draft_at now made.speaker).state)
+    built = built_with_speaker old node (draft_at now made.speaker).state net (laws.next_datagram now (fits_by made.speaker) made.speaker (well_at old node made.speaker net made.is))
 
-    by : (sent : Option SentOctets) (target : Option Target) → IsSent node made.speaker (next_of now made.speaker) target sent → new ≡ recorded (with_speaker_state old node (next_of now made.speaker).state) sent → IsBuiltFrom old new
+    by : (sent : Option SentOctets) (target : Option Target) → IsSent node made.speaker (draft_at now made.speaker) target sent → new ≡ recorded (with_speaker_state old node (draft_at now made.speaker).state) sent → IsBuiltFrom old new
     by None None is_sent next = record { configs = ap (λ (n : NetworkState). n.configs) next; built = subst IsBuilt (sym next) built }
     by None (Some target) is_sent next = absurd is_sent
     by (Some d) None is_sent next = absurd is_sent
     by (Some d) (Some target) is_sent next = record {
       configs = ap (λ (n : NetworkState). n.configs) next;
-      built = subst IsBuilt (sym next) (built_with_octets (with_speaker_state old node (next_of now made.speaker).state) d built (readable_sent laws node now made.speaker target d (well_at old node made.speaker net made.is) is_sent));
+      built = subst IsBuilt (sym next) (built_with_octets (with_speaker_state old node (draft_at now made.speaker).state) d built (readable_sent laws node now made.speaker target d (well_at old node made.speaker net made.is) is_sent));
     }
 
 built_deliver : StateLaws → (number node iface now : ℕ) (old new : NetworkState) → IsRunning old → MakesDeliver number node iface now old new → IsBuiltFrom old new

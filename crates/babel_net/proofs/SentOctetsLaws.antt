@@ -8,12 +8,12 @@ use Rattle.babel_state.specs.NextDatagram.{Draft}
 use Rattle.babel_state.specs.Seen.{seen}
 use Rattle.babel_state.specs.SeenLaws.{DatagramsSend}
 use Rattle.babel_state.specs.State.{State}
-use Rattle.babel_speaker.specs.Sending.{fits_by, IsBuiltFrom, MeansFrom}
+use Rattle.babel_speaker.specs.Sending.{fits_by, IsBuiltFrom, MeansFrom, draft_at}
 use Rattle.babel_net.specs.Networks.{SentOctets}
-use Rattle.babel_net.specs.Steps.{next_of, IsSentBy}
+use Rattle.babel_net.specs.Steps.{IsSentBy}
 
 -- a datagram changes no own address
-pub transport_kept : DatagramsSend → (now : ℕ) (s : State) (target : Target) (iface : ℕ) → IsWellFormed s → (next_of now s).target ≡ Some target → transport_at iface (next_of now s).state ≡ transport_at iface s
+pub transport_kept : DatagramsSend → (now : ℕ) (s : State) (target : Target) (iface : ℕ) → IsWellFormed s → (draft_at now s).target ≡ Some target → transport_at iface (draft_at now s).state ≡ transport_at iface s
 unfolding seen
 transport_kept law now s target iface well goes = (law now (fits_by s) s target well goes).transports iface
 

@@ -6,13 +6,13 @@ use Rattle.babel_state.specs.Ticks.{ticked}
 use Rattle.babel_speaker.specs.Deadlines.{next_deadline}
 use Rattle.babel_net.specs.declared.nodes.Emitted.{Emitted}
 use Rattle.babel_net.specs.Networks.{NetworkState}
-use Rattle.babel_net.specs.Steps.{next_of}
+use Rattle.babel_speaker.specs.Sending.{draft_at}
 
 -- The datagram that is recorded next has the number of those recorded so far, and goes where the speaker sends it. With nothing to
 -- send, there is none.
 abbrev pub IsEmitted : ℕ → State → NetworkState → Option Emitted → Type 0
-IsEmitted now speaker old None = (next_of now speaker).target ≡ None
-IsEmitted now speaker old (Some emitted) = (emitted.number ≡ length old.sent) × ((next_of now speaker).target ≡ Some emitted.target)
+IsEmitted now speaker old None = (draft_at now speaker).target ≡ None
+IsEmitted now speaker old (Some emitted) = (emitted.number ≡ length old.sent) × ((draft_at now speaker).target ≡ Some emitted.target)
 
 -- A tick before the moment changes nothing. The moment is 0 if something is pending or a selection isn't current, and else the
 -- speaker's next deadline.

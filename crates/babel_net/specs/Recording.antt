@@ -3,7 +3,8 @@ use Rattle.std.specs.Prelude.{◌≡◌, ◌≤◌, ℕ, List, [], ◌∷◌, �
 use Rattle.babel_state.specs.State.{State}
 use Rattle.babel_net.specs.declared.sent.Place.{Place}
 use Rattle.babel_net.specs.Networks.{SentOctets}
-use Rattle.babel_net.specs.Steps.{next_of, IsSent}
+use Rattle.babel_speaker.specs.Sending.{draft_at}
+use Rattle.babel_net.specs.Steps.{IsSent}
 
 -- The place is within so many octets.
 pub record IsWithin (count : ℕ) (p : Place) : Type 0 where
@@ -22,5 +23,5 @@ also_sent old (Some d) = old ++ d ∷ []
 -- The next datagram of the node's speaker is recorded. With nothing to send, nothing is recorded.
 pub record IsRecorded (node now : ℕ) (speaker : State) (old new : List SentOctets) : Type 0 where
   pub sent : Option SentOctets
-  pub is_sent : IsSent node speaker (next_of now speaker) (next_of now speaker).target sent
+  pub is_sent : IsSent node speaker (draft_at now speaker) (draft_at now speaker).target sent
   pub next : new ≡ also_sent old sent

@@ -9,12 +9,12 @@ use Rattle.babel_state.specs.declared.items.Target.{Target}
 use Rattle.babel_state.specs.Addresses.{source_fault, transport_at}
 use Rattle.babel_state.specs.Calls.{cost_set, announced_also, withdrawn}
 use Rattle.babel_state.specs.Messages.{after_places}
-use Rattle.babel_state.specs.NextDatagram.{Draft, next_datagram}
+use Rattle.babel_state.specs.NextDatagram.{Draft}
 use Rattle.babel_state.specs.Restarts.{restarted}
 use Rattle.babel_state.specs.SeqnoRequests.{raised}
 use Rattle.babel_state.specs.State.{State}
 use Rattle.babel_state.specs.Ticks.{ticked}
-use Rattle.babel_speaker.specs.Sending.{fits_by, IsBuiltFrom}
+use Rattle.babel_speaker.specs.Sending.{IsBuiltFrom, draft_at}
 use Rattle.babel_machine.specs.declared.events.Event.{Event}
 use Rattle.babel_machine.specs.declared.events.Event.TheVariants as events
 use Rattle.babel_net.specs.Networks.{NetworkState, SentOctets, with_speaker_state, with_octets}
@@ -37,10 +37,6 @@ pub record MakesCall (node : ℕ) (event : Event) (old new : NetworkState) : Typ
   pub next : new ≡ with_speaker_state old node (step_of event speaker)
 
 -- ---- a datagram that is sent
-
--- The node's next datagram.
-abbrev pub next_of : ℕ → State → Draft
-next_of now speaker = next_datagram now (fits_by speaker) speaker
 
 -- The octets mean the messages of the draft to a receiver that gets them from the own address of the target's interface. They are
 -- those that the builder makes of the messages, and no others.
@@ -67,8 +63,8 @@ pub record MakesEmit (node now : ℕ) (old new : NetworkState) : Type 0 where
   pub speaker : State
   pub is : slice_get old.speakers node ≡ Some speaker
   pub sent : Option SentOctets
-  pub is_sent : IsSent node speaker (next_of now speaker) (next_of now speaker).target sent
-  pub next : new ≡ recorded (with_speaker_state old node (next_of now speaker).state) sent
+  pub is_sent : IsSent node speaker (draft_at now speaker) (draft_at now speaker).target sent
+  pub next : new ≡ recorded (with_speaker_state old node (draft_at now speaker).state) sent
 
 -- ---- a datagram that is delivered
 

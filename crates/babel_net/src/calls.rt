@@ -14,7 +14,8 @@ ghost use Rattle.babel_net.specs.EventRefusals.{node_of, call_fault, cost_fault,
 ghost use Rattle.babel_net.specs.HearFaults.{iface_fault, IsHearFault};
 ghost use Rattle.babel_net.specs.Hearing.{HearsAs};
 ghost use Rattle.babel_net.specs.Invariants.{IsReadable};
-ghost use Rattle.babel_net.specs.Steps.{step_of, next_of, IsSent, Received};
+ghost use Rattle.babel_speaker.specs.Sending.{draft_at};
+ghost use Rattle.babel_net.specs.Steps.{step_of, IsSent, Received};
 
 use crate::hearing::{HearFault, Heard, Hearing};
 use crate::node_speakers::NodeSpeaker;
@@ -149,9 +150,9 @@ pub(crate) fn send(
     octets: &mut ArrayVec<u8, DATAGRAM_LEN>,
 ) -> Option<Way>
     requires { IsWellFormed speaker.old }
-    ensures state { speaker.new ≡ (next_of now speaker.old).state }
-    ensures sent { IsSent node speaker.old (next_of now speaker.old) (next_of now speaker.old).target (option_map (λ (way : Way). record { node = node; source = way.source; octets = octets.new.items }) result) }
-    ensures target { option_map (λ (way : Way). way.target) result ≡ (next_of now speaker.old).target }
+    ensures state { speaker.new ≡ (draft_at now speaker.old).state }
+    ensures sent { IsSent node speaker.old (draft_at now speaker.old) (draft_at now speaker.old).target (option_map (λ (way : Way). record { node = node; source = way.source; octets = octets.new.items }) result) }
+    ensures target { option_map (λ (way : Way). way.target) result ≡ (draft_at now speaker.old).target }
 {
     datagrams_send();
     items_mean_messages();

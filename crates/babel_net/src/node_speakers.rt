@@ -7,7 +7,6 @@ ghost use Rattle.babel_state.specs.Calls.{set_cost_fault, cost_set, first_state,
 ghost use Rattle.babel_state.specs.Configs.{config_fault};
 ghost use Rattle.babel_state.specs.CurrentSelections.{AreCurrent};
 ghost use Rattle.babel_state.specs.Messages.{Receives, IsRecvFault};
-ghost use Rattle.babel_state.specs.NextDatagram.{next_datagram};
 ghost use Rattle.babel_state.specs.Restarts.{snapshot_of, restored};
 ghost use Rattle.babel_state.specs.SeqnoRequests.{raised};
 ghost use Rattle.babel_state.specs.State.{announces, interface_at};
@@ -17,7 +16,7 @@ ghost use Rattle.babel_snapshot.specs.Reading.{restore_fault, snapshot_in};
 ghost use Rattle.babel_snapshot.specs.SnapshotLaws.{IsRead};
 ghost use Rattle.babel_speaker.specs.Deadlines.{next_deadline};
 ghost use Rattle.babel_speaker.specs.Making.{IsMakingFault, IsRestoreFault};
-ghost use Rattle.babel_speaker.specs.Sending.{fits_by, IsBuiltFrom, MeansFrom};
+ghost use Rattle.babel_speaker.specs.Sending.{IsBuiltFrom, MeansFrom, draft_at};
 
 use arrayvec::ArrayVec;
 use babel_choice::Selection;
@@ -138,10 +137,10 @@ impl NodeSpeaker {
         now: u64,
         out: &mut ArrayVec<u8, DATAGRAM_LEN>,
     ) -> Option<Target>
-        ensures state { self.new ≡ (next_datagram now (fits_by self.old) self.old).state }
-        ensures target { result ≡ (next_datagram now (fits_by self.old) self.old).target }
-        ensures octets { IfSome result (λ target. MeansFrom (transport_at target.iface self.old) out.new.items (next_datagram now (fits_by self.old) self.old).messages) }
-        ensures built { IfSome result (λ target. IsBuiltFrom (transport_at target.iface self.old) out.new.items (next_datagram now (fits_by self.old) self.old).messages) }
+        ensures state { self.new ≡ (draft_at now self.old).state }
+        ensures target { result ≡ (draft_at now self.old).target }
+        ensures octets { IfSome result (λ target. MeansFrom (transport_at target.iface self.old) out.new.items (draft_at now self.old).messages) }
+        ensures built { IfSome result (λ target. IsBuiltFrom (transport_at target.iface self.old) out.new.items (draft_at now self.old).messages) }
     {
         self.speaker.next_datagram(now, out)
     }

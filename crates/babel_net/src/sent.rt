@@ -3,7 +3,7 @@
 ghost use Rattle.std.specs.Prelude.{◌≡◌, ◌<◌, ◌≤◌, ◌+◌, ◌++◌, [], ◌∷◌, slice_get, length, vec_len, vec_capacity, IfOk, OnOk, OnErr, IfErr};
 ghost use Rattle.babel_state.specs.Invariants.{IsWellFormed};
 ghost use Rattle.babel_net.specs.Recording.{IsWithin, IsRecorded, datagram_in};
-ghost use Rattle.babel_net.specs.Steps.{next_of};
+ghost use Rattle.babel_speaker.specs.Sending.{draft_at};
 
 use crate::calls::send;
 use crate::node_speakers::NodeSpeaker;
@@ -133,9 +133,9 @@ impl Record {
         now: u64,
     ) -> Result<Option<Target>, StepFault>
         requires { IsWellFormed speaker.old }
-        ensures state { OnOk result (speaker.new ≡ (next_of now speaker.old).state) }
+        ensures state { OnOk result (speaker.new ≡ (draft_at now speaker.old).state) }
         ensures sent { OnOk result (IsRecorded node now speaker.old self.old self.new) }
-        ensures target { IfOk result (λ target. target ≡ (next_of now speaker.old).target) }
+        ensures target { IfOk result (λ target. target ≡ (draft_at now speaker.old).target) }
         ensures refused { IfErr result (λ fault. fault ≡ StepFault.Memory) }
         ensures err { OnErr result ((self.new ≡ self.old) × (speaker.new ≡ speaker.old)) }
     {

@@ -6,8 +6,8 @@ use Rattle.std.specs.Io.KnownBytes.{Appends}
 use Rattle.babel_state.specs.declared.items.Target.{Target}
 use Rattle.babel_state.specs.State.{State}
 use Rattle.babel_speaker.specs.PendingItems.{DatagramsTakeItems}
-use Rattle.babel_speaker.specs.Sending.{fits_by}
-use Rattle.babel_replay.specs.Report.{Sent, IsNext, AreNext, draft_at, out_line, out_lines}
+use Rattle.babel_speaker.specs.Sending.{fits_by, draft_at}
+use Rattle.babel_replay.specs.Report.{Sent, IsNext, AreNext, out_line, out_lines}
 use Rattle.babel_replay.specs.Texts.{line, out_text}
 use Rattle.babel_replay.proofs.Writing.{appends_none, appends_more}
 

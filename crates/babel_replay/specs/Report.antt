@@ -7,10 +7,9 @@ use Rattle.babel_packet.specs.Meaning.{meaning}
 use Rattle.babel_speaker.specs.Decodings.{DecodedValue}
 use Rattle.babel_state.specs.declared.items.Target.{Target}
 use Rattle.babel_state.specs.declared.notes.Note.{Note}
-use Rattle.babel_state.specs.NextDatagram.{Draft, next_datagram}
 use Rattle.babel_state.specs.State.{State}
-use Rattle.babel_speaker.specs.Sending.{fits_by}
 use Rattle.babel_text.specs.declared.log_lines.Action.{Action}
+use Rattle.babel_speaker.specs.Sending.{draft_at}
 use Rattle.babel_text.specs.declared.log_lines.Action.TheVariants as actions
 use Rattle.babel_replay.specs.declared.stepping.Outcome.{Outcome}
 use Rattle.babel_replay.specs.declared.stepping.Outcome.TheVariants as outcomes
@@ -68,10 +67,7 @@ pub record Sent : Type 0 where
   pub target : Target
   pub messages : ℕ
 
--- The speaker's next datagram.
-abbrev pub draft_at : ℕ → State → Draft
-draft_at now s = next_datagram now (fits_by s) s
-
+-- It is the speaker's next datagram.
 pub record IsNext (now : ℕ) (s : State) (x : Sent) : Type 0 where
   pub target : Some x.target ≡ (draft_at now s).target
   pub messages : x.messages ≡ length (draft_at now s).messages

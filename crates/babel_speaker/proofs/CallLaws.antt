@@ -17,13 +17,12 @@ use Rattle.babel_state.specs.Addresses.{transport_of, transport_at}
 use Rattle.babel_state.specs.CurrentSelections.{IsCurrentAt, KeepsCurrent, PlacesKeepCurrent, AreInHalf}
 use Rattle.babel_state.specs.Invariants.{IsUsable, IsWellFormed, SendingKeepsCurrentInHalf}
 use Rattle.babel_state.specs.Messages.{Receives}
-use Rattle.babel_state.specs.NextDatagram.{next_datagram}
 use Rattle.babel_state.specs.QueueLaws.{is_silent, DatagramsAreEncodable}
 use Rattle.babel_state.specs.Seen.{seen, updates_among, Sends}
 use Rattle.babel_state.specs.SeenLaws.{AreEncodable, PlacesMove, MovesByDatagram, DatagramsSend, NoDatagramChangesNothing}
 use Rattle.babel_state.specs.State.{State, interface_at}
 use Rattle.babel_value.specs.Prefixes.{PrefixValue}
-use Rattle.babel_speaker.specs.Sending.{are_encodable, fits_by, HaveTransports, MeansFrom}
+use Rattle.babel_speaker.specs.Sending.{are_encodable, fits_by, HaveTransports, MeansFrom, draft_at}
 
 -- ---- a call that isn't refused, or may be
 
@@ -84,24 +83,24 @@ received_moves (Err e) items now peer fault read old core new law each view r we
 -- ---- a datagram that is sent
 
 abbrev SendsFrom : ℕ → State → Target → State → Type 0
-SendsFrom now old target new = Sends target.iface (updates_among (next_datagram now (fits_by old) old).messages) (seen old) (seen new)
+SendsFrom now old target new = Sends target.iface (updates_among (draft_at now old).messages) (seen old) (seen new)
 
-pub sent_if : (result : Option Target) (now : ℕ) (old core new : State) → DatagramsSend → core ≡ old → result ≡ (next_datagram now (fits_by core) core).target →
-    new ≡ (next_datagram now (fits_by core) core).state → IsWellFormed core → IfSome result (λ target. SendsFrom now old target new)
+pub sent_if : (result : Option Target) (now : ℕ) (old core new : State) → DatagramsSend → core ≡ old → result ≡ (draft_at now core).target →
+    new ≡ (draft_at now core).state → IsWellFormed core → IfSome result (λ target. SendsFrom now old target new)
 sent_if None now old core new law view is state well = tt
 sent_if (Some target) now old core new law view is state well =
     through (λ o t. SendsFrom now o target t) old core new _ view state (law now (fits_by core) core target well (sym is))
 
-pub unseen_if : (result : Option Target) (now : ℕ) (old core new : State) → NoDatagramChangesNothing → core ≡ old → result ≡ (next_datagram now (fits_by core) core).target →
-    new ≡ (next_datagram now (fits_by core) core).state → IsNone result → seen new ≡ seen old
+pub unseen_if : (result : Option Target) (now : ℕ) (old core new : State) → NoDatagramChangesNothing → core ≡ old → result ≡ (draft_at now core).target →
+    new ≡ (draft_at now core).state → IsNone result → seen new ≡ seen old
 unseen_if result now old core new law view is state none =
     through (λ o t. seen t ≡ seen o) old core new _ view state (law now (fits_by core) core (sym is ∙ none_is result none))
 
 abbrev MeansIf : ℕ → State → List ℕ → Target → Type 0
-MeansIf now old octets target = MeansFrom (transport_at target.iface old) octets (next_datagram now (fits_by old) old).messages
+MeansIf now old octets target = MeansFrom (transport_at target.iface old) octets (draft_at now old).messages
 
 pub means_if : (result : Option Target) (now : ℕ) (old core : State) (octets : List ℕ) → DatagramsAreEncodable → core ≡ old → IsWellFormed core →
-    IfSome result (λ target. are_encodable (next_datagram now (fits_by core) core).messages ≡ true → MeansIf now core octets target) → IfSome result (MeansIf now old octets)
+    IfSome result (λ target. are_encodable (draft_at now core).messages ≡ true → MeansIf now core octets target) → IfSome result (MeansIf now old octets)
 means_if None now old core octets law view well means = tt
 means_if (Some target) now old core octets law view well means =
     subst (λ o. MeansIf now o octets target) view (means (law now (fits_by core) core well))
@@ -135,6 +134,6 @@ received_current (Err e) items now peer fault read old core new law view r well 
 abbrev IsKeptInHalf : State → State → Type 0
 IsKeptInHalf old new = (first : ℕ) (prefix : PrefixValue) → AreInHalf first prefix old → IsCurrentAt prefix old → IsCurrentAt prefix new
 
-pub half_through : (now : ℕ) (old core new : State) → SendingKeepsCurrentInHalf → core ≡ old → new ≡ (next_datagram now (fits_by core) core).state → IsWellFormed core → IsKeptInHalf old new
+pub half_through : (now : ℕ) (old core new : State) → SendingKeepsCurrentInHalf → core ≡ old → new ≡ (draft_at now core).state → IsWellFormed core → IsKeptInHalf old new
 half_through now old core new law view state well =
     through IsKeptInHalf old core new _ view state (λ first prefix half current. law now (fits_by core) core first prefix well half current)

@@ -21,7 +21,7 @@ use Rattle.babel_state.specs.Queueing.{Pending}
 use Rattle.babel_state.specs.OutgoingMessages.{outgoing}
 use Rattle.babel_state.specs.NextDatagram.{Fits, Draft, is_same_target, draft_with, drafted, after_message, without_first, with_message, next_datagram}
 use Rattle.babel_state.specs.QueueLaws.{is_silent, has_no_message, NoneIfNothingPending, HasInterface, ItemsHaveInterfaces}
-use Rattle.babel_speaker.specs.Sending.{HaveTransports, built_of, empty_datagram, fits_from, fits_at, fits_by, draft_to, first_message, message_of, are_encodable, MeansFrom, IsBuiltFrom, IsFilled}
+use Rattle.babel_speaker.specs.Sending.{HaveTransports, built_of, empty_datagram, fits_from, fits_at, fits_by, draft_to, first_message, message_of, are_encodable, MeansFrom, IsBuiltFrom, IsFilled, draft_at}
 use Rattle.babel_speaker.specs.SentMessages.{no_draft, without_front}
 use Rattle.babel_speaker.proofs.Drafts.{same_target}
 
@@ -89,7 +89,7 @@ begun now f s t m fit is = ap (λ v. cond v (Some (draft_to t (after_message now
 
 -- The interface has no address, so that nothing fits.
 pub next_stays : (now : ℕ) (s0 new : State) (t : Target) (m : Message) → drafted now (fits_by s0) new.pending.items (no_draft new) ≡ drafted now (fits_by s0) s0.pending.items (no_draft s0) →
-    first_message new new.pending.items ≡ Some (t, m) → transport_at t.iface s0 ≡ None → next_datagram now (fits_by s0) s0 ≡ no_draft new
+    first_message new new.pending.items ≡ Some (t, m) → transport_at t.iface s0 ≡ None → draft_at now s0 ≡ no_draft new
 unfolding next_datagram
 next_stays now s0 new t m same first none =
     let f : Fits = fits_by s0 in
@@ -101,7 +101,7 @@ next_stays now s0 new t m same first none =
 pub next_begins : (now : ℕ) (s0 new s2 s3 : State) (t : Target) (m : Message) (source : Addr) → drafted now (fits_by s0) new.pending.items (no_draft new) ≡ drafted now (fits_by s0) s0.pending.items (no_draft s0) →
     first_message new new.pending.items ≡ Some (t, m) → transport_at t.iface s0 ≡ Some source → fits (empty_datagram source) m ≡ true →
     s2 ≡ after_message now t m new → s2.pending ≡ new.pending → s3 ≡ without_front s2 →
-    next_datagram now (fits_by s0) s0 ≡ drafted now (fits_at (empty_datagram source)) s3.pending.items (draft_to t s3 (m ∷ []))
+    draft_at now s0 ≡ drafted now (fits_at (empty_datagram source)) s3.pending.items (draft_to t s3 (m ∷ []))
 unfolding next_datagram
 next_begins now s0 new s2 s3 t m source same first from fit after pending popped =
     let f : Fits = fits_by s0 in

@@ -13,7 +13,7 @@ use Rattle.babel_state.specs.declared.items.Target.{Target}
 use Rattle.babel_state.specs.State.{State, interface_at}
 use Rattle.babel_state.specs.Addresses.{transport_at}
 use Rattle.babel_state.specs.OutgoingMessages.{outgoing}
-use Rattle.babel_state.specs.NextDatagram.{Fits, Draft, drafted}
+use Rattle.babel_state.specs.NextDatagram.{Fits, Draft, drafted, next_datagram}
 use Rattle.babel_speaker.specs.SentMessages.{no_draft}
 
 -- The target and the message of what is sent, if there is one.
@@ -55,6 +55,10 @@ fits_from (Some source) messages message = fits (built_of (empty_datagram source
 -- The same of a datagram to a target: it is sent from the transport address of the target's interface.
 abbrev pub fits_by : State → Fits
 fits_by s target messages message = fits_from (transport_at target.iface s) messages message
+
+-- The speaker's next datagram, filled as the builder fills it.
+abbrev pub draft_at : ℕ → State → Draft
+draft_at now s = next_datagram now (fits_by s) s
 
 -- A message whose fields are whole fits into a datagram that has no other.
 abbrev pub FirstMessagesFit : Type 0

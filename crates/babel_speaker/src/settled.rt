@@ -17,7 +17,7 @@ ghost use Rattle.babel_state.specs.Restarts.{restored, IsSnapshot};
 ghost use Rattle.babel_snapshot.specs.Reading.{restore_fault, snapshot_in};
 ghost use Rattle.babel_speaker.specs.Making.{IsMakingFault, IsRestoreFault};
 ghost use Rattle.babel_state.specs.QueueLaws.{is_silent};
-ghost use Rattle.babel_speaker.specs.Sending.{are_encodable, fits_by, HaveTransports, IsBuiltFrom, MeansFrom};
+ghost use Rattle.babel_speaker.specs.Sending.{are_encodable, HaveTransports, IsBuiltFrom, MeansFrom, draft_at};
 ghost use Rattle.babel_speaker.specs.Versions.{CountsChanges};
 
 use crate::hints::Hints;
@@ -256,10 +256,10 @@ impl SettledCore {
         out: &mut ArrayVec<u8, DATAGRAM_LEN>,
         builder: &mut Builder,
     ) -> Option<Target>
-        ensures state { self.new.state ≡ (next_datagram now (fits_by self.old.state) self.old.state).state }
-        ensures target { result ≡ (next_datagram now (fits_by self.old.state) self.old.state).target }
-        ensures octets { IfSome result (λ target. are_encodable (next_datagram now (fits_by self.old.state) self.old.state).messages ≡ true → MeansFrom (transport_at target.iface self.old.state) out.new.items (next_datagram now (fits_by self.old.state) self.old.state).messages) }
-        ensures built { IfSome result (λ target. IsBuiltFrom (transport_at target.iface self.old.state) out.new.items (next_datagram now (fits_by self.old.state) self.old.state).messages) }
+        ensures state { self.new.state ≡ (draft_at now self.old.state).state }
+        ensures target { result ≡ (draft_at now self.old.state).target }
+        ensures octets { IfSome result (λ target. are_encodable (draft_at now self.old.state).messages ≡ true → MeansFrom (transport_at target.iface self.old.state) out.new.items (draft_at now self.old.state).messages) }
+        ensures built { IfSome result (λ target. IsBuiltFrom (transport_at target.iface self.old.state) out.new.items (draft_at now self.old.state).messages) }
         ensures empty { IsNone result → out.new.items ≡ [] }
         ensures none { HaveTransports self.old.state → (IsNone result ↔ (is_silent self.old.state ≡ true)) }
         ensures counted { CountsChanges self.old self.new }

@@ -11,7 +11,6 @@ ghost use Rattle.babel_state.specs.Limits.{most_pending};
 ghost use Rattle.babel_state.specs.KeptRoutes.{KeepsRoutes};
 ghost use Rattle.babel_state.specs.Messages.{Receives, IsRecvFault};
 ghost use Rattle.babel_state.specs.CurrentSelections.{AreCurrent, AreInHalf, IsCurrentAt, KeepsCurrent, KeepsSelections};
-ghost use Rattle.babel_state.specs.NextDatagram.{next_datagram};
 ghost use Rattle.babel_state.specs.QueueLaws.{is_silent};
 ghost use Rattle.babel_state.specs.Seen.{seen, updates_among, announcing_also, announcing_without, IsNew, IsSelecting, Sends};
 ghost use Rattle.babel_state.specs.SeenLaws.{MovesAlone, MovesByDatagram};
@@ -26,7 +25,7 @@ ghost use Rattle.babel_snapshot.specs.Reading.{restore_fault, snapshot_in};
 ghost use Rattle.babel_snapshot.specs.SnapshotLaws.{IsRead};
 ghost use Rattle.babel_speaker.specs.Deadlines.{next_deadline};
 ghost use Rattle.babel_speaker.specs.Making.{IsMakingFault, IsRestoreFault};
-ghost use Rattle.babel_speaker.specs.Sending.{fits_by, IsBuiltFrom, MeansFrom};
+ghost use Rattle.babel_speaker.specs.Sending.{IsBuiltFrom, MeansFrom, draft_at};
 ghost use Rattle.babel_speaker.specs.Versions.{CountsChanges};
 
 use crate::decoded::{Decoded, decoded_are_encodable, is_encodable_again};
@@ -341,12 +340,12 @@ impl Speaker {
         now: u64,
         out: &mut ArrayVec<u8, DATAGRAM_LEN>,
     ) -> Option<Target>
-        ensures state { self.new.state ≡ (next_datagram now (fits_by self.old.state) self.old.state).state }
-        ensures target { result ≡ (next_datagram now (fits_by self.old.state) self.old.state).target }
-        ensures octets { IfSome result (λ target. MeansFrom (transport_at target.iface self.old.state) out.new.items (next_datagram now (fits_by self.old.state) self.old.state).messages) }
-        ensures built { IfSome result (λ target. IsBuiltFrom (transport_at target.iface self.old.state) out.new.items (next_datagram now (fits_by self.old.state) self.old.state).messages) }
+        ensures state { self.new.state ≡ (draft_at now self.old.state).state }
+        ensures target { result ≡ (draft_at now self.old.state).target }
+        ensures octets { IfSome result (λ target. MeansFrom (transport_at target.iface self.old.state) out.new.items (draft_at now self.old.state).messages) }
+        ensures built { IfSome result (λ target. IsBuiltFrom (transport_at target.iface self.old.state) out.new.items (draft_at now self.old.state).messages) }
         ensures empty { IsNone result → out.new.items ≡ [] }
-        ensures sends { IfSome result (λ target. Sends target.iface (updates_among (next_datagram now (fits_by self.old.state) self.old.state).messages) (seen self.old.state) (seen self.new.state)) }
+        ensures sends { IfSome result (λ target. Sends target.iface (updates_among (draft_at now self.old.state).messages) (seen self.old.state) (seen self.new.state)) }
         ensures unseen { IsNone result → seen self.new.state ≡ seen self.old.state }
         ensures none { IsNone result ↔ (is_silent self.old.state ≡ true) }
         ensures selections { KeepsSelections self.old.state self.new.state }

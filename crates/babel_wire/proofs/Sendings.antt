@@ -5,11 +5,11 @@ use Rattle.std.proofs.lemmas.List.Sums.{sum_by_push}
 use Rattle.babel_state.specs.declared.items.Target.{Target}
 use Rattle.babel_state.specs.Addresses.{transport_at}
 use Rattle.babel_state.specs.State.{State}
-use Rattle.babel_speaker.specs.Sending.{IsBuiltFrom, MeansFrom}
+use Rattle.babel_speaker.specs.Sending.{IsBuiltFrom, MeansFrom, draft_at}
 use Rattle.babel_wire.specs.declared.errors.WireFault.{WireFault}
 use Rattle.babel_wire.specs.declared.report.Report.{Report}
 use Rattle.babel_wire.specs.Calls.{Call, Send, Sending, Grows, call_of_send, sending_of, failures}
-use Rattle.babel_wire.specs.Turns.{draft_at, IsDraftSent, AreSent, AreSentSoFar, IsSent, sent_by, lost_by}
+use Rattle.babel_wire.specs.Turns.{IsDraftSent, AreSent, AreSentSoFar, IsSent, sent_by, lost_by}
 
 -- One datagram more.
 pub sent_more : (now : ℕ) (old mid : State) (xs : List Sending) (x : Sending) → AreSent now old xs mid → IsDraftSent now mid x →

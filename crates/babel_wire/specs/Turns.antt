@@ -5,10 +5,9 @@ use Rattle.babel_state.specs.declared.errors.RecvFault.{RecvFault}
 use Rattle.babel_state.specs.declared.notes.Note.{Note}
 use Rattle.babel_state.specs.Addresses.{source_fault, transport_at}
 use Rattle.babel_state.specs.Messages as messages
-use Rattle.babel_state.specs.NextDatagram.{Draft, next_datagram}
 use Rattle.babel_state.specs.State.{State}
 use Rattle.babel_state.specs.Ticks.{ticked}
-use Rattle.babel_speaker.specs.Sending.{fits_by, IsBuiltFrom, MeansFrom}
+use Rattle.babel_speaker.specs.Sending.{IsBuiltFrom, MeansFrom, draft_at}
 use Rattle.babel_wire.specs.declared.report.Report.{Report}
 use Rattle.babel_wire.specs.Calls.{Receipt, Nothing, Failed, Datagram, Sending, Call, Recv, Now, Send, Grows}
 
@@ -40,11 +39,7 @@ Receives now (Datagram iface source octets) true old new =
 Receives now Nothing is_refused old new = (is_refused ≡ false) × (new ≡ old)
 Receives now Failed is_refused old new = (is_refused ≡ false) × (new ≡ old)
 
--- The speaker's next datagram.
-abbrev pub draft_at : ℕ → State → Draft
-draft_at now s = next_datagram now (fits_by s) s
-
--- It is what the wire was given to send: it has its target, and its messages are the meaning of the octets. These are the ones that the
+-- The speaker's next datagram is what the wire was given to send: it has its target, and its messages are the meaning of the octets. These are the ones that the
 -- builder makes of the messages, and no others.
 pub record IsDraftSent (now : ℕ) (s : State) (sending : Sending) : Type 0 where
   pub target : (draft_at now s).target ≡ Some sending.target

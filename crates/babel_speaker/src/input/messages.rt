@@ -88,7 +88,7 @@ fn handle_from_neighbour(
             };
             core.handle_seqno_request(arrival, &request)
         }
-        _ => Verdict::Taken,
+        Message::AckRequest { .. } | Message::Ack { .. } | Message::Hello { .. } => Verdict::Taken,
     }
 }
 

@@ -8,11 +8,11 @@ ghost use Rattle.babel_build.specs.Built.{Built, HasEncoded};
 ghost use Rattle.babel_state.specs.Addresses.{transport_at};
 ghost use Rattle.babel_state.specs.CurrentSelections.{AreCurrent};
 ghost use Rattle.babel_state.specs.OutgoingMessages.{outgoing};
-ghost use Rattle.babel_state.specs.NextDatagram.{Fits, is_same_receiver, is_same_target, draft_with, drafted, next_datagram};
+ghost use Rattle.babel_state.specs.NextDatagram.{Fits, is_same_receiver, is_same_target, draft_with, drafted};
 ghost use Rattle.babel_state.specs.QueueLaws.{is_silent};
 ghost use Rattle.babel_state.specs.Restarts.{snapshot_of};
 ghost use Rattle.babel_speaker.specs.SentMessages.{HasRoomFor, no_draft};
-ghost use Rattle.babel_speaker.specs.Sending.{HaveTransports, first_message, with_outgoing, is_encodable_outgoing, are_encodable, built_of, fits_at, fits_by, draft_to, MeansFrom, IsBuiltFrom, IsFilled};
+ghost use Rattle.babel_speaker.specs.Sending.{HaveTransports, first_message, with_outgoing, is_encodable_outgoing, are_encodable, built_of, fits_at, draft_to, MeansFrom, IsBuiltFrom, IsFilled, draft_at};
 ghost use Rattle.babel_speaker.specs.Versions.{KeepsSnapshot};
 
 use crate::hints::Hints;
@@ -155,10 +155,10 @@ pub(crate) fn next_datagram(
     requires settled { IsTrue hints.old.settled → AreCurrent core.old }
     ensures current { IsTrue hints.new.settled → AreCurrent core.new }
     ensures saved { IsFalse hints.new.lowered → snapshot_of core.new ≡ snapshot_of core.old }
-    ensures state { core.new ≡ (next_datagram now (fits_by core.old) core.old).state }
-    ensures target { result ≡ (next_datagram now (fits_by core.old) core.old).target }
-    ensures octets { IfSome result (λ target. are_encodable (next_datagram now (fits_by core.old) core.old).messages ≡ true → MeansFrom (transport_at target.iface core.old) out.new.items (next_datagram now (fits_by core.old) core.old).messages) }
-    ensures built { IfSome result (λ target. IsBuiltFrom (transport_at target.iface core.old) out.new.items (next_datagram now (fits_by core.old) core.old).messages) }
+    ensures state { core.new ≡ (draft_at now core.old).state }
+    ensures target { result ≡ (draft_at now core.old).target }
+    ensures octets { IfSome result (λ target. are_encodable (draft_at now core.old).messages ≡ true → MeansFrom (transport_at target.iface core.old) out.new.items (draft_at now core.old).messages) }
+    ensures built { IfSome result (λ target. IsBuiltFrom (transport_at target.iface core.old) out.new.items (draft_at now core.old).messages) }
     ensures empty { IsNone result → out.new.items ≡ [] }
     ensures none { HaveTransports core.old → (IsNone result ↔ (is_silent core.old ≡ true)) }
 {

@@ -89,7 +89,14 @@ fn apply_message(core: &mut Core, now: u64, target: Target, message: &Message, c
                 .sources
                 .lower_near(now, source, sent, &mut cursor.source);
         }
-        _ => {}
+        Message::AckRequest { .. }
+        | Message::Ack { .. }
+        | Message::Ihu { .. }
+        | Message::Retraction { .. }
+        | Message::RetractAll { .. }
+        | Message::RouteRequest { .. }
+        | Message::DumpRequest
+        | Message::SeqnoRequest { .. } => {}
     }
 }
 

@@ -1,5 +1,5 @@
 use Rattle.std.proofs.Common.{length, refl, None, arith}
-use Rattle.babel_replay.specs.Report.{draft_at}
+use Rattle.babel_speaker.specs.Sending.{draft_at}
 use Rattle.babel_replay.proofs.Sending.{sending_begins, sending_goes, fewer_left}
 use Rattle.babel_replay.proofs.explaining.send_datagrams.Goals as goal
 

@@ -2,7 +2,7 @@ use Rattle.std.proofs.Common.{length, arith, refl, subst}
 use Rattle.std.specs.Io.KnownBytes.{Appends}
 use Rattle.babel_state.specs.Addresses.{transport_at}
 use Rattle.babel_state.proofs.KeptRoutes.{same_routes, routes_through}
-use Rattle.babel_replay.specs.Report.{draft_at}
+use Rattle.babel_speaker.specs.Sending.{draft_at}
 use Rattle.babel_replay.proofs.MessageCounts.{counted_of}
 use Rattle.babel_replay.proofs.Sending.{sending_begins, sending_goes, fewer_left}
 use Rattle.babel_replay.proofs.replaying.send_datagrams.Goals as goal

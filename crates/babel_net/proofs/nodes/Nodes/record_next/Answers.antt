@@ -6,15 +6,15 @@ use Rattle.babel_state.specs.State.{State}
 use Rattle.babel_net.specs.declared.nodes.Emitted.{Emitted}
 use Rattle.babel_net.specs.Emitting.{IsEmitted}
 use Rattle.babel_net.specs.Networks.{NetworkState}
-use Rattle.babel_net.specs.Steps.{next_of}
+use Rattle.babel_speaker.specs.Sending.{draft_at}
 use Rattle.babel_net.proofs.CallFaults.{speaker_read}
 use Rattle.babel_net.proofs.nodes.Nodes.record_next.Goals.{in-Ok-Some, in-Ok-None, in-Err}
 use Rattle.babel_net.proofs.nodes.Nodes.record_next.Goals as goal
 
 goes_to : {E : Type 0} (now : ℕ) (s speaker : State) (target : Option Target) (r : Result (Option Target) E) → s ≡ speaker → r ≡ Ok target →
-    IfOk r (λ t. t ≡ (next_of now s).target) → (next_of now speaker).target ≡ target
+    IfOk r (λ t. t ≡ (draft_at now s).target) → (draft_at now speaker).target ≡ target
 goes_to now s speaker target r same is goes =
-    subst (λ (t : State). (next_of now t).target ≡ target) same (sym (subst (λ r. IfOk r (λ t. t ≡ (next_of now s).target)) is goes))
+    subst (λ (t : State). (draft_at now t).target ≡ target) same (sym (subst (λ r. IfOk r (λ t. t ≡ (draft_at now s).target)) is goes))
 
 pub returns-clause-emitted : goal.returns-clause-emitted
 returns-clause-emitted c =

@@ -4,8 +4,8 @@ use Rattle.std.proofs.lemmas.Bool.{false≢true}
 use Rattle.babel_build.specs.Built.{Built, fits}
 use Rattle.babel_state.specs.Addresses.{transport_of, transport_at}
 use Rattle.babel_state.specs.declared.interfaces.InterfaceEntry.{InterfaceEntry}
-use Rattle.babel_state.specs.NextDatagram.{Draft, next_datagram, drafted}
-use Rattle.babel_speaker.specs.Sending.{fits_by, fits_at, draft_to, empty_datagram, built_of, IsFilled}
+use Rattle.babel_state.specs.NextDatagram.{Draft, drafted}
+use Rattle.babel_speaker.specs.Sending.{fits_at, draft_to, empty_datagram, built_of, IsFilled, draft_at}
 use Rattle.babel_speaker.specs.SentMessages.{no_draft}
 use Rattle.babel_speaker.proofs.NextDatagrams.{silent_if_none, speaks_if_some, transport_there, next_none, next_stays, next_begins, first_added, filled_means, filled_built, alone_encoded}
 use Rattle.babel_speaker.proofs.Snapshots.{removed_snapshot}
@@ -19,7 +19,7 @@ pub returns-in_default-clause-target : goal.returns-in_default-clause-target
 returns-in_default-clause-target c =
     sym (ap (λ (d : Draft). d.target) (next_none c.args.now _ c.args.core.now c.skip_silent.new.core (c.skip_silent.ensures.draft c.args.now _) (c.in_default.ensures.none refl)))
 
-stays : (c : goal.In_default-transport) → next_datagram c.args.now (fits_by c.args.core.now) c.args.core.now ≡ no_draft c.skip_silent.new.core
+stays : (c : goal.In_default-transport) → draft_at c.args.now c.args.core.now ≡ no_draft c.skip_silent.new.core
 stays c =
     next_stays c.args.now c.args.core.now c.skip_silent.new.core c.in-Some.target c.in-Some.message (c.skip_silent.ensures.draft c.args.now _) (sym c.in-Some.ensures.message)
     (ap (λ (xs : List InterfaceEntry). option_and_then transport_of (slice_get xs c.in-Some.target.iface)) (sym c.skip_silent.ensures.interfaces) ∙ sym c.in_default-transport.ensures)
@@ -36,7 +36,7 @@ begins c = first_added c.begin.new.self c.add.new.self c.in-Some-transport.sourc
 at : (c : goal.After-write_to) → transport_at c.in-Some.target.iface c.args.core.now ≡ Some c.in-Some-transport.source
 at c = ap (λ (xs : List InterfaceEntry). option_and_then transport_of (slice_get xs c.in-Some.target.iface)) (sym c.skip_silent.ensures.interfaces) ∙ sym c.in-Some-transport.ensures
 
-next : (c : goal.After-write_to) → next_datagram c.args.now (fits_by c.args.core.now) c.args.core.now
+next : (c : goal.After-write_to) → draft_at c.args.now c.args.core.now
     ≡ drafted c.args.now (fits_at (empty_datagram c.in-Some-transport.source)) c.remove_first_item.new.core.pending.items (draft_to c.in-Some.target c.remove_first_item.new.core (c.in-Some.message ∷ []))
 next c =
     next_begins c.args.now c.args.core.now c.skip_silent.new.core c.send_message.new.core c.remove_first_item.new.core c.in-Some.target c.in-Some.message c.in-Some-transport.source
