@@ -16,9 +16,9 @@ use babel_simulation_report::{Shown, is_as_expected, write_objects, write_scenar
 use babel_snapshot_file::replace_file;
 use babel_text::parse_prefix;
 use babel_toml_places::FileText;
+use babel_topology::file::read_topology;
 use babel_topology::{Topology, TopologyFault};
 use babel_topology_details::explain_topology;
-use babel_topology_file::read_topology;
 use babel_value::Prefix;
 use clap::builder::ValueParser;
 use clap::{Arg, ArgMatches, Command};

@@ -3,7 +3,8 @@
 use crate::arguments::{details_arg, option, positional};
 use crate::help;
 use babel_text::LineFault;
-use babel_topology_shapes::{MAX_NODES, MAX_SEED, Shape, write_topology};
+use babel_topology::MAX_NODES;
+use babel_topology::shapes::{MAX_SEED, Shape, write_topology};
 use clap::builder::ValueParser;
 use clap::{Arg, ArgMatches, Command};
 use std::alloc::{AllocError, Global};

@@ -5,3 +5,4 @@ pub mod Verbs
 pub mod Names
 pub mod Actions
 pub mod Plans
+pub mod Files

@@ -4,12 +4,15 @@
 //! - `plans` adds steps to a plan in the order of their moments.
 //! - `words`, `times`, `verbs`, `names` and `actions` read texts: times, what happens to which node or link, and what
 //!   is expected.
+//! - `file` reads the file of a topology, and `shapes` writes files of regular and random ones.
 #![tactic(auto)]
 
 mod actions;
 mod errors;
+pub mod file;
 mod names;
 mod plans;
+pub mod shapes;
 mod times;
 mod topology;
 mod verbs;

@@ -2,7 +2,7 @@
 
 use babel_toml_places::{Position, Step, locate};
 use babel_topology::TopologyFault;
-use babel_topology_file::{Cause, Part, Problem};
+use babel_topology::file::{Cause, Part, Problem};
 use std::alloc::{AllocError, Global};
 use toml::{Table, Value};
 

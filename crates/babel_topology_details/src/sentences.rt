@@ -4,7 +4,7 @@ use crate::places::{element_of, position_of};
 use babel_line_details::Excerpt;
 use babel_toml_places::{FileText, Position};
 use babel_topology::TopologyFault;
-use babel_topology_file::{Cause, FILE_KEYS, LINK_KEYS, NODE_KEYS, Part, Problem, first_problem};
+use babel_topology::file::{Cause, FILE_KEYS, LINK_KEYS, NODE_KEYS, Part, Problem, first_problem};
 use std::alloc::Global;
 use std::fmt;
 use std::io::{self, Write};

@@ -1,0 +1,25 @@
+-- What the texts of a file are about.
+use Rattle.std.proofs.Common.{◌≡◌, ℕ, List, Option, Some, None, length, sym, subst, [], ◌∷◌, ◌++◌}
+use Rattle.std.specs.Prelude.{IfSome, All}
+use Rattle.std.proofs.lemmas.List.Elements.{All-push}
+use Rattle.toml.specs.Data.{Members}
+use Rattle.babel_text.specs.Readings.{Reads}
+use Rattle.babel_topology.specs.declared.topology.Node.{Node}
+use Rattle.babel_topology.specs.declared.topology.Link.{Link}
+use Rattle.babel_topology.specs.declared.topology.Step.{Step}
+use Rattle.babel_topology.specs.Times.{IsTimeText}
+use Rattle.babel_topology.specs.Actions.{IsAbout}
+use Rattle.babel_topology.specs.Files.{text_of, IsTimeAt}
+
+pub time_read : (key : List ℕ) (members : Members) (text : List ℕ) (time : Option ℕ) → text_of key members ≡ Some text → Reads IsTimeText text time
+    → IfSome time (IsTimeAt key members)
+time_read key entries text None is reads = tt
+time_read key entries text (Some time) is reads = (text, is, reads)
+
+-- One more step is about them.
+pub about_grows : (nodes : List Node) (links : List Link) (old new : List Step) (step : Step) → new ≡ old ++ step ∷ []
+    → IsAbout (length nodes) (length links) step.action → All (λ (s : Step). IsAbout (length nodes) (length links) s.action) old
+    → All (λ (s : Step). IsAbout (length nodes) (length links) s.action) new
+about_grows nodes links old new step is about inv =
+    let P : List Step → Type 0 = λ xs. All (λ (s : Step). IsAbout (length nodes) (length links) s.action) xs in
+    subst P (sym is) (All-push (λ (s : Step). IsAbout (length nodes) (length links) s.action) old step inv about)

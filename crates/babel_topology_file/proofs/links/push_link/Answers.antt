@@ -1,7 +1,0 @@
--- One more link.
-use Rattle.babel_topology_file.proofs.Growing.{links_grow}
-use Rattle.babel_topology_file.proofs.links.push_link.Goals as goal
-
-pub returns-clause-once : goal.returns-clause-once
-returns-clause-once c = links_grow c.args.links.now.items c.push.new.self.items c.deref.result.now c.args.link c.in_ok-push.ensures.items
-    c.deref.ensures.value c.in_ok-check_link.ensures.once
