@@ -1,7 +1,7 @@
 //! The pictures of `simulate`: which are asked for, and their files.
 
 use crate::arguments::option;
-use babel_drawing::{write_dot, write_svg};
+use babel_pictures::{write_dot, write_svg};
 use babel_simulation_pictures::{Scene, picture_of};
 use babel_simulation_report::Shown;
 use babel_snapshot_file::replace_file;

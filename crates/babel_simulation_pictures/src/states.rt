@@ -1,6 +1,6 @@
 //! The links as they are at a moment.
 
-use babel_drawing::{DrawnLink, LinkState};
+use babel_pictures::{DrawnLink, LinkState};
 use babel_simulation_report::Shown;
 use babel_topology::{Action, Link};
 use std::alloc::{AllocError, Global};

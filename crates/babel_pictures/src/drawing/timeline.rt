@@ -1,8 +1,8 @@
 //! The timeline of an SVG: a row for each node, and the moments at which something happened.
 
-use crate::numbers::{number, smaller, time, whole};
-use crate::pictures::{Hop, Mark, Picture, Row, Span, Timeline};
-use crate::texts::{Escaped, Seconds, Short, drawn_len};
+use crate::drawing::numbers::{number, smaller, time, whole};
+use crate::drawing::pictures::{Hop, Mark, Picture, Row, Span, Timeline};
+use crate::drawing::texts::{Escaped, Seconds, Short, drawn_len};
 use std::io::{self, Write};
 
 /// The width of the names on the left, in pixels.

@@ -6,7 +6,6 @@
 //! - `svg`: the whole SVG; `network` and `timeline` are its two parts, and `style` has its colours.
 //! - `dot`: the file for Graphviz.
 //! - `texts`: escaped and shortened texts; `numbers`: floats, which nothing but drawing needs.
-#![tactic(auto)]
 
 mod dot;
 mod forces;

@@ -1,12 +1,12 @@
 //! The whole SVG: a title, the network, a legend and the timeline.
 
-use crate::network::write_network;
-use crate::numbers::{greater, whole};
-use crate::pictures::Picture;
-use crate::places::place_nodes;
-use crate::style::STYLE;
-use crate::texts::{Escaped, Seconds};
-use crate::timeline::{timeline_height, write_timeline};
+use crate::drawing::network::write_network;
+use crate::drawing::numbers::{greater, whole};
+use crate::drawing::pictures::Picture;
+use crate::drawing::places::place_nodes;
+use crate::drawing::style::STYLE;
+use crate::drawing::texts::{Escaped, Seconds};
+use crate::drawing::timeline::{timeline_height, write_timeline};
 use std::alloc::Global;
 use std::io::{self, Write};
 

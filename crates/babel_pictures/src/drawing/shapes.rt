@@ -1,6 +1,6 @@
 //! The shape of a network, if its links have one.
 
-use crate::pictures::DrawnLink;
+use crate::drawing::pictures::DrawnLink;
 use std::alloc::{AllocError, Global};
 
 /// The shape of a network.

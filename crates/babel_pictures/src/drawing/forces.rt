@@ -1,8 +1,8 @@
 //! The places of a network without a shape: its links pull nodes together, and all others push each
 //! other away (T. Fruchterman and E. Reingold, 1991). The same network gets the same places.
 
-use crate::numbers::{Place, fraction, number, on_circle, smaller};
-use crate::pictures::DrawnLink;
+use crate::drawing::numbers::{Place, fraction, number, on_circle, smaller};
+use crate::drawing::pictures::DrawnLink;
 use std::alloc::{AllocError, Global};
 
 /// About how many pairs of nodes are looked at.

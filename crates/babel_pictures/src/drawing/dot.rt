@@ -1,7 +1,7 @@
 //! The file of a network for Graphviz.
 
-use crate::pictures::{DrawnLink, DrawnNode, Hop, LinkState, Picture};
-use crate::texts::Quoted;
+use crate::drawing::pictures::{DrawnLink, DrawnNode, Hop, LinkState, Picture};
+use crate::drawing::texts::Quoted;
 use std::io::{self, Write};
 
 /// Writes the network of a picture in DOT. A link has no direction, and a next hop has one.

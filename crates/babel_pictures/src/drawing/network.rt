@@ -1,9 +1,9 @@
 //! The network of an SVG: links, next hops, and a box for each node.
 
-use crate::numbers::{Place, greater, smaller, whole};
-use crate::pictures::{DrawnLink, DrawnNode, Hop, LinkState, Picture};
-use crate::places::{BOX_HEIGHT, Layout, box_width};
-use crate::texts::{Escaped, Short, drawn_len};
+use crate::drawing::numbers::{Place, greater, smaller, whole};
+use crate::drawing::pictures::{DrawnLink, DrawnNode, Hop, LinkState, Picture};
+use crate::drawing::places::{BOX_HEIGHT, Layout, box_width};
+use crate::drawing::texts::{Escaped, Short, drawn_len};
 use std::io::{self, Write};
 
 /// Writes the network.

@@ -1,10 +1,10 @@
 //! Where the nodes are drawn.
 
-use crate::forces::place_by_forces;
-use crate::numbers::{Place, greater, number, on_circle, smaller};
-use crate::pictures::Picture;
-use crate::shapes::{Form, form_of};
-use crate::texts::drawn_len;
+use crate::drawing::forces::place_by_forces;
+use crate::drawing::numbers::{Place, greater, number, on_circle, smaller};
+use crate::drawing::pictures::Picture;
+use crate::drawing::shapes::{Form, form_of};
+use crate::drawing::texts::drawn_len;
 use std::alloc::{AllocError, Global};
 
 /// The height of the box of a node, in pixels.
