@@ -1,22 +1,15 @@
-//! Links the static libraries of crates/babel_bench and crates/babel_speaker_bench, and the toolchain's memory
-//! functions.
-//! `bench/run` gives their folders.
+//! Links the static library of crates/babel_bench, and the toolchain's memory functions. `bench/run` gives
+//! their folders.
 
 use std::env;
 
 /// The folder of libbabel_bench.a.
-const DECODER: &str = "BABEL_BENCH_LIB";
-/// The folder of libbabel_speaker_bench.a.
-const SPEAKER: &str = "BABEL_SPEAKER_BENCH_LIB";
+const PROVED: &str = "BABEL_BENCH_LIB";
 /// The folder of the toolchain's liblibc_c.a.
 const MEMORY: &str = "RATTLE_C";
 
 fn main() {
-    for (folder, library) in [
-        (DECODER, "babel_bench"),
-        (SPEAKER, "babel_speaker_bench"),
-        (MEMORY, "libc_c"),
-    ] {
+    for (folder, library) in [(PROVED, "babel_bench"), (MEMORY, "libc_c")] {
         println!("cargo:rerun-if-env-changed={folder}");
         let path = env::var(folder).unwrap_or_else(|_| panic!("{folder} isn't set: use bench/run"));
         println!("cargo:rustc-link-search=native={path}");

@@ -1,5 +1,4 @@
-//! The proved decoder and builder, through the static library of crates/babel_bench, and the proved speaker,
-//! through that of crates/babel_speaker_bench.
+//! The proved decoder, builder and speaker, through the static library of crates/babel_bench.
 
 use crate::corpus::Datagram;
 
@@ -34,7 +33,7 @@ extern "C" {
         built: *mut u8,
         built_len: usize,
     ) -> usize;
-    fn babel_speaker_bench_run(
+    fn babel_bench_run(
         setup: *const u8,
         setup_len: usize,
         turn: *const u8,
@@ -109,7 +108,7 @@ pub fn build(datagram: &Datagram, turns: usize, built: &mut [u8]) -> usize {
 pub fn run_speaker(setup: &[u8], turn: &[u8], turns: usize) -> u64 {
     // SAFETY: the pointers and lengths are those of two slices.
     unsafe {
-        babel_speaker_bench_run(
+        babel_bench_run(
             setup.as_ptr(),
             setup.len(),
             turn.as_ptr(),

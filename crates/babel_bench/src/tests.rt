@@ -1,6 +1,9 @@
-//! Each call once with ample memory: a function that always returns 0 meets its clause.
+//! Each call once with ample memory: a function that always returns 0 meets its clause, if it has one.
 
-use crate::{babel_bench_build, babel_bench_decode, babel_bench_decode_kept, babel_bench_text};
+use crate::{
+    babel_bench_build, babel_bench_decode, babel_bench_decode_kept, babel_bench_run,
+    babel_bench_text,
+};
 use std::alloc::Global;
 use std::process::Abort;
 
@@ -14,6 +17,15 @@ const DATAGRAM: [u8; 30] = [
 const FROM_IPV4: &[u8] = &[192, 168, 0, 1];
 
 const FROM_IPV6: &[u8] = &[0xfe, 0x80, 0, 0, 0, 0, 0, 0, 0, 0, 0, 0, 0, 0, 0, 1];
+
+/// A tick at moment 0, and then all datagrams are taken.
+const FIRST_TICK: [u8; 24] = [
+    1, 0, 0, 0, 0, 0, 0, 0, 0, 0, 0, 0, //
+    2, 0, 0, 0, 0, 0, 0, 0, 0, 0, 0, 0,
+];
+
+/// A tick at moment 0: nothing is due any more.
+const TICK: [u8; 12] = [1, 0, 0, 0, 0, 0, 0, 0, 0, 0, 0, 0];
 
 #[test]
 fn last_place(rt: HostRuntime) {
@@ -70,4 +82,11 @@ fn builds(rt: HostRuntime) {
     assert_eq!(rt; built.get(..length), Some(DATAGRAM.as_slice()));
     let refused = babel_bench_build(alloc, &DATAGRAM[..29], FROM_IPV4, 2, &mut built);
     assert_eq!(rt; refused, 0);
+}
+
+#[test]
+fn first_hellos(rt: HostRuntime) {
+    // 8 datagrams of 12 octets, each a Hello; the last octet is that of the interval 400.
+    let sum = babel_bench_run(rt.alloc(), FIRST_TICK.as_slice(), TICK.as_slice(), 3);
+    assert_eq!(rt; sum, 8 * (12_000 + 144));
 }

@@ -1,6 +1,4 @@
-//! The speaker for the benchmark of bench/, as a function over octets that a Rust program calls. No clause
-//! states what it returns: the benchmark compares it with what a plain speaker returns.
-#![tactic(auto)]
+//! The speaker. No clause states what its call returns: the benchmark compares it with what a plain speaker returns.
 
 use arrayvec::ArrayVec;
 use babel_speaker::Speaker;
@@ -33,12 +31,7 @@ struct Step<'a> {
 /// Makes a speaker, makes it take the steps of `setup` once, and those of `turn` this many times. Returns a
 /// sum over the notes and the datagrams that are sent; 0 if an allocation fails.
 #[unsafe(no_mangle)]
-pub extern "C" fn babel_speaker_bench_run(
-    alloc: Global,
-    setup: &[u8],
-    turn: &[u8],
-    turns: usize,
-) -> u64 {
+pub extern "C" fn babel_bench_run(alloc: Global, setup: &[u8], turn: &[u8], turns: usize) -> u64 {
     let Some(config) = config(alloc) else {
         return 0;
     };
@@ -153,6 +146,3 @@ fn weight(datagram: &[u8]) -> u64 {
         .wrapping_mul(1_000)
         .wrapping_add(last)
 }
-
-#[cfg(test)]
-mod tests;
