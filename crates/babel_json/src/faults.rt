@@ -129,9 +129,9 @@ fn fault_object<'a>(code: &'a str, sentence: &Sentence<'a>) -> Object<'a> {
         None
     };
     let mut object = Object::new("error");
-    object.text("code", words.word().unwrap_or(""));
+    object.text("code", words.word());
     object.number_or_null("number", words.optional_number());
-    object.text_or_null("cause", words.word());
+    object.text_or_null("cause", words.optional_word());
     put_sentence(&mut object, sentence, line);
     object
 }

@@ -139,9 +139,9 @@ pub(crate) fn text_in(octets: &[u8]) -> io::Result<&str> {
 
 fn take_head(line: &str, head: &mut Head) -> io::Result<()> {
     let mut words = Words::new(line);
-    let _ = words.word();
+    words.expect("#");
     head.number = words.optional_number();
-    let source = words.word().unwrap_or("");
+    let source = words.word();
     head.source.clear();
     Ok(head.source.extend_from_slice(source.as_bytes())?)
 }
