@@ -5,7 +5,7 @@ use crate::fields::{field, word};
 use std::fmt;
 
 /// What is shown of a field.
-#[derive(Clone, Copy, Debug, PartialEq, Eq)]
+#[derive(Clone, Copy)]
 pub(crate) enum Cell<'l> {
     /// The field itself.
     Text(&'l str),
@@ -38,13 +38,17 @@ pub(crate) fn expiry_of(answer: &str, line: &str) -> Option<u64> {
     None
 }
 
+/// The fields by which neighbours, and routes, differ from each other.
+static NAMING_FIELDS: [&str; 4] = ["if", "address", "via", "prefix"];
+
 /// Whether both lines are of one neighbour, or of one route.
 fn is_same_thing(one: &str, other: &str) -> bool {
+    for name in NAMING_FIELDS.iter() {
+        if field(one, name) != field(other, name) {
+            return false;
+        }
+    }
     word(one, 1) == word(other, 1)
-        && field(one, "if") == field(other, "if")
-        && field(one, "address") == field(other, "address")
-        && field(one, "via") == field(other, "via")
-        && field(one, "prefix") == field(other, "prefix")
 }
 
 impl Cell<'_> {

@@ -1,7 +1,7 @@
 //! Which fields are shown.
 
 /// What a column has.
-#[derive(Clone, Copy, Debug, PartialEq, Eq)]
+#[derive(Clone, Copy, PartialEq, Eq)]
 pub(crate) enum ColumnKind {
     /// Texts.
     Text,
@@ -15,7 +15,7 @@ pub(crate) enum ColumnKind {
 pub(crate) const COLUMNS: usize = 8;
 
 /// A column of a table, and a member of an object.
-#[derive(Clone, Copy, Debug)]
+#[derive(Clone, Copy)]
 pub(crate) struct Column {
     /// The head of the column.
     pub(crate) head: &'static str,

@@ -14,14 +14,19 @@ impl fmt::Display for Quoted<'_> {
     fn fmt<W: fmt::Write>(&self, f: &mut fmt::Formatter<W>) -> fmt::Result {
         f.write_str("\"")?;
         for letter in self.0.chars() {
-            match letter {
-                '"' => f.write_str("\\\"")?,
-                '\\' => f.write_str("\\\\")?,
-                '\0'..' ' => write!(f, "\\u{:04x}", u32::from(letter))?,
-                _ => f.write_char(letter)?,
-            }
+            write_letter(letter, f)?;
         }
         f.write_str("\"")
+    }
+}
+
+/// Writes a letter of a string, with a backslash before it if it needs one.
+fn write_letter<W: fmt::Write>(letter: char, f: &mut fmt::Formatter<W>) -> fmt::Result {
+    match letter {
+        '"' => f.write_str("\\\""),
+        '\\' => f.write_str("\\\\"),
+        '\0'..' ' => write!(f, "\\u{:04x}", u32::from(letter)),
+        _ => f.write_char(letter),
     }
 }
 

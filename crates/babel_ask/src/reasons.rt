@@ -1,7 +1,7 @@
 //! A sentence for each route of a prefix.
 
 use crate::cells::Cell;
-use crate::fields::{field, interface_name, is_of, word};
+use crate::fields::{Fields, field, interface_name, is_of, word};
 use crate::objects::Quoted;
 use babel_text::parse_prefix;
 use babel_value::{Addr, Prefix};
@@ -10,7 +10,7 @@ use std::io::{self, Write};
 use std::net::Ipv6Addr;
 
 /// A route of a prefix, by the words of its line: `PREFIX via N ADDRESS router .. STATUS`.
-#[derive(Clone, Copy, Debug)]
+#[derive(Clone, Copy)]
 struct Route<'l> {
     prefix: &'l str,
     address: &'l str,
@@ -38,19 +38,21 @@ impl fmt::Display for ShortAddress<'_> {
 
 /// The route of a line, if it is one.
 fn route_of<'l>(answer: &'l str, line: &'l str) -> Option<Route<'l>> {
-    if word(line, 1)? != "via" {
+    if word(line, 1) != Some("via") {
         return None;
     }
-    Some(Route {
-        prefix: word(line, 0)?,
-        address: word(line, 3)?,
-        device: interface_name(answer, word(line, 2)?),
-        advertised: field(line, "advertised")?,
-        cost: field(line, "cost")?,
-        metric: field(line, "metric")?,
+    let mut fields = Fields::new(line);
+    let route = Route {
+        prefix: fields.word(0),
+        address: fields.word(3),
+        device: interface_name(answer, fields.word(2)),
+        advertised: fields.field("advertised"),
+        cost: fields.field("cost"),
+        metric: fields.field("metric"),
         source: source_of(line),
-        status: line.split_ascii_whitespace().last()?,
-    })
+        status: fields.last(),
+    };
+    fields.is_whole().then_some(route)
 }
 
 /// The metric after `source SEQNO METRIC`; none after `source none`.
@@ -66,13 +68,7 @@ fn source_of(line: &str) -> Option<&str> {
 /// Writes a sentence for each route of the prefix, and for each neighbour without one whose Updates
 /// of it were ignored; or that this router announces it, or that there is none of these.
 pub(crate) fn write_reasons<W: Write>(answer: &str, prefix: &str, out: &mut W) -> io::Result<()> {
-    let mut has_route = false;
-    for line in answer.lines() {
-        if let Some(route) = route_of(answer, line) {
-            has_route = true;
-            write_reason(&route, out)?;
-        }
-    }
+    let has_route = write_routes(answer, out)?;
     if is_announced(answer, prefix) {
         return match has_route {
             // Its sentence names that.
@@ -84,6 +80,18 @@ pub(crate) fn write_reasons<W: Write>(answer: &str, prefix: &str, out: &mut W) -
         return Ok(());
     }
     writeln!(out, "{prefix}: no neighbour has advertised it")
+}
+
+/// Writes a sentence for each route of the prefix. Returns whether there is one.
+fn write_routes<W: Write>(answer: &str, out: &mut W) -> io::Result<bool> {
+    let mut has_one = false;
+    for line in answer.lines() {
+        if let Some(route) = route_of(answer, line) {
+            has_one = true;
+            write_reason(&route, out)?;
+        }
+    }
+    Ok(has_one)
 }
 
 /// Whether the dump has the prefix among those that the router announces.
@@ -124,21 +132,26 @@ fn has_route_of(answer: &str, ignored: &Ignored<'_>) -> bool {
 }
 
 fn write_ignored_by<W: Write>(ignored: &Ignored<'_>, out: &mut W) -> io::Result<()> {
-    let Ignored {
-        prefix,
-        address,
-        device,
-        count,
-        code,
-        ..
-    } = *ignored;
-    let from = ShortAddress(address);
-    let ago = Cell::Centiseconds(ignored.ago.parse::<u64>().unwrap_or(0));
+    let Ignored { prefix, device, .. } = *ignored;
+    let from = ShortAddress(ignored.address);
     write!(out, "{prefix}: {from} on {device} advertised it ")?;
+    write_times(ignored, out)?;
+    write_ignored_reason(ignored, out)
+}
+
+/// Writes how often the neighbour advertised the prefix, and when it did last.
+fn write_times<W: Write>(ignored: &Ignored<'_>, out: &mut W) -> io::Result<()> {
+    let count = ignored.count;
+    let ago = Cell::Centiseconds(ignored.ago.parse::<u64>().unwrap_or(0));
     match count {
-        "1" => write!(out, "once, {ago} ago")?,
-        _ => write!(out, "{count} times, the last time {ago} ago")?,
+        "1" => write!(out, "once, {ago} ago"),
+        _ => write!(out, "{count} times, the last time {ago} ago"),
     }
+}
+
+/// Writes why that was ignored, and ends the sentence.
+fn write_ignored_reason<W: Write>(ignored: &Ignored<'_>, out: &mut W) -> io::Result<()> {
+    let code = ignored.code;
     match ignored.kind {
         Some(kind) => writeln!(
             out,
@@ -154,7 +167,7 @@ fn write_ignored_by<W: Write>(ignored: &Ignored<'_>, out: &mut W) -> io::Result<
 
 /// Updates of a prefix that were ignored, by the words of their line: `PREFIX from N ADDRESS
 /// ignored COUNT ago TIME for CODE`.
-#[derive(Clone, Copy, Debug)]
+#[derive(Clone, Copy)]
 struct Ignored<'l> {
     prefix: &'l str,
     interface: &'l str,
@@ -169,19 +182,21 @@ struct Ignored<'l> {
 }
 
 fn ignored_of<'l>(answer: &'l str, line: &'l str) -> Option<Ignored<'l>> {
-    if word(line, 1)? != "from" || word(line, 4)? != "ignored" {
+    if word(line, 1) != Some("from") || word(line, 4) != Some("ignored") {
         return None;
     }
-    Some(Ignored {
-        prefix: word(line, 0)?,
-        interface: word(line, 2)?,
-        address: word(line, 3)?,
-        device: interface_name(answer, word(line, 2)?),
-        count: word(line, 5)?,
-        ago: word(line, 7)?,
-        code: word(line, 9)?,
+    let mut fields = Fields::new(line);
+    let ignored = Ignored {
+        prefix: fields.word(0),
+        interface: fields.word(2),
+        address: fields.word(3),
+        device: interface_name(answer, fields.word(2)),
+        count: fields.word(5),
+        ago: fields.word(7),
+        code: fields.word(9),
         kind: word(line, 10),
-    })
+    };
+    fields.is_whole().then_some(ignored)
 }
 
 /// What the code of an Update that was not stored means.
@@ -199,15 +214,15 @@ fn reason_of(code: &str) -> &'static str {
 }
 
 fn write_reason<W: Write>(route: &Route<'_>, out: &mut W) -> io::Result<()> {
-    let Route {
-        prefix,
-        address,
-        device,
-        metric,
-        ..
-    } = *route;
-    let via = ShortAddress(address);
+    let via = ShortAddress(route.address);
+    let device = route.device;
     write!(out, "via {via} on {device}: ")?;
+    write_use(route, out)
+}
+
+/// Writes whether the route is used, and why not, and ends the sentence.
+fn write_use<W: Write>(route: &Route<'_>, out: &mut W) -> io::Result<()> {
+    let Route { prefix, metric, .. } = *route;
     match route.status {
         "selected" => writeln!(out, "used, with metric {metric}"),
         "candidate" => writeln!(
@@ -272,14 +287,20 @@ pub(crate) fn write_reason_objects<W: Write>(
         writeln!(out, "{{\"prefix\":{prefix},\"status\":\"announced\"}}")?;
     }
     for line in answer.lines() {
-        if let Some(route) = route_of(answer, line) {
-            write_reason_object(&route, out)?;
-        }
-        if let Some(ignored) = ignored_of(answer, line) {
-            write_ignored_object(&ignored, out)?;
-        }
+        write_line_object(answer, line, out)?;
     }
     Ok(())
+}
+
+/// Writes the object of a line: that of a route, or of what was ignored. Other lines have none.
+fn write_line_object<W: Write>(answer: &str, line: &str, out: &mut W) -> io::Result<()> {
+    if let Some(route) = route_of(answer, line) {
+        return write_reason_object(&route, out);
+    }
+    match ignored_of(answer, line) {
+        Some(ignored) => write_ignored_object(&ignored, out),
+        None => Ok(()),
+    }
 }
 
 fn write_ignored_object<W: Write>(ignored: &Ignored<'_>, out: &mut W) -> io::Result<()> {

@@ -148,10 +148,8 @@ fn write_counts_object<W: Write>(answer: &str, out: &mut W) -> io::Result<()> {
         let (Some(name), Some(count)) = (words.next(), words.next()) else {
             break;
         };
-        if number > 0 {
-            write!(out, ",")?;
-        }
-        write!(out, "\"{name}\":")?;
+        let mark = if number == 0 { "" } else { "," };
+        write!(out, "{mark}\"{name}\":")?;
         write_value(count, ColumnKind::Number, out)?;
     }
     writeln!(out, "}}")

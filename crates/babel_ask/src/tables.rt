@@ -6,7 +6,7 @@ use crate::fields::{field, is_of};
 use std::io::{self, Write};
 
 /// Whether a table has colours.
-#[derive(Clone, Copy, Debug, PartialEq, Eq)]
+#[derive(Clone, Copy)]
 pub(crate) enum Colours {
     /// The head is bold, a row that is used is green, and one that can't be used is red.
     Shown,
