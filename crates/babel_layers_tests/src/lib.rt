@@ -1,5 +1,5 @@
-//! Tests and worked examples of the layers below the speaker: values, TLVs, datagrams read and built, links, tables, sources
-//! and routes.
+//! Tests and worked examples of the layers below the speaker: TLVs, datagrams read and built, links, tables, sources and
+//! routes.
 #![tactic(auto)]
 
 #[cfg(test)]
@@ -21,8 +21,4 @@ mod source_tests;
 #[cfg(test)]
 mod table_examples;
 #[cfg(test)]
-mod table_tests;
-#[cfg(test)]
 mod tlv_tests;
-#[cfg(test)]
-mod value_tests;
