@@ -1,12 +1,11 @@
 //! The speaker of a node, of which a network sees the state.
 
 ghost use Rattle.std.specs.Prelude.{◌≡◌, ◌≢◌, ◌<◌, ◌↔◌, ℕ, [], true, false, Some, slice_get, is_some, IsOk, IsErr, IsNone, IfOk, IfErr, IfSome, OnOk, OnErr};
-ghost use Rattle.babel_packet.specs.Meaning.{meaning};
-ghost use Rattle.babel_state.specs.Addresses.{source_fault, transport_at};
+ghost use Rattle.babel_state.specs.Addresses.{transport_at};
 ghost use Rattle.babel_state.specs.Calls.{set_cost_fault, cost_set, first_state, is_prefix_too_many, announced_also, withdrawn, selected_route};
 ghost use Rattle.babel_state.specs.Configs.{config_fault};
 ghost use Rattle.babel_state.specs.CurrentSelections.{AreCurrent};
-ghost use Rattle.babel_state.specs.Messages.{Receives, IsRecvFault};
+ghost use Rattle.babel_state.specs.Messages.{arrival_of, Receives, IsRecvFault};
 ghost use Rattle.babel_state.specs.Restarts.{snapshot_of, restored};
 ghost use Rattle.babel_state.specs.SeqnoRequests.{raised};
 ghost use Rattle.babel_state.specs.State.{announces, interface_at};
@@ -88,8 +87,8 @@ impl NodeSpeaker {
         source: Addr,
         octets: &[u8],
     ) -> Result<Vec<Note>, RecvFault>
-        ensures ok { IfOk result (λ notes. Receives now (record { iface = iface; addr = source }) (source_fault iface source self.old) (meaning octets.now source) self.old self.new notes.items) }
-        ensures refused { IfErr result (λ fault. IsRecvFault (source_fault iface source self.old) (meaning octets.now source) fault) }
+        ensures ok { IfOk result (λ notes. Receives (arrival_of now (record { iface = iface; addr = source }) octets.now) self.old self.new notes.items) }
+        ensures refused { IfErr result (λ fault. IsRecvFault (arrival_of now (record { iface = iface; addr = source }) octets.now) self.old fault) }
         ensures unchanged { OnErr result (self.new ≡ self.old) }
     {
         self.speaker.receive(now, iface, source, octets)

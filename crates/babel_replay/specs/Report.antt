@@ -8,8 +8,8 @@ use Rattle.babel_speaker.specs.Decodings.{DecodedValue}
 use Rattle.babel_state.specs.declared.items.Target.{Target}
 use Rattle.babel_state.specs.declared.notes.Note.{Note}
 use Rattle.babel_state.specs.State.{State}
-use Rattle.babel_text.specs.declared.log_lines.Action.{Action}
 use Rattle.babel_speaker.specs.Sending.{draft_at}
+use Rattle.babel_text.specs.declared.log_lines.Action.{Action}
 use Rattle.babel_text.specs.declared.log_lines.Action.TheVariants as actions
 use Rattle.babel_replay.specs.declared.stepping.Outcome.{Outcome}
 use Rattle.babel_replay.specs.declared.stepping.Outcome.TheVariants as outcomes

@@ -2,12 +2,10 @@
 use Rattle.std.specs.Prelude.{◌≡◌, ◌≢◌, ℕ, Bool, true, false, List, Some, IsNone, nat_lt}
 use Rattle.babel_value.specs.declared.addresses.Addr.{Addr}
 use Rattle.babel_message.specs.declared.errors.Refusal.TheVariants as packets
-use Rattle.babel_packet.specs.Meaning.{meaning}
 use Rattle.babel_state.specs.declared.errors.RecvFault.TheVariants as refusals
 use Rattle.babel_state.specs.declared.errors.SetCostFault.TheVariants as costs
-use Rattle.babel_state.specs.Addresses.{source_fault}
 use Rattle.babel_state.specs.Calls.{set_cost_fault, cost_set}
-use Rattle.babel_state.specs.Messages.{Receives, IsRecvFault}
+use Rattle.babel_state.specs.Messages.{arrival_of, Receives, IsRecvFault}
 use Rattle.babel_state.specs.State.{State}
 use Rattle.babel_state.specs.Ticks.{ticked}
 use Rattle.babel_text.specs.declared.log_lines.Action.{Action}
@@ -18,9 +16,9 @@ use Rattle.babel_replay.specs.declared.stepping.Outcome.TheVariants as outcomes
 -- A datagram is taken with a note for each TLV, or refused. Memory is no refusal.
 abbrev pub TakesDatagram : ℕ → ℕ → Addr → List ℕ → State → State → Outcome → Type 0
 TakesDatagram time iface source octets old new (outcomes.Notes notes) =
-    Receives time (record { iface = iface; addr = source }) (source_fault iface source old) (meaning octets source) old new notes.items
+    Receives (arrival_of time (record { iface = iface; addr = source }) octets) old new notes.items
 TakesDatagram time iface source octets old new (outcomes.Refused fault) =
-    (new ≡ old) × IsRecvFault (source_fault iface source old) (meaning octets source) fault × (fault ≢ refusals.Refused packets.Memory)
+    (new ≡ old) × IsRecvFault (arrival_of time (record { iface = iface; addr = source }) octets) old fault × (fault ≢ refusals.Refused packets.Memory)
 TakesDatagram time iface source octets old new outcome = ⊥
 
 -- A cost is set, or refused.

@@ -2,9 +2,8 @@
 
 ghost use Rattle.std.specs.Prelude.{◌≡◌, ◌<◌, Ok, IfOk, IfErr, IfSome, OnErr, IsFalse};
 ghost use Rattle.babel_packet.specs.Meaning.{meaning};
-ghost use Rattle.babel_state.specs.Addresses.{source_fault};
 ghost use Rattle.babel_state.specs.KeptRoutes.{KeepsRoutes};
-ghost use Rattle.babel_state.specs.Messages.{Receives, IsRecvFault};
+ghost use Rattle.babel_state.specs.Messages.{arrival_of, Receives, IsRecvFault};
 ghost use Rattle.babel_replay.specs.Report.{IsDecodedAs};
 ghost use Rattle.babel_replay.specs.Stepping.{Steps};
 ghost use Rattle.babel_speaker.specs.Versions.{greatest_version, CountsChanges};
@@ -38,8 +37,8 @@ fn receive(
     decoded: Option<&Decoded>,
 ) -> Result<Vec<Note>, RecvFault>
     requires decoded { IfSome decoded (λ d. (d.now.source ≡ peer.addr) × (meaning octets.now peer.addr ≡ Ok d.now.placed)) }
-    ensures ok { IfOk result (λ notes. Receives time (record { iface = peer.iface; addr = peer.addr }) (source_fault peer.iface peer.addr speaker.old.state) (meaning octets.now peer.addr) speaker.old.state speaker.new.state notes.items) }
-    ensures refused { IfErr result (IsRecvFault (source_fault peer.iface peer.addr speaker.old.state) (meaning octets.now peer.addr)) }
+    ensures ok { IfOk result (λ notes. Receives (arrival_of time (record { iface = peer.iface; addr = peer.addr }) octets.now) speaker.old.state speaker.new.state notes.items) }
+    ensures refused { IfErr result (IsRecvFault (arrival_of time (record { iface = peer.iface; addr = peer.addr }) octets.now) speaker.old.state) }
     ensures unchanged { OnErr result (speaker.new ≡ speaker.old) }
     ensures counted { CountsChanges speaker.old speaker.new }
 {
@@ -59,8 +58,8 @@ fn receive_decoded(
 ) -> Result<Vec<Note>, RecvFault>
     requires source { decoded.now.source ≡ peer.addr }
     requires decoded { meaning octets.now peer.addr ≡ Ok decoded.now.placed }
-    ensures ok { IfOk result (λ notes. Receives time (record { iface = peer.iface; addr = peer.addr }) (source_fault peer.iface peer.addr speaker.old.state) (meaning octets.now peer.addr) speaker.old.state speaker.new.state notes.items) }
-    ensures refused { IfErr result (IsRecvFault (source_fault peer.iface peer.addr speaker.old.state) (meaning octets.now peer.addr)) }
+    ensures ok { IfOk result (λ notes. Receives (arrival_of time (record { iface = peer.iface; addr = peer.addr }) octets.now) speaker.old.state speaker.new.state notes.items) }
+    ensures refused { IfErr result (IsRecvFault (arrival_of time (record { iface = peer.iface; addr = peer.addr }) octets.now) speaker.old.state) }
     ensures unchanged { OnErr result (speaker.new ≡ speaker.old) }
     ensures counted { CountsChanges speaker.old speaker.new }
 {

@@ -5,18 +5,16 @@ use Rattle.std.specs.Option.{option_and_then}
 use Rattle.std.proofs.Common.{refl, sym, subst, ◌∙◌}
 use Rattle.std.proofs.lemmas.Bool.{false≢true}
 use Rattle.std.proofs.lemmas.Option.{get_or_from_slice_get, slice_get_within}
-use Rattle.babel_value.specs.declared.keys.Peer.{Peer}
 use Rattle.babel_message.specs.declared.errors.Refusal.{Refusal}
 use Rattle.babel_message.specs.declared.placements.Placed.{Placed}
 use Rattle.babel_packet.specs.Meaning.{messages_of}
-use Rattle.babel_state.specs.declared.errors.RecvFault.{RecvFault}
 use Rattle.babel_state.specs.declared.items.Target.{Target}
 use Rattle.babel_state.specs.declared.notes.Note.{Note}
 use Rattle.babel_state.specs.declared.interfaces.InterfaceEntry.{InterfaceEntry}
 use Rattle.babel_state.specs.Addresses.{transport_of, transport_at}
 use Rattle.babel_state.specs.CurrentSelections.{IsCurrentAt, KeepsCurrent, PlacesKeepCurrent, AreInHalf}
 use Rattle.babel_state.specs.Invariants.{IsUsable, IsWellFormed, SendingKeepsCurrentInHalf}
-use Rattle.babel_state.specs.Messages.{Receives}
+use Rattle.babel_state.specs.Messages.{Arrival, Receives}
 use Rattle.babel_state.specs.QueueLaws.{is_silent, DatagramsAreEncodable}
 use Rattle.babel_state.specs.Seen.{seen, updates_among, Sends}
 use Rattle.babel_state.specs.SeenLaws.{AreEncodable, PlacesMove, MovesByDatagram, DatagramsSend, NoDatagramChangesNothing}
@@ -69,16 +67,16 @@ pub can_decode : (placed : List Placed) → AreEncodable (messages_of placed) �
 unfolding placed_or
 can_decode placed encodable others is = subst (λ read. AreEncodable (messages_of (placed_or read placed))) is encodable
 
-pub received_well : {N E : Type 0} (result : Result N E) (items : N → List Note) (now : ℕ) (peer : Peer) (fault : Option RecvFault) (read : Result (List Placed) Refusal) (core new : State) →
-    PlacesMove → CanDecode read → IfOk result (λ n. Receives now peer fault read core new (items n)) → OnErr result (new ≡ core) → IsWellFormed core → IsWellFormed new
-received_well (Ok n) items now peer fault read core new law each r same well = subst IsWellFormed (sym r.3) (law now peer r.0 core (each r.0 r.2) well).0
-received_well (Err e) items now peer fault read core new law each r same well = subst IsWellFormed (sym same) well
+pub received_well : {N E : Type 0} (result : Result N E) (items : N → List Note) (arrival : Arrival) (core new : State) →
+    PlacesMove → CanDecode arrival.read → IfOk result (λ n. Receives arrival core new (items n)) → OnErr result (new ≡ core) → IsWellFormed core → IsWellFormed new
+received_well (Ok n) items arrival core new law each r same well = subst IsWellFormed (sym r.3) (law arrival.now arrival.peer r.0 core (each r.0 r.2) well).0
+received_well (Err e) items arrival core new law each r same well = subst IsWellFormed (sym same) well
 
-pub received_moves : {N E : Type 0} (result : Result N E) (items : N → List Note) (now : ℕ) (peer : Peer) (fault : Option RecvFault) (read : Result (List Placed) Refusal) (old core new : State) →
-    PlacesMove → CanDecode read → core ≡ old → IfOk result (λ n. Receives now peer fault read core new (items n)) → IsWellFormed core → OnOk result (MovesByDatagram peer read old new)
-received_moves (Ok n) items now peer fault read old core new law each view r well =
-    through (λ o t. MovesByDatagram peer read o t) old core new _ view r.3 (r.0, r.2, (law now peer r.0 core (each r.0 r.2) well).1)
-received_moves (Err e) items now peer fault read old core new law each view r well = tt
+pub received_moves : {N E : Type 0} (result : Result N E) (items : N → List Note) (arrival : Arrival) (old core new : State) →
+    PlacesMove → CanDecode arrival.read → core ≡ old → IfOk result (λ n. Receives arrival core new (items n)) → IsWellFormed core → OnOk result (MovesByDatagram arrival.peer arrival.read old new)
+received_moves (Ok n) items arrival old core new law each view r well =
+    through (λ o t. MovesByDatagram arrival.peer arrival.read o t) old core new _ view r.3 (r.0, r.2, (law arrival.now arrival.peer r.0 core (each r.0 r.2) well).1)
+received_moves (Err e) items arrival old core new law each view r well = tt
 
 -- ---- a datagram that is sent
 
@@ -125,11 +123,11 @@ none_through result old core view well iff = subst (λ o. IsNone result ↔ (is_
 
 -- ---- current selections
 
-pub received_current : {N E : Type 0} (result : Result N E) (items : N → List Note) (now : ℕ) (peer : Peer) (fault : Option RecvFault) (read : Result (List Placed) Refusal) (old core new : State) →
-    PlacesKeepCurrent → core ≡ old → IfOk result (λ n. Receives now peer fault read core new (items n)) → IsWellFormed core → OnOk result (KeepsCurrent old new)
-received_current (Ok n) items now peer fault read old core new law view r well =
-    through KeepsCurrent old core new _ view r.3 (law now peer r.0 core well.tables.routes.entries_in_order)
-received_current (Err e) items now peer fault read old core new law view r well = tt
+pub received_current : {N E : Type 0} (result : Result N E) (items : N → List Note) (arrival : Arrival) (old core new : State) →
+    PlacesKeepCurrent → core ≡ old → IfOk result (λ n. Receives arrival core new (items n)) → IsWellFormed core → OnOk result (KeepsCurrent old new)
+received_current (Ok n) items arrival old core new law view r well =
+    through KeepsCurrent old core new _ view r.3 (law arrival.now arrival.peer r.0 core well.tables.routes.entries_in_order)
+received_current (Err e) items arrival old core new law view r well = tt
 
 abbrev IsKeptInHalf : State → State → Type 0
 IsKeptInHalf old new = (first : ℕ) (prefix : PrefixValue) → AreInHalf first prefix old → IsCurrentAt prefix old → IsCurrentAt prefix new

@@ -1,24 +1,20 @@
 -- What leaves the snapshot of a speaker as it is.
-use Rattle.std.specs.Prelude.{◌≡◌, ◌⊎◌, ℕ, Bool, true, false, List, [], ◌∷◌, slice_set, Option, Some, None, Result, Ok, Err, if◌then◌else◌}
+use Rattle.std.specs.Prelude.{◌≡◌, ◌⊎◌, ℕ, Bool, true, false, List, [], ◌∷◌, slice_set, Option, Some, None, if◌then◌else◌}
 use Rattle.std.specs.Option.{option_map_or}
-use Rattle.std.proofs.Common.{refl, sym, ◌∙◌, ap, inl, inr}
-use Rattle.babel_value.specs.declared.distances.Distance.{Distance}
+use Rattle.std.proofs.Common.{refl, ◌∙◌, ap, inl, inr}
 use Rattle.babel_value.specs.declared.keys.Peer.{Peer}
-use Rattle.babel_value.specs.declared.keys.Source.{Source}
 use Rattle.babel_value.specs.Prefixes.{PrefixValue}
-use Rattle.babel_message.specs.declared.errors.Refusal.{Refusal}
 use Rattle.babel_message.specs.declared.placements.Content.{Content}
 use Rattle.babel_message.specs.declared.placements.Content.TheVariants as contents
 use Rattle.babel_message.specs.declared.placements.Placed.{Placed}
-use Rattle.babel_state.specs.declared.errors.RecvFault.{RecvFault}
 use Rattle.babel_state.specs.declared.interfaces.InterfaceEntry.{InterfaceEntry}
 use Rattle.babel_state.specs.declared.notes.Note.{Note}
 use Rattle.babel_state.specs.Calls.{cost_set, announced_also, withdrawn}
-use Rattle.babel_state.specs.Messages.{handle_message, handle_content, after_places, Receives}
+use Rattle.babel_state.specs.Messages.{Arrival, handle_message, handle_content, after_places, Receives}
 use Rattle.babel_state.specs.NextDatagram.{left_out_more}
-use Rattle.babel_state.specs.Restarts.{Snapshot, kept_source, snapshot_of}
+use Rattle.babel_state.specs.Restarts.{Snapshot, snapshot_of}
 use Rattle.babel_state.specs.State.{State, interface_at, announces}
-use Rattle.babel_state.specs.StepLaws.{OwnValue, own_of, grown, KeepsOwn, GrowsOnce}
+use Rattle.babel_state.specs.StepLaws.{OwnValue, own_of, KeepsOwn, GrowsOnce}
 use Rattle.babel_state.proofs.Keeping.{message_own}
 use Rattle.babel_speaker.specs.SentMessages.{without_front}
 use Rattle.babel_speaker.specs.Versions.{KeepsSnapshot}
@@ -70,10 +66,10 @@ unfolding snapshot_of
 same_parts s t (router, sources) seqno raises =
     λ i. snapshot_of (record s { router = router i; seqno = seqno i; raises = raises i; sources = sources i })
 
-pub received_snapshot : (now : ℕ) (peer : Peer) (fault : Option RecvFault) (read : Result (List Placed) Refusal) (s t : State) (notes : List Note) →
-    Receives now peer fault read s t notes → t.seqno ≡ s.seqno → t.raises ≡ s.raises → snapshot_of t ≡ snapshot_of s
-received_snapshot now peer fault read s t notes received seqno raises =
-    let kept = places_sources now peer received.0 s in
+pub received_snapshot : (arrival : Arrival) (s t : State) (notes : List Note) →
+    Receives arrival s t notes → t.seqno ≡ s.seqno → t.raises ≡ s.raises → snapshot_of t ≡ snapshot_of s
+received_snapshot arrival s t notes received seqno raises =
+    let kept = places_sources arrival.now arrival.peer received.0 s in
     same_parts s t (ap (λ (t : State). t.router) received.3 ∙ kept.0, ap (λ (t : State). t.sources) received.3 ∙ kept.1) seqno raises
 
 -- ---- other calls

@@ -2,13 +2,12 @@
 //! and IHUs that change no cost, and ticks in which no deadline is due, select no route again.
 
 ghost use Rattle.std.specs.Prelude.{◌≡◌, ◌≢◌, ◌<◌, ◌↔◌, ℕ, [], true, false, Ok, Some, IsOk, IsErr, IsNone, IfOk, IfErr, IfSome, OnOk, OnErr, IsFalse};
-ghost use Rattle.babel_packet.specs.Meaning.{meaning};
-ghost use Rattle.babel_state.specs.Addresses.{source_fault, transport_at};
+ghost use Rattle.babel_state.specs.Addresses.{transport_at};
 ghost use Rattle.babel_speaker.specs.Deadlines.{next_deadline};
 ghost use Rattle.babel_state.specs.CurrentSelections.{AreCurrent};
 ghost use Rattle.babel_state.specs.Calls.{set_cost_fault, cost_set, first_state, is_prefix_too_many, announced_also, withdrawn};
 ghost use Rattle.babel_state.specs.Configs.{config_fault};
-ghost use Rattle.babel_state.specs.Messages.{Receives, IsRecvFault};
+ghost use Rattle.babel_state.specs.Messages.{arrival_of, Receives, IsRecvFault};
 ghost use Rattle.babel_state.specs.NextDatagram.{next_datagram};
 ghost use Rattle.babel_state.specs.SeqnoRequests.{raised};
 ghost use Rattle.babel_state.specs.State.{announces};
@@ -119,8 +118,8 @@ impl SettledCore {
         arrival: Arrival,
         octets: &[u8],
     ) -> Result<Vec<Note>, RecvFault>
-        ensures ok { IfOk result (λ notes. Receives arrival.now arrival.peer (source_fault arrival.peer.iface arrival.peer.addr self.old.state) (meaning octets.now arrival.peer.addr) self.old.state self.new.state notes.items) }
-        ensures refused { IfErr result (λ fault. IsRecvFault (source_fault arrival.peer.iface arrival.peer.addr self.old.state) (meaning octets.now arrival.peer.addr) fault) }
+        ensures ok { IfOk result (λ notes. Receives (arrival_of arrival.now arrival.peer octets.now) self.old.state self.new.state notes.items) }
+        ensures refused { IfErr result (λ fault. IsRecvFault (arrival_of arrival.now arrival.peer octets.now) self.old.state fault) }
         ensures unchanged { OnErr result (self.new ≡ self.old) }
         ensures counted { CountsChanges self.old self.new }
     {
@@ -144,8 +143,8 @@ impl SettledCore {
         arrival: Arrival,
         placed: &[Placed],
     ) -> Result<Vec<Note>, RecvFault>
-        ensures ok { IfOk result (λ notes. Receives arrival.now arrival.peer (source_fault arrival.peer.iface arrival.peer.addr self.old.state) (Ok placed.now) self.old.state self.new.state notes.items) }
-        ensures refused { IfErr result (λ fault. IsRecvFault (source_fault arrival.peer.iface arrival.peer.addr self.old.state) (Ok placed.now) fault) }
+        ensures ok { IfOk result (λ notes. Receives (record { now = arrival.now; peer = arrival.peer; read = Ok placed.now }) self.old.state self.new.state notes.items) }
+        ensures refused { IfErr result (λ fault. IsRecvFault (record { now = arrival.now; peer = arrival.peer; read = Ok placed.now }) self.old.state fault) }
         ensures unchanged { OnErr result (self.new ≡ self.old) }
         ensures counted { CountsChanges self.old self.new }
     {

@@ -4,12 +4,12 @@
 ghost use Rattle.std.specs.Prelude.{◌≡◌, ◌≢◌, ◌≤◌, ◌<◌, ◌↔◌, ℕ, [], true, false, Ok, Some, length, slice_get, IsOk, IsErr, IsNone, IfOk, IfErr, IfSome, OnOk, OnErr, option_map};
 ghost use Rattle.babel_packet.specs.Meaning.{meaning};
 ghost use Rattle.babel_route.specs.Selections.{prefix_after};
-ghost use Rattle.babel_state.specs.Addresses.{source_fault, transport_at};
+ghost use Rattle.babel_state.specs.Addresses.{transport_at};
 ghost use Rattle.babel_state.specs.Calls.{set_cost_fault, cost_set, first_state, is_prefix_too_many, announced_also, withdrawn, selected_route, reported_entries};
 ghost use Rattle.babel_state.specs.Configs.{config_fault};
 ghost use Rattle.babel_state.specs.Limits.{most_pending};
 ghost use Rattle.babel_state.specs.KeptRoutes.{KeepsRoutes};
-ghost use Rattle.babel_state.specs.Messages.{Receives, IsRecvFault};
+ghost use Rattle.babel_state.specs.Messages.{arrival_of, Receives, IsRecvFault};
 ghost use Rattle.babel_state.specs.CurrentSelections.{AreCurrent, AreInHalf, IsCurrentAt, KeepsCurrent, KeepsSelections};
 ghost use Rattle.babel_state.specs.QueueLaws.{is_silent};
 ghost use Rattle.babel_state.specs.Seen.{seen, updates_among, announcing_also, announcing_without, IsNew, IsSelecting, Sends};
@@ -199,8 +199,8 @@ impl Speaker {
         source: Addr,
         octets: &[u8],
     ) -> Result<Vec<Note>, RecvFault>
-        ensures ok { IfOk result (λ notes. Receives now (record { iface = iface; addr = source }) (source_fault iface source self.old.state) (meaning octets.now source) self.old.state self.new.state notes.items) }
-        ensures refused { IfErr result (λ fault. IsRecvFault (source_fault iface source self.old.state) (meaning octets.now source) fault) }
+        ensures ok { IfOk result (λ notes. Receives (arrival_of now (record { iface = iface; addr = source }) octets.now) self.old.state self.new.state notes.items) }
+        ensures refused { IfErr result (λ fault. IsRecvFault (arrival_of now (record { iface = iface; addr = source }) octets.now) self.old.state fault) }
         ensures unchanged { OnErr result (self.new ≡ self.old) }
         ensures moves { OnOk result (MovesByDatagram (record { iface = iface; addr = source }) (meaning octets.now source) self.old.state self.new.state) }
         ensures current { OnOk result (KeepsCurrent self.old.state self.new.state) }
@@ -222,8 +222,8 @@ impl Speaker {
         iface: u8,
         decoded: &Decoded,
     ) -> Result<Vec<Note>, RecvFault>
-        ensures ok { IfOk result (λ notes. Receives now (record { iface = iface; addr = decoded.now.source }) (source_fault iface decoded.now.source self.old.state) (Ok decoded.now.placed) self.old.state self.new.state notes.items) }
-        ensures refused { IfErr result (λ fault. IsRecvFault (source_fault iface decoded.now.source self.old.state) (Ok decoded.now.placed) fault) }
+        ensures ok { IfOk result (λ notes. Receives (record { now = now; peer = record { iface = iface; addr = decoded.now.source }; read = Ok decoded.now.placed }) self.old.state self.new.state notes.items) }
+        ensures refused { IfErr result (λ fault. IsRecvFault (record { now = now; peer = record { iface = iface; addr = decoded.now.source }; read = Ok decoded.now.placed }) self.old.state fault) }
         ensures unchanged { OnErr result (self.new ≡ self.old) }
         ensures moves { OnOk result (MovesByDatagram (record { iface = iface; addr = decoded.now.source }) (Ok decoded.now.placed) self.old.state self.new.state) }
         ensures current { OnOk result (KeepsCurrent self.old.state self.new.state) }

@@ -7,13 +7,14 @@ use Rattle.babel_message.specs.declared.placements.Content.{Content}
 use Rattle.babel_message.specs.declared.placements.Content.TheVariants as contents
 use Rattle.babel_message.specs.declared.placements.Placed.{Placed}
 use Rattle.babel_message.specs.declared.errors.Refusal.{Refusal}
-use Rattle.babel_packet.specs.Meaning.{Refuses}
+use Rattle.babel_packet.specs.Meaning.{meaning, Refuses}
 use Rattle.babel_state.specs.declared.items.Item.TheVariants as items
 use Rattle.babel_state.specs.declared.notes.Note.{Note}
 use Rattle.babel_state.specs.declared.errors.RecvFault.{RecvFault}
 use Rattle.babel_state.specs.declared.errors.RecvFault.TheVariants as faults
 use Rattle.babel_state.specs.declared.notes.Verdict.TheVariants as verdicts
 use Rattle.babel_state.specs.State.{State, is_neighbour}
+use Rattle.babel_state.specs.Addresses.{source_fault}
 use Rattle.babel_state.specs.Reselection.{queue}
 use Rattle.babel_state.specs.Hellos.{Step, handle_hello, handle_ihu}
 use Rattle.babel_state.specs.Updates.{handle_update, handle_retraction, handle_retract_all}
@@ -57,12 +58,30 @@ notes_of now peer (x ∷ xs) s =
     (record { offset = x.offset; verdict = (handle_content now peer x.content s).1 }) ∷
     notes_of now peer xs (handle_content now peer x.content s).0
 
+-- A datagram that came: when, over which interface and from which address, and what is read in it.
+pub record Arrival : Type 0 where
+  pub now : ℕ
+  pub peer : Peer
+  pub read : Result (List Placed) Refusal
+
+-- The datagram that has these octets.
+abbrev pub arrival_of : ℕ → Peer → List ℕ → Arrival
+arrival_of now peer octets = record { now = now; peer = peer; read = meaning octets peer.addr }
+
+-- Why a speaker takes no datagram from its address, if so.
+abbrev pub address_fault : Arrival → State → Option RecvFault
+address_fault arrival s = source_fault arrival.peer.iface arrival.peer.addr s
+
 -- A datagram's fault is the address's, if there is one, else the one by which it can't be read.
-abbrev pub IsRecvFault : Option RecvFault → Result (List Placed) Refusal → RecvFault → Type 0
-IsRecvFault (Some fault) read returned = returned ≡ fault
-IsRecvFault None read returned = (refusal : Refusal) × (returned ≡ faults.Refused refusal) × Refuses refusal read
+abbrev pub IsFirstFault : Option RecvFault → Result (List Placed) Refusal → RecvFault → Type 0
+IsFirstFault (Some fault) read returned = returned ≡ fault
+IsFirstFault None read returned = (refusal : Refusal) × (returned ≡ faults.Refused refusal) × Refuses refusal read
+
+abbrev pub IsRecvFault : Arrival → State → RecvFault → Type 0
+IsRecvFault arrival old returned = IsFirstFault (address_fault arrival old) arrival.read returned
 
 -- What `receive` does if it returns notes: there is no fault, and the places of the datagram are taken, with a note for each.
-abbrev pub Receives : ℕ → Peer → Option RecvFault → Result (List Placed) Refusal → State → State → List Note → Type 0
-Receives now peer fault read old new notes =
-    (placed : List Placed) × (fault ≡ None) × (read ≡ Ok placed) × (new ≡ after_places now peer placed old) × (notes ≡ notes_of now peer placed old)
+abbrev pub Receives : Arrival → State → State → List Note → Type 0
+Receives arrival old new notes =
+    (placed : List Placed) × (address_fault arrival old ≡ None) × (arrival.read ≡ Ok placed)
+    × (new ≡ after_places arrival.now arrival.peer placed old) × (notes ≡ notes_of arrival.now arrival.peer placed old)

@@ -1,9 +1,8 @@
 -- The turns in which a speaker is driven over a wire (profile).
 use Rattle.std.specs.Prelude.{◌≡◌, ◌⊎◌, ◌<◌, ◌+◌, ℕ, Bool, true, false, not, List, [], ◌∷◌, ◌++◌, map, length, sum_by, count_by, Option, Some, None, if◌then◌else◌}
-use Rattle.babel_packet.specs.Meaning.{meaning}
 use Rattle.babel_state.specs.declared.errors.RecvFault.{RecvFault}
 use Rattle.babel_state.specs.declared.notes.Note.{Note}
-use Rattle.babel_state.specs.Addresses.{source_fault, transport_at}
+use Rattle.babel_state.specs.Addresses.{transport_at}
 use Rattle.babel_state.specs.Messages as messages
 use Rattle.babel_state.specs.State.{State}
 use Rattle.babel_state.specs.Ticks.{ticked}
@@ -33,14 +32,14 @@ calls_of (t ∷ ts) = calls_of_turn t ++ calls_of ts
 -- A datagram that came is passed to the speaker, which takes it or refuses it.
 abbrev pub Receives : ℕ → Receipt → Bool → State → State → Type 0
 Receives now (Datagram iface source octets) false old new =
-    (notes : List Note) × messages.Receives now (record { iface = iface; addr = source }) (source_fault iface source old) (meaning octets source) old new notes
+    (notes : List Note) × messages.Receives (messages.arrival_of now (record { iface = iface; addr = source }) octets) old new notes
 Receives now (Datagram iface source octets) true old new =
-    (new ≡ old) × ((fault : RecvFault) × messages.IsRecvFault (source_fault iface source old) (meaning octets source) fault)
+    (new ≡ old) × ((fault : RecvFault) × messages.IsRecvFault (messages.arrival_of now (record { iface = iface; addr = source }) octets) old fault)
 Receives now Nothing is_refused old new = (is_refused ≡ false) × (new ≡ old)
 Receives now Failed is_refused old new = (is_refused ≡ false) × (new ≡ old)
 
--- The speaker's next datagram is what the wire was given to send: it has its target, and its messages are the meaning of the octets. These are the ones that the
--- builder makes of the messages, and no others.
+-- The speaker's next datagram is what the wire was given to send: it has its target, and its messages are the meaning of the octets.
+-- These are the ones that the builder makes of the messages, and no others.
 pub record IsDraftSent (now : ℕ) (s : State) (sending : Sending) : Type 0 where
   pub target : (draft_at now s).target ≡ Some sending.target
   pub octets : MeansFrom (transport_at sending.target.iface s) sending.octets (draft_at now s).messages

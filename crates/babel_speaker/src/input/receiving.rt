@@ -1,12 +1,10 @@
 //! A datagram, from its octets to the notes of its TLVs.
 
 ghost use Rattle.std.specs.Prelude.{◌≡◌, ◌+◌, ◌≤◌, ◌<◌, ◌++◌, ◌∷◌, [], length, vec_len, vec_capacity, Ok, IfOk, IfErr, OnOk, OnErr, IsTrue, IsFalse};
-ghost use Rattle.babel_packet.specs.Meaning.{meaning};
 ghost use Rattle.babel_value.specs.declared.keys.Peer.{Peer};
-ghost use Rattle.babel_state.specs.Addresses.{source_fault};
 ghost use Rattle.babel_state.specs.CurrentSelections.{AreCurrent};
 ghost use Rattle.babel_state.specs.KeptRoutes.{KeepsRoutes};
-ghost use Rattle.babel_state.specs.Messages.{handle_content, after_places, notes_of, IsRecvFault, Receives};
+ghost use Rattle.babel_state.specs.Messages.{arrival_of, handle_content, after_places, notes_of, IsRecvFault, Receives};
 
 use crate::hints::Hints;
 use crate::input::messages::handle_content;
@@ -132,8 +130,8 @@ pub(crate) fn receive(
     hints: &mut Hints,
 ) -> Result<Vec<Note>, RecvFault>
     requires settled { IsTrue hints.old.settled → AreCurrent core.old }
-    ensures ok { IfOk result (λ notes. Receives arrival.now arrival.peer (source_fault arrival.peer.iface arrival.peer.addr core.old) (meaning octets.now arrival.peer.addr) core.old core.new notes.items) }
-    ensures refused { IfErr result (λ fault. IsRecvFault (source_fault arrival.peer.iface arrival.peer.addr core.old) (meaning octets.now arrival.peer.addr) fault) }
+    ensures ok { IfOk result (λ notes. Receives (arrival_of arrival.now arrival.peer octets.now) core.old core.new notes.items) }
+    ensures refused { IfErr result (λ fault. IsRecvFault (arrival_of arrival.now arrival.peer octets.now) core.old fault) }
     ensures unchanged { OnErr result (core.new ≡ core.old) }
     ensures current { IsTrue hints.new.settled → AreCurrent core.new }
     ensures kept { IsFalse hints.new.changed → KeepsRoutes core.old core.new }
@@ -158,8 +156,8 @@ pub(crate) fn receive_decoded(
     hints: &mut Hints,
 ) -> Result<Vec<Note>, RecvFault>
     requires settled { IsTrue hints.old.settled → AreCurrent core.old }
-    ensures ok { IfOk result (λ notes. Receives arrival.now arrival.peer (source_fault arrival.peer.iface arrival.peer.addr core.old) (Ok placed.now) core.old core.new notes.items) }
-    ensures refused { IfErr result (λ fault. IsRecvFault (source_fault arrival.peer.iface arrival.peer.addr core.old) (Ok placed.now) fault) }
+    ensures ok { IfOk result (λ notes. Receives (record { now = arrival.now; peer = arrival.peer; read = Ok placed.now }) core.old core.new notes.items) }
+    ensures refused { IfErr result (λ fault. IsRecvFault (record { now = arrival.now; peer = arrival.peer; read = Ok placed.now }) core.old fault) }
     ensures unchanged { OnErr result (core.new ≡ core.old) }
     ensures current { IsTrue hints.new.settled → AreCurrent core.new }
     ensures kept { IsFalse hints.new.changed → KeepsRoutes core.old core.new }

@@ -1,5 +1,6 @@
 -- The snapshot changes by a datagram only if the own seqno grows.
 use Rattle.std.proofs.Common.{◌∙◌}
+use Rattle.babel_state.specs.Messages.{arrival_of}
 use Rattle.babel_speaker.specs.Versions.{SpeakerValue}
 use Rattle.babel_speaker.proofs.Counting.{counts, counts_from}
 use Rattle.babel_speaker.proofs.Snapshots.{received_snapshot}
@@ -12,4 +13,4 @@ returns-clause-counted c =
     counts_from before c.args.self.now after c.self.view_is
     (counts before after c.receive.new.hints.changed c.has_grown.result (record { grows = c.note.ensures.grows; counted = c.note.ensures.counted })
     (record { grows = c.note-2.ensures.grows; counted = c.note-2.ensures.counted }) c.receive.ensures.kept
-    (λ same. received_snapshot c.args.arrival.now _ _ _ c.self.inside.core c.receive.new.core _ c.in-Ok.ensures.ok (c.has_grown.ensures.seqno same ∙ c.own_seqno-seqno.ensures) (c.has_grown.ensures.raises same ∙ c.raises-raises.ensures)))
+    (λ same. received_snapshot (arrival_of c.args.arrival.now c.args.arrival.peer c.args.octets.now) c.self.inside.core c.receive.new.core _ c.in-Ok.ensures.ok (c.has_grown.ensures.seqno same ∙ c.own_seqno-seqno.ensures) (c.has_grown.ensures.raises same ∙ c.raises-raises.ensures)))

@@ -1,4 +1,5 @@
 -- The snapshot changes by a datagram only if the own seqno grows.
+use Rattle.std.specs.Prelude.{Ok}
 use Rattle.std.proofs.Common.{◌∙◌}
 use Rattle.babel_speaker.specs.Versions.{SpeakerValue}
 use Rattle.babel_speaker.proofs.Counting.{counts, counts_from}
@@ -12,4 +13,4 @@ returns-clause-counted c =
     counts_from before c.args.self.now after c.self.view_is
     (counts before after c.receive_decoded.new.hints.changed c.has_grown.result (record { grows = c.note.ensures.grows; counted = c.note.ensures.counted })
     (record { grows = c.note-2.ensures.grows; counted = c.note-2.ensures.counted }) c.receive_decoded.ensures.kept
-    (λ same. received_snapshot c.args.arrival.now _ _ _ c.self.inside.core c.receive_decoded.new.core _ c.in-Ok.ensures.ok (c.has_grown.ensures.seqno same ∙ c.own_seqno-seqno.ensures) (c.has_grown.ensures.raises same ∙ c.raises-raises.ensures)))
+    (λ same. received_snapshot (record { now = c.args.arrival.now; peer = c.args.arrival.peer; read = Ok c.args.placed.now }) c.self.inside.core c.receive_decoded.new.core _ c.in-Ok.ensures.ok (c.has_grown.ensures.seqno same ∙ c.own_seqno-seqno.ensures) (c.has_grown.ensures.raises same ∙ c.raises-raises.ensures)))
