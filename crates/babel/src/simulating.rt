@@ -9,10 +9,10 @@ use babel_commands::{Details, Status, refuse};
 use babel_config::{FileFault, read_file};
 use babel_line_details::Excerpt;
 use babel_machine::NetFault;
+use babel_simulate::report::{Shown, is_as_expected, write_objects, write_scenario, write_text};
 use babel_simulate::{
     KeptEvents, Options, Outcome, Progress, Simulation, SimulationFault, configs,
 };
-use babel_simulation_report::{Shown, is_as_expected, write_objects, write_scenario, write_text};
 use babel_snapshot_file::replace_file;
 use babel_text::parse_prefix;
 use babel_toml_places::FileText;

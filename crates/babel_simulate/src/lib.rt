@@ -9,6 +9,7 @@
 //! - `links` carry datagrams, `speakers` make the events, and `steps` those of the plan.
 //! - `hops` keeps the next hops, `paths` compares them with the shortest ways, which `shortest`
 //!   finds, and `phases` measures how long they change.
+//! - `report` has what people and machines read of a run.
 #![tactic(auto)]
 
 mod agenda;
@@ -23,6 +24,7 @@ mod options;
 mod outcome;
 mod paths;
 mod phases;
+pub mod report;
 mod shortest;
 mod simulation;
 mod speakers;

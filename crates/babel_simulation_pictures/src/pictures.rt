@@ -3,7 +3,7 @@
 use crate::histories::rows_of;
 use crate::states::links_at;
 use babel_pictures::{DrawnNode, Hop, Mark, Picture, Row, Timeline};
-use babel_simulation_report::Shown;
+use babel_simulate::report::Shown;
 use babel_value::Prefix;
 use std::alloc::{AllocError, Global};
 

@@ -1,7 +1,7 @@
 //! What machines read of a run: a JSON object a line. Moments and times are in centiseconds.
 
-use crate::shown::Shown;
-use babel_simulate::{Counts, HopChange, HopKind, Phase, Route, RouteKind, Tested};
+use crate::report::shown::Shown;
+use crate::{Counts, HopChange, HopKind, Phase, Route, RouteKind, Tested};
 use babel_topology::Step;
 use babel_value::Prefix;
 use std::alloc::Global;

@@ -1,9 +1,9 @@
 //! What people read of a run.
 
-use crate::objects::kind_of;
-use crate::shown::{Counted, HopText, Seconds, Shown};
-use crate::tables::{Column, Side, Table};
-use babel_simulate::{HopChange, HopKind, Phase, Quality, Route, RouteKind};
+use crate::report::objects::kind_of;
+use crate::report::shown::{Counted, HopText, Seconds, Shown};
+use crate::report::tables::{Column, Side, Table};
+use crate::{HopChange, HopKind, Phase, Quality, Route, RouteKind};
 use babel_topology::{NextHop, Step};
 use babel_value::Prefix;
 use std::alloc::{AllocError, Global};

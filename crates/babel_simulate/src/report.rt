@@ -4,7 +4,6 @@
 //! - `tables` lays tables out, and `texts` writes those of a run.
 //! - `objects` writes JSON objects, a line each.
 //! - `scenarios` writes the events of a run as a scenario, which `babel net` replays.
-#![tactic(auto)]
 
 mod objects;
 mod scenarios;

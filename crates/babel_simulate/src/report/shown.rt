@@ -1,6 +1,6 @@
 //! What is shown of a run, and the texts of its parts.
 
-use babel_simulate::{Outcome, Route};
+use crate::{Outcome, Route};
 use babel_topology::{Action, Expectation, NextHop, Topology};
 use babel_value::Prefix;
 use std::fmt;
