@@ -4,7 +4,6 @@
 //! - `pictures` makes the picture of what is known of a run.
 //! - `histories` has what each node did from the beginning to the end.
 //! - `states` has the links as they are at a moment.
-#![tactic(auto)]
 
 mod histories;
 mod pictures;

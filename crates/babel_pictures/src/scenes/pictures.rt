@@ -1,8 +1,8 @@
 //! The picture of what is known of a run.
 
-use crate::histories::rows_of;
-use crate::states::links_at;
-use babel_pictures::{DrawnNode, Hop, Mark, Picture, Row, Timeline};
+use crate::drawing::{DrawnNode, Hop, Mark, Picture, Row, Timeline};
+use crate::scenes::histories::rows_of;
+use crate::scenes::states::links_at;
 use babel_simulate::report::Shown;
 use babel_value::Prefix;
 use std::alloc::{AllocError, Global};

@@ -1,6 +1,6 @@
 //! What each node did with packets to a prefix, from the beginning to the end.
 
-use babel_pictures::{Hop, Row, Span};
+use crate::drawing::{Hop, Row, Span};
 use babel_simulate::report::Shown;
 use babel_topology::{Action, NextHop, Node};
 use babel_value::Prefix;

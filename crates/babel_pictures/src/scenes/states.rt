@@ -1,6 +1,6 @@
 //! The links as they are at a moment.
 
-use babel_pictures::{DrawnLink, LinkState};
+use crate::drawing::{DrawnLink, LinkState};
 use babel_simulate::report::Shown;
 use babel_topology::{Action, Link};
 use std::alloc::{AllocError, Global};
