@@ -8,7 +8,7 @@ ghost use Rattle.babel_config.specs.declared.keys.TableKind.TheVariants.{Scenari
 use toml::{Table, Value};
 
 /// A kind of table in a file.
-#[derive(Clone, Copy, Debug)]
+#[derive(Clone, Copy)]
 pub(crate) enum TableKind {
     /// The file of a scenario.
     Scenario,

@@ -12,7 +12,7 @@ use std::alloc::AllocError;
 use std::fmt::{self, Write};
 
 /// What a line means for the thing that it names.
-#[derive(Clone, Copy, Debug, PartialEq, Eq)]
+#[derive(Clone, Copy)]
 pub(crate) enum Event {
     /// It is there.
     Add,

@@ -28,7 +28,7 @@ pub(crate) struct Connection {
 }
 
 /// What a read brought.
-#[derive(Clone, Copy, Debug, PartialEq, Eq)]
+#[derive(Clone, Copy)]
 enum Came {
     /// So many octets.
     Octets(usize),

@@ -11,7 +11,7 @@ use std::fmt::{self, Display, Write};
 const MAX_IGNORED: usize = 64;
 
 /// Why an Update was not stored. The text is its verdict's code.
-#[derive(Clone, Copy, Debug, PartialEq, Eq)]
+#[derive(Clone, Copy)]
 enum Cause {
     /// I4, I5 and I8 to I10: it can't be used.
     Unusable(Reason),
