@@ -62,8 +62,10 @@ pub fn speak_kept<R: AllocGlobal + Net + Clock + Files, W: Write, E: Write>(
 where
     R::File: LockFile,
 {
-    let mut started = start(rt, config, options)?;
-    print_turns(rt, options, &mut started, out, err)
+    match start(rt, config, options) {
+        Ok(mut started) => print_turns(rt, options, &mut started, out, err),
+        Err(fault) => Err(fault),
+    }
 }
 
 /// A speaker that may send, and what it is driven over.
@@ -156,14 +158,35 @@ fn print_turns<R: AllocGlobal + Net + Clock + Files, W: Write, E: Write>(
 where
     R::File: LockFile,
 {
-    let routes = printed_routes(rt.alloc(), options)?;
     let mut driver = DurableDriver::new(rt.alloc(), MAX_DATAGRAM_LEN)?;
-    let mut printer = Printer::new(routes, out, err);
-    printer.desk = open_desk(rt, options.control)?;
+    let mut printer = open_printer(rt, options, out, err)?;
     let taken = take_turns(options.turns, started, &mut driver, &mut printer);
     close(rt, options.control);
+    end_turns(taken, &started.speaker, &mut printer)
+}
+
+/// Prints what is asked for after the last turn, if the turns were taken.
+fn end_turns<W: Write, E: Write>(
+    taken: Result<(), SnapshotFileFault>,
+    speaker: &Speaker,
+    printer: &mut Printer<'_, W, E>,
+) -> Result<(), SpeakFault> {
     taken?;
-    Ok(printer.end(&started.speaker)?)
+    Ok(printer.end(speaker)?)
+}
+
+/// A printer that has printed nothing, with the control socket open.
+fn open_printer<'s, R: AllocGlobal + Net + Files, W: Write, E: Write>(
+    rt: &R,
+    options: KeptOptions<'_>,
+    out: &'s mut W,
+    err: &'s mut E,
+) -> Result<Printer<'s, W, E>, SpeakFault> {
+    let routes = printed_routes(rt.alloc(), options)?;
+    match open_desk(rt, options.control) {
+        Ok(desk) => Ok(Printer::new(routes, desk, out, err)),
+        Err(fault) => Err(fault),
+    }
 }
 
 /// What is printed of the selected routes, if anything.
@@ -231,7 +254,12 @@ struct Printer<'s, W: Write, E: Write> {
 }
 
 impl<'s, W: Write, E: Write> Printer<'s, W, E> {
-    fn new(routes: Option<Selections<'s>>, out: &'s mut W, err: &'s mut E) -> Printer<'s, W, E> {
+    fn new(
+        routes: Option<Selections<'s>>,
+        desk: Option<Desk>,
+        out: &'s mut W,
+        err: &'s mut E,
+    ) -> Printer<'s, W, E> {
         Printer {
             out,
             err,
@@ -239,7 +267,7 @@ impl<'s, W: Write, E: Write> Printer<'s, W, E> {
             counts: Counts::default(),
             last_keep: LastKeep::Done,
             written: Ok(()),
-            desk: None,
+            desk,
         }
     }
 

@@ -23,7 +23,7 @@ pub enum RouteLines<'a> {
 const KERNEL_METRIC: u16 = 1024;
 
 /// An interface, as it is written.
-#[derive(Clone, Copy, Debug)]
+#[derive(Clone, Copy)]
 struct InterfaceText<'a> {
     lines: RouteLines<'a>,
     iface: u8,
@@ -41,7 +41,7 @@ impl fmt::Display for InterfaceText<'_> {
 }
 
 /// A selected route, or none, as it is written for people.
-#[derive(Clone, Copy, Debug)]
+#[derive(Clone, Copy)]
 struct SelectedText<'a> {
     lines: RouteLines<'a>,
     route: &'a Option<Selected>,
@@ -131,7 +131,7 @@ impl<'a> RouteLines<'a> {
 }
 
 /// A prefix, and what was printed of it last.
-#[derive(Clone, Copy, Debug)]
+#[derive(Clone, Copy)]
 struct PrintedRoute {
     prefix: Prefix,
     /// The selected route. It is none only while changes are written.

@@ -52,8 +52,10 @@ pub fn speak<R: AllocGlobal + Net + Clock + Files, S: Read + Drop, W: Write>(
     out: &mut W,
 ) -> Result<(), SpeakFault> {
     let links = checked_links(rt.alloc(), &config)?;
-    let mut speaker = make_speaker(rt.alloc(), config, snapshot)?;
-    speak_over(rt, links, &mut speaker, options, out)
+    match make_speaker(rt.alloc(), config, snapshot) {
+        Ok(mut speaker) => speak_over(rt, links, &mut speaker, options, out),
+        Err(fault) => Err(fault),
+    }
 }
 
 fn speak_over<R: AllocGlobal + Net + Clock + Files, W: Write>(
