@@ -121,27 +121,94 @@ fn updates(part: usize, router: u8, now: u32) -> Vec<u8> {
     datagram(part as u8, 0, now, &messages)
 }
 
+/// An update of one prefix from this neighbour.
+fn crowd_update(iface: u8, n: u8, prefix: u8, metric: u16, now: u32) -> Vec<u8> {
+    let update = Message::Update {
+        prefix: crowd_prefix(prefix),
+        router: RouterId::new([0, 0, 0, 0, 0, 1, 0, 1]).expect("not reserved"),
+        next_hop: IpAddr::V4(neighbour(iface, n)),
+        seqno: Seqno(7),
+        metric: Metric(metric),
+        interval: 60_000,
+    };
+    datagram(iface, n, now, &[update])
+}
+
+fn crowd_retraction(iface: u8, n: u8, prefix: u8) -> Vec<u8> {
+    let retraction = Message::Retraction {
+        prefix: crowd_prefix(prefix),
+        interval: 60_000,
+    };
+    datagram(iface, n, NOW, &[retraction])
+}
+
+fn crowd_prefix(n: u8) -> Prefix {
+    Prefix {
+        addr: IpAddr::from([172, 16, n, 0]),
+        length: 24,
+    }
+}
+
+/// What `steps` makes of each of the 64 neighbours.
+fn of_each(steps: impl Fn(u8, u8) -> Vec<u8>) -> Vec<u8> {
+    let places = (0..8).flat_map(|iface| (0..8).map(move |n| (iface, n)));
+    places.flat_map(|(iface, n)| steps(iface, n)).collect()
+}
+
+/// Each neighbour's update of the first of the prefixes, with one metric and then with another one.
+fn crowd_updates() -> Vec<u8> {
+    let with = |metric| of_each(|iface, n| crowd_update(iface, n, 0, metric, NOW));
+    [with(2), with(1)].concat()
+}
+
+/// Each neighbour retracts the first of the prefixes, and then advertises it again.
+fn crowd_losses() -> Vec<u8> {
+    let again = |iface, n| crowd_update(iface, n, 0, 1, NOW);
+    of_each(|iface, n| [crowd_retraction(iface, n, 0), again(iface, n)].concat())
+}
+
+/// Each neighbour's link gets another cost, and then that which it had.
+fn crowd_costs() -> Vec<u8> {
+    let with =
+        |rxcost| of_each(|iface, n| datagram(iface, n, NOW, &[ihu_with(iface, rxcost, 60_000)]));
+    [with(97), with(96)].concat()
+}
+
+/// 64 neighbours that each have a route to the same four prefixes, nothing pending and nothing due at `NOW`.
+fn setup_crowd() -> Vec<u8> {
+    let mut steps = introductions();
+    for prefix in 0..4 {
+        steps.extend(of_each(|iface, n| crowd_update(iface, n, prefix, 1, 10)));
+        steps.extend(drain(10));
+    }
+    steps.extend(settled());
+    steps
+}
+
 /// 64 neighbours, 256 routes, 512 sources, nothing pending and nothing due at `NOW`.
 fn setup() -> Vec<u8> {
-    let mut steps = Vec::new();
-    for round in 0..3 {
-        for iface in 0..8 {
-            for n in 0..8 {
-                steps.extend(datagram(
-                    iface,
-                    n,
-                    round,
-                    &[hello(round as u16), ihu(iface)],
-                ));
-            }
-        }
-    }
+    let mut steps = introductions();
     for router in [1, 2] {
         for part in 0..5 {
             steps.extend(updates(part, router, 10));
             steps.extend(drain(10));
         }
     }
+    steps.extend(settled());
+    steps
+}
+
+/// Three Hellos and three IHUs of each of the 64 neighbours.
+fn introductions() -> Vec<u8> {
+    let messages = |round: u32, iface| [hello(round as u16), ihu(iface)];
+    (0..3)
+        .flat_map(|round| of_each(|iface, n| datagram(iface, n, round, &messages(round, iface))))
+        .collect()
+}
+
+/// Nothing is pending then, and nothing due at `NOW`.
+fn settled() -> Vec<u8> {
+    let mut steps = Vec::new();
     // The timers of the interfaces: once more at 350, so that none is due at 400.
     for moment in [20, 350] {
         steps.extend(tick(moment));
@@ -231,6 +298,24 @@ pub fn all() -> Vec<Case> {
             setup: setup(),
             turn: other_metrics(),
             times: 2,
+        },
+        Case {
+            name: "an update, 64 routes",
+            setup: setup_crowd(),
+            turn: crowd_updates(),
+            times: 128,
+        },
+        Case {
+            name: "a retraction or an update, 64 routes",
+            setup: setup_crowd(),
+            turn: crowd_losses(),
+            times: 128,
+        },
+        Case {
+            name: "a new cost, 64 routes a prefix",
+            setup: setup_crowd(),
+            turn: crowd_costs(),
+            times: 128,
         },
         Case {
             name: "16 dump requests: 4,096 items",

@@ -98,3 +98,10 @@ no_route p (f ∷ es) is = by (is_of p f) (no_route p es) is
 pub chosen_is_known : (order : Route → Route → Ordering) (passes : Route → Bool) (p : PrefixValue) (es routes : RouteEntries) → routes_of p es ≡ routes → IsSome (option_map selection_of (first_of order (filter passes routes))) → has_entry es p ≡ true
 chosen_is_known order passes p es [] is chosen = absurd (false≢true chosen)
 chosen_is_known order passes p es (r ∷ rs) is chosen = some_route p es r rs is
+
+-- the first of one
+pub first_alone : (order : Route → Route → Ordering) (passes : Route → Bool) (e : Route) (routes : RouteEntries) → routes ≡ e ∷ [] → passes e ≡ true → first_of order (filter passes routes) ≡ Some e
+first_alone order passes e routes is here = ap (λ rs. first_of order (filter passes rs)) is ∙ rw here refl
+
+pub none_alone : (order : Route → Route → Ordering) (passes : Route → Bool) (e : Route) (routes : RouteEntries) → routes ≡ e ∷ [] → passes e ≡ false → first_of order (filter passes routes) ≡ None
+none_alone order passes e routes is other = ap (λ rs. first_of order (filter passes rs)) is ∙ rw other refl

@@ -1,6 +1,7 @@
 -- In the route table the routes of a prefix are next to each other, before those of greater prefixes.
-use Rattle.std.proofs.Common.{◌≡◌, ℕ, zero, suc, ◌+◌, Bool, true, false, cond, not, List, [], ◌∷◌, ◌++◌, take, drop, slice_get, Some, None, refl, sym, ap, subst, ◌∙◌, add-one}
+use Rattle.std.proofs.Common.{◌≡◌, ℕ, zero, suc, ◌+◌, Bool, true, false, cond, not, List, [], ◌∷◌, ◌++◌, take, drop, slice_get, Option, Some, None, refl, sym, ap, subst, ◌∙◌, add-one}
 use Rattle.std.specs.List.{list_all, take_while}
+use Rattle.std.specs.Option.{option_map_or}
 use Rattle.std.proofs.lemmas.Bool.{and_parts}
 use Rattle.std.proofs.lemmas.List.{take-append-drop}
 use Rattle.std.proofs.lemmas.List.Elements.{filter-append}
@@ -143,3 +144,22 @@ run_end p es i e sorted at other from =
 
 pub run_past : (p : PrefixValue) (es : RouteEntries) (i : ℕ) → drop i es ≡ [] → IsRunEnd p es i
 run_past p es i past = record { routes = ap (routes_of p) past; others = ap (others_of p) past ∙ sym past }
+
+-- the same of a route that isn't there
+pub run_ends : (p : PrefixValue) (es : RouteEntries) (i : ℕ) → is_sorted route_cmp es ≡ true → option_map_or (is_of p) (slice_get es i) false ≡ false → are_not_before p (drop i es) ≡ true → IsRunEnd p es i
+run_ends p es i sorted other from = by (slice_get es i) refl other
+  where
+    by : (o : Option Route) → slice_get es i ≡ o → option_map_or (is_of p) o false ≡ false → IsRunEnd p es i
+    by None at h = run_past p es i (drop_past es i at)
+    by (Some e) at h = run_end p es i e sorted at h from
+
+-- the one route of a prefix
+pub record IsAlone (p : PrefixValue) (es : RouteEntries) (i : ℕ) (e : Route) : Type 0 where
+  pub routes : routes_of p (drop i es) ≡ e ∷ []
+  pub others : others_of p (drop i es) ≡ drop (i + 1) es
+
+pub run_alone : (p : PrefixValue) (es : RouteEntries) (i : ℕ) (e : Route) → is_sorted route_cmp es ≡ true → slice_get es i ≡ Some e → is_of p e ≡ true → option_map_or (is_of p) (slice_get es (i + 1)) false ≡ false → are_not_before p (drop i es) ≡ true → IsAlone p es i e
+run_alone p es i e sorted at here other from =
+    let step = run_step p es i e at here from in
+    let end = run_ends p es (i + 1) sorted other step.from in
+    record { routes = step.routes ∙ ap (λ rs. e ∷ rs) end.routes; others = step.others ∙ end.others }

@@ -1,4 +1,5 @@
 pub mod RouteKeys
 pub mod Routes
 pub mod Choices
+pub mod Origins
 pub mod PrefixBounds

@@ -1,29 +1,20 @@
 //! The choice among the candidates of a prefix (RFC 8966, section 3.6).
 
-ghost use Rattle.std.specs.Prelude.{◌≡◌, ◌<◌, ℕ, true, not, drop, length, slice_get, option_and_then, Option, IfSome, IsSome, Some, None, option_map, if◌then◌else◌};
+ghost use Rattle.std.specs.Prelude.{◌≡◌, ◌<◌, true, false, not, drop, length, slice_get, option_and_then, Option, IfSome, IsNone, IsSome, Some, None, option_map, if◌then◌else◌};
 ghost use Rattle.std.specs.List.{filter, list_all};
 ghost use Rattle.std.specs.Option.{option_map_or};
 ghost use Rattle.std.specs.Ordering.{is_lt};
-ghost use Rattle.babel_value.specs.declared.keys.Peer.{Peer};
 ghost use Rattle.babel_table.specs.Firsts.{first_of};
 ghost use Rattle.babel_choice.specs.PrefixBounds.{is_before};
-ghost use Rattle.babel_choice.specs.Choices.{others_of, rank_at, is_lesser_rank, routes_of, has_entry, choice, peer_before, is_candidate, is_change, is_feasible_route, route_metric, rank_of, rank_cmp, preference, selection_of};
+ghost use Rattle.babel_choice.specs.Origins.{is_own};
+ghost use Rattle.babel_choice.specs.Choices.{is_of, others_of, rank_at, is_lesser_rank, routes_of, has_entry, choice, peer_before, is_candidate, is_change, is_feasible_route, route_metric, rank_of, rank_cmp, preference, selection_of};
 
 use crate::walks::is_of;
-use crate::{Before, Cursor, Entry, RouteKey, Selection};
+use crate::{Before, ChoiceInputs, Costs, Cursor, Entry, Origin, RouteKey, Selection};
 use babel_sources::{SourceEntry, SourcesOver};
 use babel_table::{Table, places_below_near};
 use babel_value::{Metric, Peer, Prefix, Source};
 use std::cmp::Ordering;
-
-/// The costs of the links to the neighbours now (RFC 8966, section 3.4.3).
-pub trait Costs {
-    ghost cost_of: { Self → Peer → ℕ };
-
-    /// The cost of the link to the neighbour.
-    fn cost(&self, peer: &Peer) -> Metric
-        ensures { result ≡ cost_of self.now peer.now };
-}
 
 /// The criteria between the candidates of a prefix, the first field first: the least rank is selected.
 #[derive(Clone, Copy, Debug, PartialEq, Eq, PartialOrd, Ord)]
@@ -47,31 +38,22 @@ struct Candidate {
 /// the prefix is the speaker's own.
 #[inline(always)]
 pub fn choose<E: Table<RouteKey, Entry>, T: Table<Source, SourceEntry>, C: Costs>(
-    entries: &E,
+    inputs: &ChoiceInputs<'_, E, T, C>,
     prefix: &Prefix,
-    local: bool,
+    origin: Origin,
     before: &Option<Selection>,
-    sources: &SourcesOver<T>,
-    costs: &C,
     cursor: &mut Cursor,
 ) -> Option<Selection>
-    ensures choice { result ≡ choice sources.now (C.cost_of costs.now) prefix.now local before.now (E.entries entries.now) }
-    ensures known { IsSome result → has_entry (E.entries entries.now) prefix.now ≡ true }
+    ensures choice { result ≡ choice inputs.now.sources.now (C.cost_of inputs.now.costs.now) prefix.now (is_own origin) before.now (E.entries inputs.now.entries.now) }
+    ensures known { IsSome result → has_entry (E.entries inputs.now.entries.now) prefix.now ≡ true }
 {
-    if local {
+    if origin.is_own() {
         return None;
     }
+    let entries = inputs.entries;
     let place = places_below_near(entries, cursor.entry, &Before { prefix: *prefix });
     let near = &mut cursor.source;
-    let (first, end) = first_from(
-        entries,
-        place,
-        prefix,
-        peer_of(before),
-        sources,
-        costs,
-        near,
-    );
+    let (first, end) = first_from(inputs, place, prefix, peer_of(before), near);
     cursor.entry = end.wrapping_sub(1);
     selection_at(entries, first)
 }
@@ -86,22 +68,71 @@ pub fn peer_of(selection: &Option<Selection>) -> Option<Peer>
     }
 }
 
-/// The index of the candidate of the prefix that no other comes before, if this neighbour was selected before, and the
-/// index after the routes of the prefix. The first one is at the index `start`, or would be.
+/// The index of the candidate of the prefix that no other comes before, if this neighbour was
+/// selected before, and the index after the routes of the prefix. The first one is at the index
+/// `start`, or would be. A prefix mostly has one route: that is compiled into the caller.
 #[inline(always)]
 pub fn first_from<E: Table<RouteKey, Entry>, T: Table<Source, SourceEntry>, C: Costs>(
-    entries: &E,
+    inputs: &ChoiceInputs<'_, E, T, C>,
     start: usize,
     prefix: &Prefix,
     before: Option<Peer>,
-    sources: &SourcesOver<T>,
-    costs: &C,
     near: &mut usize,
 ) -> (Option<usize>, usize)
-    requires { list_all (λ e. not (is_before prefix.now e.0.prefix)) (drop start (E.entries entries.now)) ≡ true }
-    ensures first { option_and_then (slice_get (E.entries entries.now)) result.0 ≡ first_of (preference (C.cost_of costs.now) before) (filter (is_candidate sources.now (C.cost_of costs.now)) (routes_of prefix.now (drop start (E.entries entries.now)))) }
-    ensures rest { drop result.1 (E.entries entries.now) ≡ others_of prefix.now (drop start (E.entries entries.now)) }
+    requires { list_all (λ e. not (is_before prefix.now e.0.prefix)) (drop start (E.entries inputs.now.entries.now)) ≡ true }
+    ensures first { option_and_then (slice_get (E.entries inputs.now.entries.now)) result.0 ≡ first_of (preference (C.cost_of inputs.now.costs.now) before) (filter (is_candidate inputs.now.sources.now (C.cost_of inputs.now.costs.now)) (routes_of prefix.now (drop start (E.entries inputs.now.entries.now)))) }
+    ensures rest { drop result.1 (E.entries inputs.now.entries.now) ≡ others_of prefix.now (drop start (E.entries inputs.now.entries.now)) }
 {
+    let entries = inputs.entries;
+    if start >= entries.len() {
+        return (None, start);
+    }
+    let Some(route) = route_at(entries, start, prefix) else {
+        return (None, start);
+    };
+    let end = start + 1;
+    if route_at(entries, end, prefix).is_some() {
+        return first_of_several(inputs, start, prefix, before, near);
+    }
+    match candidate_metric(&route, inputs.sources, inputs.costs, near) {
+        Some(_) => (Some(start), end),
+        None => (None, end),
+    }
+}
+
+/// The route at the index, if it is of the prefix.
+#[inline(always)]
+fn route_at<E: Table<RouteKey, Entry>>(
+    entries: &E,
+    place: usize,
+    prefix: &Prefix,
+) -> Option<(RouteKey, Entry)>
+    ensures none { IsNone result → option_map_or (is_of prefix.now) (slice_get (E.entries entries.now) place) false ≡ false }
+    ensures some { IfSome result (λ route. (slice_get (E.entries entries.now) place ≡ Some route) × (is_of prefix.now route ≡ true)) }
+{
+    let route = entries.at(place)?;
+    if is_of(&route, prefix) {
+        Some(route)
+    } else {
+        None
+    }
+}
+
+/// What `first_from` returns, by a walk over the routes. It is quicker as a function of its own,
+/// which has the registers for itself.
+#[inline(never)]
+fn first_of_several<E: Table<RouteKey, Entry>, T: Table<Source, SourceEntry>, C: Costs>(
+    inputs: &ChoiceInputs<'_, E, T, C>,
+    start: usize,
+    prefix: &Prefix,
+    before: Option<Peer>,
+    near: &mut usize,
+) -> (Option<usize>, usize)
+    requires { list_all (λ e. not (is_before prefix.now e.0.prefix)) (drop start (E.entries inputs.now.entries.now)) ≡ true }
+    ensures first { option_and_then (slice_get (E.entries inputs.now.entries.now)) result.0 ≡ first_of (preference (C.cost_of inputs.now.costs.now) before) (filter (is_candidate inputs.now.sources.now (C.cost_of inputs.now.costs.now)) (routes_of prefix.now (drop start (E.entries inputs.now.entries.now)))) }
+    ensures rest { drop result.1 (E.entries inputs.now.entries.now) ≡ others_of prefix.now (drop start (E.entries inputs.now.entries.now)) }
+{
+    let entries = inputs.entries;
     let len = entries.len();
     let mut first: Option<Candidate> = None;
     for place in start..len {
@@ -111,7 +142,7 @@ pub fn first_from<E: Table<RouteKey, Entry>, T: Table<Source, SourceEntry>, C: C
         if !is_of(&route, prefix) {
             return (place_of(&first), place);
         }
-        if let Some(metric) = candidate_metric(&route, sources, costs, near) {
+        if let Some(metric) = candidate_metric(&route, inputs.sources, inputs.costs, near) {
             let new = Candidate { metric, place };
             first = Some(first_of_two(entries, first, new, before));
         }

@@ -5,6 +5,7 @@
 //! - `bounds`: bounds on the prefixes of routes and selections.
 //! - `walks`: walks over routes and selections.
 //! - `choices`: the choice among the candidates of a prefix.
+//! - `inputs`: what it is made from.
 //! - `cursor`: where in the tables the last reselection was.
 //!
 //! All of it is over tables of `babel_table` that the caller has. No call takes memory.
@@ -14,12 +15,14 @@ mod bounds;
 mod choices;
 mod cursor;
 mod entries;
+mod inputs;
 mod revisions;
 mod walks;
 
 pub use bounds::{Before, Through};
-pub use choices::{Costs, choose, first_from, peer_of, selection_at};
+pub use choices::{choose, first_from, peer_of, selection_at};
 pub use cursor::Cursor;
 pub use entries::{Entry, ReceivedUpdate, RouteKey, Selection};
+pub use inputs::{ChoiceInputs, Costs, Origin};
 pub use revisions::{Expiry, Flush, Retraction};
 pub use walks::{AllRoutes, AllSelections, DueRoutes, PrefixRoutes};

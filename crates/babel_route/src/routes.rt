@@ -8,6 +8,7 @@ ghost use Rattle.babel_route.specs.Rooms.{most_routes};
 ghost use Rattle.babel_choice.specs.RouteKeys.{route_cmp};
 ghost use Rattle.babel_choice.specs.Routes.{key_of, updated, retracted, retracted_all, has_routes_from, forgotten, all_forgotten, expired, routes_due};
 ghost use Rattle.babel_choice.specs.Choices.{routes_of, choice};
+ghost use Rattle.babel_choice.specs.Origins.{is_own};
 ghost use Rattle.babel_choice.specs.PrefixBounds.{is_beyond};
 ghost use Rattle.babel_route.specs.Selections.{choice_at, reselected, selection_at, SelectsTheFirst, places_taken, prefix_after};
 ghost use Rattle.babel_table.specs.Firsts.{first_of, lesser_of};
@@ -18,8 +19,8 @@ mod refresh;
 mod room;
 
 use babel_choice::{
-    AllRoutes, AllSelections, Costs, Cursor, DueRoutes, Entry, Expiry, Flush, PrefixRoutes,
-    ReceivedUpdate, Retraction, RouteKey, Selection, Through, choose,
+    AllRoutes, AllSelections, ChoiceInputs, Costs, Cursor, DueRoutes, Entry, Expiry, Flush, Origin,
+    PrefixRoutes, ReceivedUpdate, Retraction, RouteKey, Selection, Through, choose,
 };
 use babel_sources::{SourceEntry, SourcesOver};
 use babel_table::{
@@ -249,6 +250,7 @@ impl<E: Table<RouteKey, Entry>, S: Table<Prefix, Selection>> RoutesOver<E, S> {
     }
 
     /// The selection whose prefix has exactly `place` lesser ones.
+    #[inline(always)]
     pub fn selection_at(&self, place: usize) -> Option<(Prefix, Selection)>
         ensures selection { result ≡ slice_get self.now.selections place }
         ensures within { IsSome result → place < ROUTE_PLACES }
@@ -300,18 +302,18 @@ impl<E: Table<RouteKey, Entry>, S: Table<Prefix, Selection>> RoutesOver<E, S> {
     pub fn select<T: Table<Source, SourceEntry>, C: Costs>(
         &mut self,
         prefix: &Prefix,
-        local: bool,
+        origin: Origin,
         sources: &SourcesOver<T>,
         costs: &C,
     ) -> (Option<Selection>, Option<Selection>)
         ensures before { result.0 ≡ selection_at prefix.now self.old }
-        ensures after { result.1 ≡ choice_at sources.now (C.cost_of costs.now) prefix.now local self.old }
+        ensures after { result.1 ≡ choice_at sources.now (C.cost_of costs.now) prefix.now (is_own origin) self.old }
         ensures selected { result.1 ≡ selection_at prefix.now self.new }
-        ensures first { SelectsTheFirst sources.now (C.cost_of costs.now) prefix.now local self.old self.new }
-        ensures routes { self.new ≡ reselected sources.now (C.cost_of costs.now) prefix.now local self.old }
+        ensures first { SelectsTheFirst sources.now (C.cost_of costs.now) prefix.now (is_own origin) self.old self.new }
+        ensures routes { self.new ≡ reselected sources.now (C.cost_of costs.now) prefix.now (is_own origin) self.old }
     {
         let mut cursor = Cursor::new();
-        self.select_near(prefix, local, sources, costs, &mut cursor)
+        self.select_near(prefix, origin, sources, costs, &mut cursor)
     }
 
     /// The same. The searches begin at the cursor, which goes to the prefix.
@@ -319,28 +321,25 @@ impl<E: Table<RouteKey, Entry>, S: Table<Prefix, Selection>> RoutesOver<E, S> {
     pub fn select_near<T: Table<Source, SourceEntry>, C: Costs>(
         &mut self,
         prefix: &Prefix,
-        local: bool,
+        origin: Origin,
         sources: &SourcesOver<T>,
         costs: &C,
         cursor: &mut Cursor,
     ) -> (Option<Selection>, Option<Selection>)
         ensures before { result.0 ≡ selection_at prefix.now self.old }
-        ensures after { result.1 ≡ choice_at sources.now (C.cost_of costs.now) prefix.now local self.old }
+        ensures after { result.1 ≡ choice_at sources.now (C.cost_of costs.now) prefix.now (is_own origin) self.old }
         ensures selected { result.1 ≡ selection_at prefix.now self.new }
-        ensures first { SelectsTheFirst sources.now (C.cost_of costs.now) prefix.now local self.old self.new }
-        ensures routes { self.new ≡ reselected sources.now (C.cost_of costs.now) prefix.now local self.old }
+        ensures first { SelectsTheFirst sources.now (C.cost_of costs.now) prefix.now (is_own origin) self.old self.new }
+        ensures routes { self.new ≡ reselected sources.now (C.cost_of costs.now) prefix.now (is_own origin) self.old }
     {
         let mut place = cursor.selection;
         let before = find_near(&self.selections, &mut place, prefix);
-        let after = choose(
-            &self.entries,
-            prefix,
-            local,
-            &before,
+        let inputs = ChoiceInputs {
+            entries: &self.entries,
             sources,
             costs,
-            cursor,
-        );
+        };
+        let after = choose(&inputs, prefix, origin, &before, cursor);
         replace_near(&mut self.selections, place, *prefix, &before, after);
         cursor.selection = place;
         (copy_of(&before), copy_of(&after))
@@ -360,7 +359,7 @@ impl<E: Table<RouteKey, Entry>, S: Table<Prefix, Selection>> RoutesOver<E, S> {
         ensures first { SelectsTheFirst sources.now (C.cost_of costs.now) prefix.now local self.old self.new }
         ensures routes { self.new ≡ reselected sources.now (C.cost_of costs.now) prefix.now local self.old }
     {
-        let (before, after) = self.select(prefix, local, sources, costs);
+        let (before, after) = self.select(prefix, origin_of(local), sources, costs);
         (entry_of(&before), entry_of(&after))
     }
 
@@ -375,6 +374,13 @@ impl<E: Table<RouteKey, Entry>, S: Table<Prefix, Selection>> RoutesOver<E, S> {
         let selection = selected_prefix_after(&self.selections, &bound);
         lesser_prefix(route, selection)
     }
+}
+
+/// Who announces the prefix, by whether it is the speaker's own.
+fn origin_of(local: bool) -> Origin
+    ensures { is_own result ≡ local }
+{
+    if local { Origin::Own } else { Origin::Learned }
 }
 
 fn copy_of(selection: &Option<Selection>) -> Option<Selection>

@@ -4,11 +4,12 @@ ghost use Rattle.std.specs.Prelude.{◌≡◌, ◌<◌, length, IsSome, IsNone};
 ghost use Rattle.std.specs.FinMap.{find};
 ghost use Rattle.babel_value.specs.Orders.{prefix_cmp};
 ghost use Rattle.babel_table.specs.Entries.{with_value};
+ghost use Rattle.babel_choice.specs.Origins.{is_own};
 ghost use Rattle.babel_route.specs.Currency.{is_same_distance, is_same_entry, is_same_selection, is_current};
 
 use super::RoutesOver;
 use super::refresh::replace_at;
-use babel_choice::{Costs, Cursor, Entry, RouteKey, Selection, choose};
+use babel_choice::{ChoiceInputs, Costs, Cursor, Entry, Origin, RouteKey, Selection, choose};
 use babel_sources::{SourceEntry, SourcesOver};
 use babel_table::{Table, find_near, set_near};
 use babel_value::{Distance, Prefix, Source};
@@ -19,25 +20,22 @@ impl<E: Table<RouteKey, Entry>, S: Table<Prefix, Selection>> RoutesOver<E, S> {
     pub fn is_current_near<T: Table<Source, SourceEntry>, C: Costs>(
         &self,
         prefix: &Prefix,
-        local: bool,
+        origin: Origin,
         sources: &SourcesOver<T>,
         costs: &C,
         cursor: &mut Cursor,
     ) -> bool
-        ensures { result ≡ is_current sources.now (C.cost_of costs.now) prefix.now local self.now }
+        ensures { result ≡ is_current sources.now (C.cost_of costs.now) prefix.now (is_own origin) self.now }
     {
         let mut place = cursor.selection;
         let before = find_near(&self.selections, &mut place, prefix);
         cursor.selection = place;
-        let after = choose(
-            &self.entries,
-            prefix,
-            local,
-            &before,
+        let inputs = ChoiceInputs {
+            entries: &self.entries,
             sources,
             costs,
-            cursor,
-        );
+        };
+        let after = choose(&inputs, prefix, origin, &before, cursor);
         is_same_selection(&before, &after)
     }
 }

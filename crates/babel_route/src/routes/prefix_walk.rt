@@ -7,13 +7,16 @@ ghost use Rattle.babel_value.specs.Orders.{prefix_cmp};
 ghost use Rattle.babel_table.specs.Entries.{without};
 ghost use Rattle.babel_route.specs.Currency.{is_current};
 ghost use Rattle.babel_choice.specs.PrefixBounds.{is_before};
+ghost use Rattle.babel_choice.specs.Origins.{is_own};
 ghost use Rattle.babel_route.specs.PrefixWalks.{without_prefix, are_from};
 ghost use Rattle.babel_route.specs.RouteLaws.{is_among};
 ghost use Rattle.babel_route.specs.Selections.{prefixes_of};
 
 use super::current::is_same_selection;
 use super::lesser_prefix;
-use babel_choice::{Costs, Entry, RouteKey, Selection, first_from, peer_of, selection_at};
+use babel_choice::{
+    ChoiceInputs, Costs, Entry, Origin, RouteKey, Selection, first_from, peer_of, selection_at,
+};
 use babel_sources::{SourceEntry, SourcesOver};
 use babel_table::Table;
 use babel_value::{Prefix, Source};
@@ -70,31 +73,28 @@ impl<'a, E: Table<RouteKey, Entry>, S: Table<Prefix, Selection>> PrefixWalk<'a, 
     pub fn pass<T: Table<Source, SourceEntry>, C: Costs>(
         &mut self,
         prefix: &Prefix,
-        local: bool,
+        origin: Origin,
         sources: &SourcesOver<T>,
         costs: &C,
     ) -> bool
         requires { are_from prefix.now self.old ≡ true }
-        ensures current { result ≡ is_current sources.now (C.cost_of costs.now) prefix.now local self.old }
+        ensures current { result ≡ is_current sources.now (C.cost_of costs.now) prefix.now (is_own origin) self.old }
         ensures rest { self.new ≡ without_prefix prefix.now self.old }
     {
         let (before, selection) = selection_from(self.selections, self.selection, prefix);
         let peer = peer_of(&before);
         let near = &mut self.source;
-        let (first, entry) = first_from(
-            self.entries,
-            self.entry,
-            prefix,
-            peer,
+        let inputs = ChoiceInputs {
+            entries: self.entries,
             sources,
             costs,
-            near,
-        );
+        };
+        let (first, entry) = first_from(&inputs, self.entry, prefix, peer, near);
         self.entry = entry;
         self.selection = selection;
         is_same_selection(
             &before,
-            &unless_local(local, selection_at(self.entries, first)),
+            &unless_own(origin, selection_at(self.entries, first)),
         )
     }
 }
@@ -133,8 +133,11 @@ fn selection_from<S: Table<Prefix, Selection>>(
 }
 
 /// The choice at a prefix: none if the prefix is the speaker's own.
-fn unless_local(local: bool, first: Option<Selection>) -> Option<Selection>
-    ensures { result ≡ (if local then None else first) }
+fn unless_own(origin: Origin, first: Option<Selection>) -> Option<Selection>
+    ensures { result ≡ (if is_own origin then None else first) }
 {
-    if local { None } else { first }
+    match origin {
+        Origin::Own => None,
+        Origin::Learned => first,
+    }
 }

@@ -118,10 +118,10 @@ impl Core {
         ensures old { result.0 ≡ selected_at prefix.now self.old }
         ensures new { result.1 ≡ selected_at prefix.now self.new }
     {
-        let local = self.announces(prefix);
+        let origin = self.origin(prefix);
         let costs = LinkCosts::new(&self.interfaces, &self.neighbours);
         self.routes
-            .select_near(prefix, local, &self.sources, &costs, cursor)
+            .select_near(prefix, origin, &self.sources, &costs, cursor)
     }
 
     /// Advertises a route at once that is new, that is lost or whose router-id changed (RFC 8966,

@@ -106,10 +106,10 @@ fn is_named_current(core: &Core, message: &Message, cursor: &mut Cursor) -> bool
 {
     match *message {
         Message::Update { prefix, .. } => {
-            let local = core.announces(&prefix);
+            let origin = core.origin(&prefix);
             let costs = LinkCosts::new(&core.interfaces, &core.neighbours);
             core.routes
-                .is_current_near(&prefix, local, &core.sources, &costs, cursor)
+                .is_current_near(&prefix, origin, &core.sources, &costs, cursor)
         }
         _ => true,
     }

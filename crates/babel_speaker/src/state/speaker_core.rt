@@ -3,7 +3,7 @@
 ghost use Rattle.std.specs.Prelude.{◌≡◌};
 
 use crate::tables::{Announced, Interfaces, PendingItems, RequestTable};
-use babel_choice::{Cursor, Entry, Selection};
+use babel_choice::{Cursor, Entry, Origin, Selection};
 use babel_link::Neighbours;
 use babel_route::Routes;
 use babel_sources::Sources;
@@ -63,6 +63,7 @@ impl Model for Core {
 
 impl Core {
     ghost use Rattle.std.specs.Prelude.{◌≡◌, ◌≤◌, length, slice_get, option_map};
+    ghost use Rattle.babel_choice.specs.Origins.{is_own};
     ghost use Rattle.babel_route.specs.Selections.{prefix_after};
     ghost use Rattle.babel_state.specs.Limits.{most_pending};
     ghost use Rattle.babel_state.specs.State.{interface_at, announces, is_neighbour, cost_at, rxcost_at, pair_at, entry_at, selected_at};
@@ -88,6 +89,13 @@ impl Core {
         ensures { result ≡ announces prefix.now self.now }
     {
         self.announced.contains(prefix)
+    }
+
+    /// Who announces the prefix.
+    pub(crate) fn origin(&self, prefix: &Prefix) -> Origin
+        ensures { is_own result ≡ announces prefix.now self.now }
+    {
+        self.announced.origin(prefix)
     }
 
     /// Whether the peer is a neighbour.

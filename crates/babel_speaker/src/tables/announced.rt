@@ -4,9 +4,11 @@ ghost use Rattle.std.specs.Prelude.{◌≡◌, ◌≤◌, ◌<◌, ◌↔◌, []
 ghost use Rattle.std.specs.FinMap.{find, put, is_sorted};
 ghost use Rattle.babel_value.specs.Orders.{prefix_cmp};
 ghost use Rattle.babel_table.specs.Entries.{without};
+ghost use Rattle.babel_choice.specs.Origins.{is_own};
 ghost use Rattle.babel_state.specs.State.{prefixes_in};
 
 use crate::tables::Prefixes;
+use babel_choice::Origin;
 use babel_state::MAX_PREFIXES;
 use babel_table::{Full, SortedTable, Table, find_in};
 use babel_value::{Memory, Prefix};
@@ -45,6 +47,17 @@ impl Announced {
         ensures { result ≡ is_some (find prefix_cmp prefix.now self.now) }
     {
         find_in(&self.table, prefix).is_some()
+    }
+
+    /// Who announces the prefix.
+    pub fn origin(&self, prefix: &Prefix) -> Origin
+        ensures { is_own result ≡ is_some (find prefix_cmp prefix.now self.now) }
+    {
+        if self.contains(prefix) {
+            Origin::Own
+        } else {
+            Origin::Learned
+        }
     }
 
     /// Announces the prefix. `Full` if and only if it isn't announced yet and 64 others are.

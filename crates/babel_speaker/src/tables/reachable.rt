@@ -67,6 +67,7 @@ impl<'a> Iterator for Reachable<'a> {
 
     ghost remaining = { item_count (λ prefixes. prefixes) };
 
+    #[inline(always)]
     fn next(&mut self) -> Option<Prefix> {
         let Some(own) = self.announced.at(self.own) else {
             let selection = self.routes.selection_at(self.selected)?;

@@ -157,8 +157,8 @@ impl Scratch {
     {
         let mut walk = routes.prefixes();
         while let Some(prefix) = walk.prefix() {
-            let local = announced.contains(&prefix);
-            if !walk.pass(&prefix, local, sources, costs) {
+            let origin = announced.origin(&prefix);
+            if !walk.pass(&prefix, origin, sources, costs) {
                 self.insert(prefix);
             }
         }
@@ -230,7 +230,7 @@ fn is_stale_from<C: Costs>(
     if !route.peer.cmp(peer).is_eq() {
         return false;
     }
-    let local = inputs.announced.contains(&route.prefix);
+    let origin = inputs.announced.origin(&route.prefix);
     let (sources, costs) = (inputs.sources, inputs.costs);
-    !routes.is_current_near(&route.prefix, local, sources, costs, cursor)
+    !routes.is_current_near(&route.prefix, origin, sources, costs, cursor)
 }

@@ -184,8 +184,8 @@ fn none_is_stale<C: Costs>(
 {
     let mut walk = routes.prefixes();
     while let Some(prefix) = walk.prefix() {
-        let local = announced.contains(&prefix);
-        if !walk.pass(&prefix, local, sources, costs) {
+        let origin = announced.origin(&prefix);
+        if !walk.pass(&prefix, origin, sources, costs) {
             return false;
         }
     }

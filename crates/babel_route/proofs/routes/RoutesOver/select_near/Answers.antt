@@ -4,6 +4,7 @@ use Rattle.std.proofs.Common.{◌∙◌, sym, ap, subst, length, ◌<◌}
 use Rattle.babel_value.specs.Orders.{prefix_cmp}
 use Rattle.babel_table.specs.Entries.{with_value}
 use Rattle.babel_choice.specs.Choices.{Selections, choice}
+use Rattle.babel_choice.specs.Origins.{is_own}
 use Rattle.babel_route.specs.Selections.{RoutesValue, reselected}
 use Rattle.babel_route.proofs.CurrentLemmas.{selects_first, selected_here}
 use Rattle.babel_route.proofs.RoomLemmas.{selection_fits_new, selected_within}
@@ -26,7 +27,7 @@ returns-clause-first g c =
     let sources = c.args.sources.now in
     let cost = g.C.Costs.cost_of c.args.costs.now in
     let prefix = c.args.prefix.now in
-    let local = c.args.local in
+    let local = is_own c.args.origin in
     let es = g.E.Table.entries c.self.inside.entries in
     let ss = g.S.Table.entries c.self.inside.selections in
     let new : RoutesValue = record { entries = es; selections = g.S.Table.entries c.replace_near.new.selections } in

@@ -15,7 +15,7 @@ returns-then-not-pass g c =
     let routes = c.args.routes.now in
     let walk = c.loop-prefix.walk in
     let prefix = c.in-Some.prefix in
-    let stale = ap (λ local. is_current sources cost prefix local walk) (sym c.contains-local.ensures) ∙ sym c.if-not-pass.ensures.current in
+    let stale = ap (λ local. is_current sources cost prefix local walk) (sym c.origin-origin.ensures) ∙ sym c.if-not-pass.ensures.current in
     let found = found_one sources cost announced routes prefix walk stale c.loop-prefix.invariant in
     (λ never. absurd (false≢true never), λ fresh. absurd (false≢true (sym (fresh prefix) ∙ found)))
 
@@ -32,7 +32,7 @@ loop-prefix-preserved g c =
     let routes = c.args.routes.now in
     let walk = c.loop-prefix.walk in
     let prefix = c.in-Some.prefix in
-    let current = ap (λ local. is_current sources cost prefix local walk) (sym c.contains-local.ensures) ∙ sym c.if-not-pass.ensures.current in
+    let current = ap (λ local. is_current sources cost prefix local walk) (sym c.origin-origin.ensures) ∙ sym c.if-not-pass.ensures.current in
     subst (λ (w : RoutesValue). AreDone sources cost announced routes [] w) (sym c.pass.ensures.rest) (step_current sources cost announced routes prefix [] walk current c.loop-prefix.invariant)
 
 pub returns : goal.returns

@@ -31,7 +31,7 @@ loop-prefix-preserved-then-not-pass g c =
     let set = c.loop-prefix.self in
     let prefix = c.in-Some.prefix in
     let kept = c.loop-prefix.invariant in
-    let stale = ap (λ local. is_current sources cost prefix local walk) (sym c.contains-local.ensures) ∙ sym c.if-not-pass.ensures.current in
+    let stale = ap (λ local. is_current sources cost prefix local walk) (sym c.origin-origin.ensures) ∙ sym c.if-not-pass.ensures.current in
     let less : size c.pass.new.self < size walk = subst (λ (w : RoutesValue). size w < size walk) (sym c.pass.ensures.rest) (passed_less prefix walk c.in-Some.ensures.some) in
     record {
       done = subst (λ (w : RoutesValue). AreDone sources cost announced routes c.insert.new.self w) (sym c.pass.ensures.rest)
@@ -50,7 +50,7 @@ loop-prefix-preserved g c =
     let set = c.loop-prefix.self in
     let prefix = c.in-Some.prefix in
     let kept = c.loop-prefix.invariant in
-    let current = ap (λ local. is_current sources cost prefix local walk) (sym c.contains-local.ensures) ∙ sym c.if-not-pass.ensures.current in
+    let current = ap (λ local. is_current sources cost prefix local walk) (sym c.origin-origin.ensures) ∙ sym c.if-not-pass.ensures.current in
     let less : size c.pass.new.self < size walk = subst (λ (w : RoutesValue). size w < size walk) (sym c.pass.ensures.rest) (passed_less prefix walk c.in-Some.ensures.some) in
     record {
       done = subst (λ (w : RoutesValue). AreDone sources cost announced routes set w) (sym c.pass.ensures.rest) (step_current sources cost announced routes prefix set walk current kept.done);

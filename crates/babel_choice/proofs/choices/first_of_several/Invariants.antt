@@ -4,12 +4,12 @@ use Rattle.babel_table.specs.Firsts.{first_from, first_of}
 use Rattle.babel_choice.specs.Choices.{others_of, routes_of, is_candidate, preference}
 use Rattle.babel_choice.proofs.ChoiceLemmas.{IsMeasured}
 use Rattle.babel_choice.proofs.RunLemmas.{are_not_before}
-use Rattle.babel_choice.proofs.choices.first_from.Given as goal
+use Rattle.babel_choice.proofs.choices.first_of_several.Given as goal
 
 abbrev pub invariant-loop-place : goal.invariant-loop-place
 invariant-loop-place g l =
-    let cost = g.C.Costs.cost_of l.costs in
-    let passes = is_candidate l.sources cost in
+    let cost = g.C.Costs.cost_of l.inputs.costs.now in
+    let passes = is_candidate l.inputs.sources.now cost in
     let es = g.E.Table.entries l.entries in
     record {
       from : are_not_before l.prefix (drop l.place es) ≡ true;
