@@ -300,9 +300,9 @@ fn write_changed<W: Write>(
     out: &mut W,
 ) -> Result<bool, LineFault> {
     let mut has_changed = false;
-    let mut place = 0;
+    let mut near = 0;
     for entry in printed.iter_mut() {
-        let selected = selected_near(speaker, &mut place, &entry.prefix);
+        let selected = speaker.selected_near(&entry.prefix, &mut near);
         if entry.is_doubtful || !lines.are_same(&selected, &entry.route) {
             lines
                 .write_change(moment, &entry.prefix, &selected, out)
@@ -313,21 +313,4 @@ fn write_changed<W: Write>(
         }
     }
     Ok(has_changed)
-}
-
-/// The selected route of the prefix. Its selection is at the index, which then goes to the next one, or there is none.
-fn selected_near(speaker: &Speaker, place: &mut usize, prefix: &Prefix) -> Option<Selected> {
-    let (found, selection) = speaker.selection_at(*place)?;
-    if found != *prefix {
-        return None;
-    }
-    *place = place.saturating_add(1);
-    let entry = selection.entry;
-    Some(Selected {
-        peer: selection.peer,
-        next_hop: entry.next_hop,
-        router: entry.router,
-        distance: entry.distance,
-        metric: entry.distance.metric.add(speaker.cost(&selection.peer)),
-    })
 }
