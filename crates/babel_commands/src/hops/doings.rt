@@ -3,8 +3,7 @@
 use crate::hops::networks::Runs;
 use babel_machine::Event;
 use babel_net::Emitted;
-use babel_text::LineFault;
-use std::io::Write;
+use std::io::{self, Write};
 
 /// Whether what each event did is written.
 #[derive(Clone, Copy, Debug, PartialEq, Eq)]
@@ -16,7 +15,7 @@ pub enum EventLines {
 }
 
 /// An event that was run.
-#[derive(Clone, Copy, Debug)]
+#[derive(Clone, Copy)]
 pub(crate) struct Doing {
     /// The number of the event.
     pub(crate) number: usize,
@@ -34,44 +33,37 @@ pub(crate) fn write_event<N: Runs, W: Write>(
     event: Option<&Event>,
     network: &N,
     out: &mut W,
-) -> Result<(), LineFault> {
+) -> io::Result<()> {
     let number = doing.number;
     let node = doing.node;
     let word = word_of(event);
-    write!(out, "{number} did {word} {node}").map_err(LineFault::of_writing)?;
+    write!(out, "{number} did {word} {node}")?;
     match event {
         Some(Event::Emit { .. }) => write_emitted(doing, network, out)?,
         Some(Event::Deliver { datagram, .. }) => {
             let (from, octets) = network.sent_by(*datagram).unwrap_or((0, 0));
-            write!(out, " datagram {datagram} octets {octets} from {from}").map_err(
-                LineFault::of_writing,
-            )?;
+            write!(out, " datagram {datagram} octets {octets} from {from}")?;
         }
         _ => {}
     }
-    writeln!(out).map_err(LineFault::of_writing)
+    writeln!(out)
 }
 
 /// Writes the datagram that was recorded: its number, its length and where it goes.
-fn write_emitted<N: Runs, W: Write>(
-    doing: Doing,
-    network: &N,
-    out: &mut W,
-) -> Result<(), LineFault> {
+fn write_emitted<N: Runs, W: Write>(doing: Doing, network: &N, out: &mut W) -> io::Result<()> {
     let Some(datagram) = doing.recorded else {
-        return write!(out, " nothing").map_err(LineFault::of_writing);
+        return write!(out, " nothing");
     };
     let (_, octets) = network.sent_by(datagram).unwrap_or((0, 0));
-    write!(out, " datagram {datagram} octets {octets}").map_err(LineFault::of_writing)?;
+    write!(out, " datagram {datagram} octets {octets}")?;
     let Some(emitted) = doing.emitted else {
         return Ok(());
     };
     let iface = emitted.target.iface;
-    let written = match emitted.target.to {
+    match emitted.target.to {
         Some(to) => write!(out, " iface {iface} to {to}"),
         None => write!(out, " iface {iface} to all"),
-    };
-    written.map_err(LineFault::of_writing)
+    }
 }
 
 /// The word of an event, as in a scenario.

@@ -12,7 +12,7 @@ use std::fmt;
 use std::io::Write;
 
 /// What is printed of a selected route.
-#[derive(Clone, Copy, Debug, PartialEq, Eq)]
+#[derive(Clone, Copy, PartialEq, Eq)]
 struct Printed {
     /// The router that the route leads over.
     hop: Hop,
@@ -21,7 +21,7 @@ struct Printed {
 }
 
 /// What the next hop of a selected route depends on.
-#[derive(Clone, Copy, Debug)]
+#[derive(Clone, Copy)]
 struct Route {
     /// The neighbour that the route leads over.
     peer: Peer,
@@ -32,7 +32,7 @@ struct Route {
 }
 
 /// What is kept of a node and a prefix.
-#[derive(Clone, Copy, Debug)]
+#[derive(Clone, Copy)]
 struct Kept {
     /// The selected route after the node's last event. A new speaker has none.
     route: Option<Route>,

@@ -26,7 +26,7 @@ impl EventFault {
 }
 
 /// A router over which a route leads.
-#[derive(Clone, Copy, Debug, PartialEq, Eq)]
+#[derive(Clone, Copy, PartialEq, Eq)]
 pub(crate) enum Hop {
     /// A node, by its number.
     Ours(usize),

@@ -5,7 +5,7 @@ use crate::hops::doings::{Doing, EventLines, write_event};
 use crate::hops::hops::Hops;
 use crate::hops::networks::{EventFault, Runs};
 use crate::showing::Status;
-use babel_config::{Scenario, ScenarioEvent, read_file, read_scenario};
+use babel_config::{FileFault, Scenario, ScenarioEvent, read_file, read_scenario};
 use babel_machine::Event;
 use babel_net::{MixedNetwork, Network};
 use babel_text::LineFault;
@@ -31,8 +31,7 @@ pub fn try_net<R: Read + Drop, W: Write>(
     lines: EventLines,
     out: &mut W,
 ) -> Result<(), Fault> {
-    let octets = read_file(alloc, scenario)?;
-    let Scenario { configs, events } = read_scenario(alloc, octets.as_slice())?;
+    let Scenario { configs, events } = scenario_in(alloc, scenario)?;
     let hops = Hops::new(alloc, configs.as_slice())?;
     match ours_alone(alloc, events.as_slice())? {
         Some(ours) => {
@@ -44,6 +43,12 @@ pub fn try_net<R: Read + Drop, W: Write>(
             run(network, events.as_slice(), lines, hops, out)
         }
     }
+}
+
+/// Reads a scenario.
+fn scenario_in<R: Read + Drop>(alloc: Global, scenario: R) -> Result<Scenario, FileFault> {
+    let octets = read_file(alloc, scenario)?;
+    read_scenario(alloc, octets.as_slice())
 }
 
 /// The events, if each is one of our nodes.
@@ -127,7 +132,7 @@ fn write_events<N: Runs, W: Write>(
                 recorded,
                 emitted,
             };
-            write_event(doing, N::ours(event), network, out)?;
+            write_event(doing, N::ours(event), network, out).map_err(LineFault::of_writing)?;
         }
         if may_differ(event, version, network) {
             hops.write_changes(number, node, network, out)?;

@@ -50,7 +50,7 @@ pub struct LogUntil<L: Read + Drop> {
 }
 
 /// What follows the part.
-#[derive(Clone, Copy, Debug, PartialEq, Eq)]
+#[derive(Clone, Copy, PartialEq, Eq)]
 enum State {
     /// The next line.
     Line,

@@ -4,7 +4,7 @@ use babel_message::{Content, Message, Placed, Reason};
 use babel_value::{Addr, Prefix};
 
 /// What a TLV has of a prefix.
-#[derive(Clone, Copy, Debug, PartialEq, Eq)]
+#[derive(Clone, Copy)]
 pub(crate) enum Sighting {
     /// A route with a finite metric.
     Update,

@@ -7,7 +7,7 @@ use std::fmt;
 use std::io::Write;
 
 /// Where a datagram came from.
-#[derive(Clone, Copy, Debug, PartialEq, Eq)]
+#[derive(Clone, Copy)]
 pub(crate) enum Origin {
     /// The argument HEX.
     Argument,

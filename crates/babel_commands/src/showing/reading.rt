@@ -58,7 +58,7 @@ fn read_front<R: BufRead>(input: &mut R, line: &mut Vec<u8>) -> Result<bool, Lin
 }
 
 /// What was read of a line.
-#[derive(Clone, Copy, Debug)]
+#[derive(Clone, Copy)]
 enum Part {
     /// More of it may follow.
     More,
