@@ -68,7 +68,13 @@ fn source_of(line: &str) -> Option<&str> {
 /// Writes a sentence for each route of the prefix, and for each neighbour without one whose Updates
 /// of it were ignored; or that this router announces it, or that there is none of these.
 pub(crate) fn write_reasons<W: Write>(answer: &str, prefix: &str, out: &mut W) -> io::Result<()> {
-    let has_route = write_routes(answer, out)?;
+    let mut has_route = false;
+    for line in answer.lines() {
+        if let Some(route) = route_of(answer, line) {
+            has_route = true;
+            write_reason(&route, out)?;
+        }
+    }
     if is_announced(answer, prefix) {
         return match has_route {
             // Its sentence names that.
@@ -80,18 +86,6 @@ pub(crate) fn write_reasons<W: Write>(answer: &str, prefix: &str, out: &mut W) -
         return Ok(());
     }
     writeln!(out, "{prefix}: no neighbour has advertised it")
-}
-
-/// Writes a sentence for each route of the prefix. Returns whether there is one.
-fn write_routes<W: Write>(answer: &str, out: &mut W) -> io::Result<bool> {
-    let mut has_one = false;
-    for line in answer.lines() {
-        if let Some(route) = route_of(answer, line) {
-            has_one = true;
-            write_reason(&route, out)?;
-        }
-    }
-    Ok(has_one)
 }
 
 /// Whether the dump has the prefix among those that the router announces.
@@ -132,26 +126,21 @@ fn has_route_of(answer: &str, ignored: &Ignored<'_>) -> bool {
 }
 
 fn write_ignored_by<W: Write>(ignored: &Ignored<'_>, out: &mut W) -> io::Result<()> {
-    let Ignored { prefix, device, .. } = *ignored;
-    let from = ShortAddress(ignored.address);
-    write!(out, "{prefix}: {from} on {device} advertised it ")?;
-    write_times(ignored, out)?;
-    write_ignored_reason(ignored, out)
-}
-
-/// Writes how often the neighbour advertised the prefix, and when it did last.
-fn write_times<W: Write>(ignored: &Ignored<'_>, out: &mut W) -> io::Result<()> {
-    let count = ignored.count;
+    let Ignored {
+        prefix,
+        address,
+        device,
+        count,
+        code,
+        ..
+    } = *ignored;
+    let from = ShortAddress(address);
     let ago = Cell::Centiseconds(ignored.ago.parse::<u64>().unwrap_or(0));
+    write!(out, "{prefix}: {from} on {device} advertised it ")?;
     match count {
-        "1" => write!(out, "once, {ago} ago"),
-        _ => write!(out, "{count} times, the last time {ago} ago"),
+        "1" => write!(out, "once, {ago} ago")?,
+        _ => write!(out, "{count} times, the last time {ago} ago")?,
     }
-}
-
-/// Writes why that was ignored, and ends the sentence.
-fn write_ignored_reason<W: Write>(ignored: &Ignored<'_>, out: &mut W) -> io::Result<()> {
-    let code = ignored.code;
     match ignored.kind {
         Some(kind) => writeln!(
             out,
@@ -214,15 +203,15 @@ fn reason_of(code: &str) -> &'static str {
 }
 
 fn write_reason<W: Write>(route: &Route<'_>, out: &mut W) -> io::Result<()> {
-    let via = ShortAddress(route.address);
-    let device = route.device;
+    let Route {
+        prefix,
+        address,
+        device,
+        metric,
+        ..
+    } = *route;
+    let via = ShortAddress(address);
     write!(out, "via {via} on {device}: ")?;
-    write_use(route, out)
-}
-
-/// Writes whether the route is used, and why not, and ends the sentence.
-fn write_use<W: Write>(route: &Route<'_>, out: &mut W) -> io::Result<()> {
-    let Route { prefix, metric, .. } = *route;
     match route.status {
         "selected" => writeln!(out, "used, with metric {metric}"),
         "candidate" => writeln!(
