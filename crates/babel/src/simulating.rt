@@ -7,6 +7,7 @@ use crate::help;
 use crate::pictures::{NoPicture, moment_of, with_picture_args, write_pictures};
 use babel_commands::{Details, Status, refuse};
 use babel_config::{FileFault, read_file};
+use babel_file_details::{FileText, explain_topology};
 use babel_line_details::Excerpt;
 use babel_machine::NetFault;
 use babel_simulate::report::{Shown, is_as_expected, write_objects, write_scenario, write_text};
@@ -15,10 +16,8 @@ use babel_simulate::{
 };
 use babel_snapshot_file::replace_file;
 use babel_text::parse_prefix;
-use babel_toml_places::FileText;
 use babel_topology::file::read_topology;
 use babel_topology::{Topology, TopologyFault};
-use babel_topology_details::explain_topology;
 use babel_value::Prefix;
 use clap::builder::ValueParser;
 use clap::{Arg, ArgMatches, Command};

@@ -7,12 +7,12 @@ use crate::locations::Owner;
 use crate::networks::network_problem;
 use crate::problems::Problem;
 use crate::schema::Schema;
+use crate::toml_places::{FileText, Position, Side, Step, position_at};
 use crate::warnings::warnings_of;
 use babel_config::{FileFault, Scenario, read_config, read_scenario};
 use babel_machine::{NetFault, StepFault};
 use babel_net::HearFault;
 use babel_state::ConfigFault;
-use babel_toml_places::{FileText, Position, Step, locate};
 use std::alloc::Global;
 use std::io::{self, Write};
 use toml::Value;
@@ -205,39 +205,8 @@ fn position_of(alloc: Global, octets: &[u8], finding: &Finding<'_>) -> Option<Po
     if is_of_key && steps.push(Step::Key(finding.text)).is_err() {
         return None;
     }
-    let part = if is_of_key { Part::Key } else { Part::Value };
-    position_at(alloc, octets, steps.as_slice(), part)
-}
-
-/// A key, or the value at it.
-#[derive(Clone, Copy, Debug, PartialEq, Eq)]
-pub enum Part {
-    /// The key.
-    Key,
-    /// The value.
-    Value,
-}
-
-/// The position of what the steps lead to in the text of a TOML document. `None` if it isn't there, or if an allocation
-/// fails.
-pub fn position_at(
-    alloc: Global,
-    octets: &[u8],
-    steps: &[Step<'_>],
-    part: Part,
-) -> Option<Position> {
-    let Ok(text) = str::from_utf8(octets) else {
-        return None;
-    };
-    if steps.is_empty() {
-        return None;
-    }
-    let place = locate(alloc, text, steps)?;
-    let rest = match part {
-        Part::Key => place.key,
-        Part::Value => place.value,
-    };
-    Some(Position::after(octets, text.len().saturating_sub(rest.len())))
+    let side = if is_of_key { Side::Key } else { Side::Value };
+    position_at(alloc, octets, steps.as_slice(), side)
 }
 
 /// Whether the problem is about a key, and not about its value.

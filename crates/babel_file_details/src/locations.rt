@@ -1,7 +1,7 @@
 //! Where a value is in the tables of a file.
 
 use crate::keys::Key;
-use babel_toml_places::Step;
+use crate::toml_places::Step;
 use std::alloc::{AllocError, Global};
 use std::fmt;
 

@@ -2,7 +2,7 @@
 //!
 //! The document was read already. Here it is read again, line by line, along one path.
 
-use crate::skipping::skip_value;
+use crate::toml_places::skipping::skip_value;
 use std::alloc::Global;
 use toml_parser::text::{skip_blank, skip_ws};
 use toml_parser::{Key, dotted_key};

@@ -1,19 +1,10 @@
 //! Where in a file a fault is.
 
-use babel_toml_places::{Position, Step, locate};
+use crate::toml_places::{Position, Side, Step, position_at};
 use babel_topology::TopologyFault;
 use babel_topology::file::{Cause, Part, Problem};
 use std::alloc::{AllocError, Global};
 use toml::{Table, Value};
-
-/// Whether the position of a key or of its value is looked for.
-#[derive(Clone, Copy, Debug, PartialEq, Eq)]
-pub(crate) enum Side {
-    /// That of the key.
-    Key,
-    /// That of the value.
-    Value,
-}
 
 /// A list of the file, an element of it, and the key in a table there.
 #[derive(Clone, Copy, Debug)]
@@ -141,20 +132,4 @@ fn steps_of<'a>(alloc: Global, problem: &Problem<'a>) -> Result<Vec<Step<'a>>, A
         steps.push(Step::Index(index))?;
     }
     Ok(steps)
-}
-
-/// The position of what the steps lead to. `None` if it isn't there, or if an allocation fails.
-fn position_at(alloc: Global, octets: &[u8], steps: &[Step<'_>], side: Side) -> Option<Position> {
-    let Ok(text) = str::from_utf8(octets) else {
-        return None;
-    };
-    if steps.is_empty() {
-        return None;
-    }
-    let place = locate(alloc, text, steps)?;
-    let rest = match side {
-        Side::Key => place.key,
-        Side::Value => place.value,
-    };
-    Some(Position::after(octets, text.len().saturating_sub(rest.len())))
 }

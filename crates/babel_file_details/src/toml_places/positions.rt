@@ -1,5 +1,7 @@
 //! Lines and columns.
 
+use crate::toml_places::locating::{Step, locate};
+use std::alloc::Global;
 use std::fmt;
 
 /// A line and a column, both from 1 on. A column counts characters.
@@ -31,4 +33,35 @@ impl fmt::Display for Position {
     fn fmt<W: fmt::Write>(&self, f: &mut fmt::Formatter<W>) -> fmt::Result {
         write!(f, "{}:{}", self.line, self.column)
     }
+}
+
+/// Whether the position of a key or of its value is looked for.
+#[derive(Clone, Copy, Debug, PartialEq, Eq)]
+pub enum Side {
+    /// That of the key.
+    Key,
+    /// That of the value.
+    Value,
+}
+
+/// The position of what the steps lead to in the text of a TOML document. `None` if it isn't
+/// there, or if an allocation fails.
+pub fn position_at(
+    alloc: Global,
+    octets: &[u8],
+    steps: &[Step<'_>],
+    side: Side,
+) -> Option<Position> {
+    let Ok(text) = str::from_utf8(octets) else {
+        return None;
+    };
+    if steps.is_empty() {
+        return None;
+    }
+    let place = locate(alloc, text, steps)?;
+    let rest = match side {
+        Side::Key => place.key,
+        Side::Value => place.value,
+    };
+    Some(Position::after(octets, text.len().saturating_sub(rest.len())))
 }

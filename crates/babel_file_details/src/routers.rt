@@ -1,10 +1,11 @@
-//! The sentence about a file that is refused.
+//! The sentence about a file of `run --config` that is refused: line and column, key, value, and
+//! what is allowed.
 
+use crate::explaining::{FileKind, explain_file};
+use crate::toml_places::{FileText, Position, Side, Step, position_at};
 use babel_config::FileFault;
-use babel_file_details::{FileKind, Part, explain_file, position_at};
 use babel_line_details::Excerpt;
 use babel_router_file::{Cause, DEVICE, DEVICE_KEYS, FILE_KEYS, Kind, Problem, first_problem};
-use babel_toml_places::{FileText, Position, Step};
 use std::alloc::{AllocError, Global};
 use std::fmt;
 use std::io::{self, Write};
@@ -39,12 +40,12 @@ fn write_problem<W: Write>(
 }
 
 fn position_of(alloc: Global, octets: &[u8], problem: &Problem<'_>) -> Option<Position> {
-    let part = match problem.cause {
-        Cause::UnknownKey => Part::Key,
-        _ => Part::Value,
+    let side = match problem.cause {
+        Cause::UnknownKey => Side::Key,
+        _ => Side::Value,
     };
     match steps_of(alloc, problem) {
-        Ok(steps) => position_at(alloc, octets, &steps, part),
+        Ok(steps) => position_at(alloc, octets, &steps, side),
         Err(_) => None,
     }
 }

@@ -1,8 +1,8 @@
 //! The sentence about a file that is refused.
 
-use crate::places::{element_of, position_of};
+use crate::toml_places::{FileText, Position};
+use crate::topologies::places::{element_of, position_of};
 use babel_line_details::Excerpt;
-use babel_toml_places::{FileText, Position};
 use babel_topology::TopologyFault;
 use babel_topology::file::{Cause, FILE_KEYS, LINK_KEYS, NODE_KEYS, Part, Problem, first_problem};
 use std::alloc::Global;

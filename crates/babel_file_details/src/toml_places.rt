@@ -1,0 +1,13 @@
+//! Where a key or a value is in the text of a TOML document.
+//!
+//! `locating` finds a value along a path, `skipping` passes over values, and `positions` counts
+//! lines and columns. `files` has files by their names.
+
+mod files;
+mod locating;
+mod positions;
+mod skipping;
+
+pub use files::FileText;
+pub use locating::Step;
+pub use positions::{Position, Side, position_at};
