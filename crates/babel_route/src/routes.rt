@@ -288,6 +288,7 @@ impl<E: Table<RouteKey, Entry>, S: Table<Prefix, Selection>> RoutesOver<E, S> {
 
     /// The selection of the prefix, as the last reselection left it. The search begins at the cursor, which goes to
     /// the prefix.
+    #[inline(always)]
     pub fn selected_near(&self, prefix: &Prefix, cursor: &mut Cursor) -> Option<Selection>
         ensures { result ≡ selection_at prefix.now self.now }
     {
