@@ -1,68 +1,81 @@
--- Which texts spell a number: those that std reads and that have neither a sign nor a leading zero.
-use Rattle.std.proofs.Common.{◌≡◌, ℕ, ◌^◌, ◌<◌, ◌≤◌, ◌==◌, ◌||◌, ◌&&◌, nat_lt, Bool, true, false, List, [], ◌∷◌, length, get_or, sym, ap, ◌∙◌, arith, inl, inr, eq-eqb, eqb-true, ltb-true, lt-ltb, Result, Ok, Err}
-use Rattle.std.proofs.lemmas.Bool.{cases_lt, or_cases, or_parts, and_parts, both_ways, and_from}
+-- Which texts spell a number: those of digits alone that no zero begins.
+use Rattle.std.proofs.Common.{◌≡◌, ℕ, ◌^◌, ◌+◌, ◌*◌, ◌-◌, ◌<◌, ◌≤◌, ◌==◌, ◌&&◌, nat_lt, Bool, true, false, List, length, take, get_or, sym, ap, subst, ◌∙◌, lit≤, arith, inl, inr, eq-eqb, eqb-true, ltb-true, lt-ltb, Option, Some, None, MatchOption, Result, Ok, Err}
+use Rattle.std.proofs.lemmas.Bool.{cases_lt, and_parts, both_ways, and_from}
 use Rattle.std.proofs.lemmas.Fmt.{decimal_is_IsNumeral, decimal_digit, first_decimal, decimal-digits_value, decimal_injective}
-use Rattle.std.proofs.lemmas.Str.Parse.{numerals_by_value, tells_digits, without_leading_plus_none}
-use Rattle.std.specs.Str.Parse.{IsNumeral, digits_value, without_leading_plus, ParsesUnsigned}
+use Rattle.std.proofs.lemmas.Int.Digits.{digits_value_more}
+use Rattle.std.proofs.lemmas.Str.{digit_value_digit}
+use Rattle.std.proofs.lemmas.Str.Parse.{IsNumeralModel, numerals_by_value, tells_digits, tells_by_index, digit_at, digits_value-take-le}
+use Rattle.std.specs.Str.Parse.{IsNumeral, digits_value}
 use Rattle.std.specs.Int.{IsInRange}
 use Rattle.std.specs.Fmt.{decimal}
 use Rattle.std.specs.Result.{result_ok, OkIff}
 use Rattle.babel_text.specs.Readings.{Reads}
 use Rattle.babel_text.specs.Numbers.{IsNumberText}
 
--- The text begins with a plus, or with a zero that more follows.
-abbrev pub has_sign_or_zero : List ℕ → Bool
-has_sign_or_zero text = get_or text 0 0 == 43 || (get_or text 0 0 == 48 && nat_lt 1 (length text))
+-- The text begins with a zero that more follows.
+abbrev pub has_leading_zero : List ℕ → Bool
+has_leading_zero text = get_or text 0 0 == 48 && nat_lt 1 (length text)
 
-digits_begin : (ds : List ℕ) → IsNumeral 10 ds → IsInRange 48 57 (get_or ds 0 0)
-digits_begin [] h = absurd (omega arith)
-digits_begin (c ∷ cs) h = (tells_digits.parts c cs h.1).0
-
--- Decimals begin neither way.
-no_sign_or_zero : (n : ℕ) → n < 2 ^ 64 → ¬ (has_sign_or_zero (decimal n) ≡ true)
-no_sign_or_zero n small front =
-    let numeral = decimal_is_IsNumeral n small in
-    let begins = digits_begin (decimal n) numeral.0 in
-    elim (or_cases (get_or (decimal n) 0 0 == 43) _ front) [
-      | inl plus ↦ let same = eqb-true (get_or (decimal n) 0 0) 43 plus in omega arith
-      | inr zero ↦
-          let (is_zero, is_long) = and_parts (get_or (decimal n) 0 0 == 48) _ zero in
-          let same = eqb-true (get_or (decimal n) 0 0) 48 is_zero in
-          let long = ltb-true 1 (length (decimal n)) is_long in
-          elim (cases_lt n 10) [
-            | inl one ↦ let short = ap length (decimal_digit n one) in omega arith
-            | inr more ↦ let first = first_decimal n (omega arith) small in omega arith
-          ]
+-- No decimal does.
+no_leading_zero : (n : ℕ) → n < 2 ^ 64 → ¬ (has_leading_zero (decimal n) ≡ true)
+no_leading_zero n small front =
+    let (is_zero, is_long) = and_parts (get_or (decimal n) 0 0 == 48) _ front in
+    let same = eqb-true (get_or (decimal n) 0 0) 48 is_zero in
+    let long = ltb-true 1 (length (decimal n)) is_long in
+    elim (cases_lt n 10) [
+      | inl one ↦ let short = ap length (decimal_digit n one) in omega arith
+      | inr more ↦ let first = first_decimal n (omega arith) small in omega arith
     ]
 
-pub no_number : (text : List ℕ) → has_sign_or_zero text ≡ true → (n : ℕ) → ¬ (IsNumberText 64 text n)
-no_number text front n spelled = no_sign_or_zero n spelled.0 (rw spelled.1 at front)
+pub no_number : (text : List ℕ) → has_leading_zero text ≡ true → (n : ℕ) → ¬ (IsNumberText 64 text n)
+no_number text front n spelled = no_leading_zero n spelled.0 (rw spelled.1 at front)
 
-module _ (text : List ℕ) (front : has_sign_or_zero text ≡ false) where
-  same_text : without_leading_plus text ≡ text
-  same_text =
-      let (no_plus, no_zero) = or_parts (get_or text 0 0 == 43) _ front in
-      without_leading_plus_none text (λ e. both_ways _ no_plus (eq-eqb _ 43 e))
-
-  pub number_read : IsNumeral 10 (without_leading_plus text) × (digits_value 10 (without_leading_plus text) < 2 ^ 64) → IsNumberText 64 text (digits_value 10 (without_leading_plus text))
-  number_read h =
-      let (numeral, small) = rw same_text at h in
-      let (no_plus, no_zero) = or_parts (get_or text 0 0 == 43) _ front in
+module _ (text : List ℕ) (front : has_leading_zero text ≡ false) where
+  number_read : IsNumeral 10 text → digits_value 10 text < 2 ^ 64 → IsNumberText 64 text (digits_value 10 text)
+  number_read numeral small =
       let alone : get_or text 0 0 ≡ 48 → length text ≡ 1 = λ e.
       elim (cases_lt 1 (length text)) [
-        | inl more ↦ absurd (both_ways _ no_zero (and_from _ _ (eq-eqb _ 48 e) (lt-ltb _ _ more)))
-        | inr one ↦ omega arith
+        | inl more ↦ absurd (both_ways _ front (and_from _ _ (eq-eqb _ 48 e) (lt-ltb _ _ more)))
+        | inr one ↦ let some = numeral.0 in omega arith
       ] in
-      rw same_text (small, sym (decimal-digits_value (numerals_by_value _ tells_digits) text numeral.1 numeral.0 alone small))
+      (small, sym (decimal-digits_value (numerals_by_value _ tells_digits) text numeral.1 numeral.0 alone small))
 
-  pub number_not_read : ¬ (IsNumeral 10 (without_leading_plus text) × (digits_value 10 (without_leading_plus text) < 2 ^ 64)) → (n : ℕ) → ¬ (IsNumberText 64 text n)
+  number_not_read : ¬ (IsNumeral 10 text × (digits_value 10 text < 2 ^ 64)) → (n : ℕ) → ¬ (IsNumberText 64 text n)
   number_not_read h n spelled =
       let (numeral, value) = decimal_is_IsNumeral n spelled.0 in
-      h (rw (same_text, spelled.1) (numeral, rw value spelled.0))
+      h (rw spelled.1 (numeral, rw value spelled.0))
 
-  pub number_reads : {E : Type 0} (r : Result ℕ E) → ParsesUnsigned 64 10 text r → Reads (IsNumberText 64) text (result_ok r)
-  number_reads (Ok n) h = rw h.1 (number_read h.0)
-  number_reads (Err e) h = number_not_read h
+  pub number_reads : (r : Option ℕ) → MatchOption r (¬ (IsNumeral 10 text × (digits_value 10 text < 2 ^ 64))) (λ value. IsNumeral 10 text × (digits_value 10 text < 2 ^ 64) × (value ≡ digits_value 10 text)) → Reads (IsNumberText 64) text r
+  number_reads (Some n) h = rw h.2 (number_read h.0 h.1)
+  number_reads None h = number_not_read h
+
+-- ---- digits that are read one after another
+
+by_index : IsNumeralModel (λ ds. (i : ℕ) → i < length ds → IsInRange 48 57 (get_or ds i 0)) (digits_value 10)
+by_index = numerals_by_value _ tells_by_index
+
+-- A digit more, which is the value's last one.
+pub value_goes : (ds : List ℕ) (i value : ℕ) → i < length ds → IsInRange 48 57 (get_or ds i 0) → value ≡ digits_value 10 (take i ds) →
+    value * 10 + (get_or ds i 0 - 48) ≡ digits_value 10 (take (i + 1) ds)
+value_goes ds i value within digit so =
+    omega (arith, ap (λ v. v * 10) so, digit_value_digit (get_or ds i 0) digit, digits_value_more 10 ds i within)
+
+pub in_range_goes : (ds : List ℕ) (i : ℕ) → ((k : ℕ) → k < i → IsInRange 48 57 (get_or ds k 0)) → IsInRange 48 57 (get_or ds i 0) → (k : ℕ) → k < i + 1 → IsInRange 48 57 (get_or ds k 0)
+in_range_goes ds i before here k below =
+    elim (cases_lt k i) [
+      | inl less ↦ before k less
+      | inr not_less ↦ let same : i ≡ k = omega arith in subst (λ j. IsInRange 48 57 (get_or ds j 0)) same here
+    ]
+
+pub all_are_digits : (ds : List ℕ) → 0 < length ds → ((k : ℕ) → k < length ds → IsInRange 48 57 (get_or ds k 0)) → IsNumeral 10 ds
+all_are_digits ds some digits = (some, by_index.to ds digits)
+
+-- An octet that isn't a digit, or a value that is too large.
+pub none_goes : (ds : List ℕ) (i value : ℕ) → i < length ds → value ≡ digits_value 10 (take i ds) →
+    ¬ (IsInRange 48 57 (get_or ds i 0) × (value * 10 + (get_or ds i 0 - 48) < 2 ^ 64)) → ¬ (IsNumeral 10 ds × (digits_value 10 ds < 2 ^ 64))
+none_goes ds i value within so none (numeral, small) =
+    let digit = digit_at ds i numeral.1 within in
+    none (digit, omega (arith, value_goes ds i value within digit so, digits_value-take-le 10 ds (i + 1) (lit≤ tt), small))
 
 -- A number that is read as one of fewer bits.
 pub number_narrowed : {E : Type 0} (bits : ℕ) (text : List ℕ) (n : ℕ) (r : Result ℕ E) → 2 ^ bits ≤ 2 ^ 64 → IsNumberText 64 text n → OkIff r (n < 2 ^ bits) n → Reads (IsNumberText bits) text (result_ok r)

@@ -7,7 +7,8 @@ ghost use Rattle.babel_text.specs.Octets.{hex_octets};
 ghost use Rattle.babel_text.specs.LogLines.{is_skipped_line, HasBlank, before_blank, after_blank, HasTwoFields, IsReceived, IsReceiveText, IsCostText, IsLine};
 ghost use Rattle.babel_text.specs.LogLines.{IsNumber, IsAddress, IsTickFault, IsFieldFault, IsReceiveFault, IsCostFault, IsLineFault};
 
-use crate::{LineFault, parse_octets, parse_u16, parse_u64};
+use crate::numbers::{u16_of, u64_of};
+use crate::{LineFault, parse_octets};
 use babel_value::Addr;
 
 /// A line of a log.
@@ -42,6 +43,13 @@ pub enum Action<'a> {
     },
 }
 
+/// The words after the time.
+const TICK: &[u8] = b"tick";
+
+const IN: &[u8] = b"in";
+
+const COST: &[u8] = b"cost";
+
 /// Whether the line is skipped: it is empty, or begins with `#`.
 pub fn is_skipped(line: &[u8]) -> bool
     ensures { result ≡ is_skipped_line line.now }
@@ -62,36 +70,42 @@ pub fn parse_line<'a>(line: &[u8], octets: &'a mut [u8]) -> Result<Event<'a>, Li
     ensures ok { IfOk result (λ event. IsLine (length octets.old) line.now event.time event.action) }
     ensures refused { IfErr result (IsLineFault (length octets.old) line.now) }
 {
-    let Ok(text) = str::from_utf8(line) else {
+    if str::from_utf8(line).is_err() {
+        return Err(LineFault::Form);
+    }
+    let Some((time, rest)) = split_field(line) else {
         return Err(LineFault::Form);
     };
-    let Some((time, rest)) = split_field(text) else {
-        return Err(LineFault::Form);
-    };
-    if rest == "tick" {
+    if rest == TICK {
         return parse_tick(time);
     }
     let Some((word, fields)) = split_field(rest) else {
         return Err(LineFault::Form);
     };
-    if word == "in" {
+    if word == IN {
         return parse_receive(time, fields, octets);
     }
-    if word == "cost" {
+    if word == COST {
         return parse_cost(time, fields);
     }
     Err(LineFault::Form)
 }
 
-/// The text before the first blank and the text after it.
-fn split_field(text: &str) -> Option<(&str, &str)>
+/// The text before the first blank and the text after it. All fields that are split off are short, so a loop takes less
+/// than a search by words of octets.
+fn split_field(text: &[u8]) -> Option<(&[u8], &[u8])>
     ensures { MatchOption result (¬ (HasBlank text.now)) (λ f. HasBlank text.now × (f.0.now ≡ before_blank text.now) × (f.1.now ≡ after_blank text.now)) }
 {
-    text.split_once(' ')
+    for index in 0..text.len() {
+        if text[index] == b' ' {
+            return Some((&text[..index], &text[index + 1..]));
+        }
+    }
+    None
 }
 
 /// A tick at the time.
-fn parse_tick<'a>(time: &str) -> Result<Event<'a>, LineFault>
+fn parse_tick<'a>(time: &[u8]) -> Result<Event<'a>, LineFault>
     ensures time { IfOk result (λ event. IsNumberText 64 time.now event.time) }
     ensures action { IfOk result (λ event. event.action ≡ Action.Tick) }
     ensures refused { IfErr result (IsTickFault time.now) }
@@ -102,7 +116,11 @@ fn parse_tick<'a>(time: &str) -> Result<Event<'a>, LineFault>
 }
 
 /// A datagram at the time, from the fields after the word `in`.
-fn parse_receive<'a>(time: &str, fields: &str, octets: &'a mut [u8]) -> Result<Event<'a>, LineFault>
+fn parse_receive<'a>(
+    time: &[u8],
+    fields: &[u8],
+    octets: &'a mut [u8],
+) -> Result<Event<'a>, LineFault>
     ensures time { IfOk result (λ event. IsNumberText 64 time.now event.time) }
     ensures action { IfOk result (λ event. IsReceiveText (length octets.old) fields.now event.action) }
     ensures refused { IfErr result (IsReceiveFault (length octets.old) time.now fields.now) }
@@ -121,10 +139,10 @@ fn parse_receive<'a>(time: &str, fields: &str, octets: &'a mut [u8]) -> Result<E
 
 /// A datagram at the time, from its fields.
 fn read_receive<'a>(
-    time: &str,
-    iface: &str,
-    source: &str,
-    hex: &str,
+    time: &[u8],
+    iface: &[u8],
+    source: &[u8],
+    hex: &[u8],
     octets: &'a mut [u8],
 ) -> Result<Event<'a>, LineFault>
     ensures time { IfOk result (λ event. IsNumberText 64 time.now event.time) }
@@ -142,7 +160,7 @@ fn read_receive<'a>(
 
 /// The first fault of a line whose last field is `hex`: L1 if that field has a further blank, else the fault given.
 /// A field that is read as octets has no blank, so only a refused line is searched for one.
-fn form_first(hex: &str, fault: LineFault) -> LineFault
+fn form_first(hex: &[u8], fault: LineFault) -> LineFault
     ensures further { HasBlank hex.now → result ≡ LineFault.Form }
     ensures last { (¬ (HasBlank hex.now)) → result ≡ fault }
 {
@@ -154,7 +172,7 @@ fn form_first(hex: &str, fault: LineFault) -> LineFault
 }
 
 /// A cost at the time, from the fields after the word `cost`.
-fn parse_cost<'a>(time: &str, fields: &str) -> Result<Event<'a>, LineFault>
+fn parse_cost<'a>(time: &[u8], fields: &[u8]) -> Result<Event<'a>, LineFault>
     ensures time { IfOk result (λ event. IsNumberText 64 time.now event.time) }
     ensures action { IfOk result (λ event. IsCostText fields.now event.action) }
     ensures refused { IfErr result (IsCostFault time.now fields.now) }
@@ -169,7 +187,7 @@ fn parse_cost<'a>(time: &str, fields: &str) -> Result<Event<'a>, LineFault>
 }
 
 /// The two fields after the word `cost`.
-fn cost_fields(fields: &str) -> Result<(&str, &str), LineFault>
+fn cost_fields(fields: &[u8]) -> Result<(&[u8], &[u8]), LineFault>
     ensures parted { IfOk result (λ f. HasTwoFields fields.now) }
     ensures iface { IfOk result (λ f. f.0.now ≡ before_blank fields.now) }
     ensures cost { IfOk result (λ f. f.1.now ≡ after_blank fields.now) }
@@ -185,33 +203,33 @@ fn cost_fields(fields: &str) -> Result<(&str, &str), LineFault>
 }
 
 /// The moment that the text spells.
-fn parse_time(text: &str) -> Result<u64, LineFault>
+fn parse_time(text: &[u8]) -> Result<u64, LineFault>
     ensures ok { IfOk result (IsNumberText 64 text.now) }
     ensures refused { IfErr result (λ fault. (fault ≡ LineFault.Number) × (¬ (IsNumber 64 text.now))) }
 {
-    match parse_u64(text) {
+    match u64_of(text) {
         Some(number) => Ok(number),
         None => Err(LineFault::Number),
     }
 }
 
 /// The number up to 65535 that the text spells.
-fn parse_word(text: &str) -> Result<u16, LineFault>
+fn parse_word(text: &[u8]) -> Result<u16, LineFault>
     ensures ok { IfOk result (IsNumberText 16 text.now) }
     ensures refused { IfErr result (λ fault. (fault ≡ LineFault.Number) × (¬ (IsNumber 16 text.now))) }
 {
-    match parse_u16(text) {
+    match u16_of(text) {
         Some(number) => Ok(number),
         None => Err(LineFault::Number),
     }
 }
 
 /// The address that the text spells.
-fn parse_address(text: &str) -> Result<Addr, LineFault>
+fn parse_address(text: &[u8]) -> Result<Addr, LineFault>
     ensures ok { IfOk result (IsAddrText text.now) }
     ensures refused { IfErr result (λ fault. (fault ≡ LineFault.Address) × (¬ (IsAddress text.now))) }
 {
-    match Addr::parse_ascii(text.as_bytes()) {
+    match Addr::parse_ascii(text) {
         Ok(addr) => Ok(addr),
         Err(_) => Err(LineFault::Address),
     }
@@ -219,11 +237,11 @@ fn parse_address(text: &str) -> Result<Addr, LineFault>
 
 /// Reads the octets into the front of `octets`, and returns that front. `-` stands for no octets, and
 /// an empty text isn't hexadecimal.
-fn parse_hex<'a>(hex: &str, octets: &'a mut [u8]) -> Result<&'a [u8], LineFault>
+fn parse_hex<'a>(hex: &[u8], octets: &'a mut [u8]) -> Result<&'a [u8], LineFault>
     ensures ok { IfOk result (λ read. hex_octets (length octets.old) hex.now ≡ Some read.now) }
     ensures refused { IfErr result (λ fault. (fault ≡ LineFault.Hex) × (hex_octets (length octets.old) hex.now ≡ None)) }
 {
-    match parse_octets(hex.as_bytes(), octets) {
+    match parse_octets(hex, octets) {
         Some(read) => Ok(read),
         None => Err(LineFault::Hex),
     }

@@ -39,7 +39,9 @@ pub fn parse_octets<'a>(text: &[u8], octets: &'a mut [u8]) -> Option<&'a [u8]>
     Some(front)
 }
 
-/// Whether the text is hexadecimal, whose octets are then written.
+/// Whether the text is hexadecimal, whose octets are then written. It is a call of its own: within a larger function its
+/// loop has too few registers.
+#[inline(never)]
 fn decode(text: &[u8], octets: &mut [u8]) -> bool
     requires { length text.now ≡ 2 * length octets.old }
     ensures read { IsTrue result → octets_or_none (decode_pairs 0 text.now) ≡ Some octets.new }

@@ -6,31 +6,34 @@ use Rattle.babel_text.specs.LogLines.{HasBlank, before_blank, after_blank, IsWor
 use Rattle.babel_text.proofs.log_lines.parse_line.Goals as goal
 
 -- What the reader of the fields after a word refuses is the fault of the line.
-line_fault : {E : Type 0} (room : ℕ) (line text time rest word fields : List ℕ) (read : Result E LineFault) (Found : LineFault → Type 0)
-    → (text ≡ line) × IsUtf8 line → HasBlank text × (time ≡ before_blank text) × (rest ≡ after_blank text) → pointwise nat_eq rest (codes "tick") ≡ false
+line_fault : {E : Type 0} (room : ℕ) (line time rest word fields : List ℕ) (read : Result E LineFault) (Found : LineFault → Type 0)
+    → IsUtf8 line → HasBlank line × (time ≡ before_blank line) × (rest ≡ after_blank line) → pointwise nat_eq rest (codes "tick") ≡ false
     → HasBlank rest × (word ≡ before_blank rest) × (fields ≡ after_blank rest) → ((found : LineFault) → Found found → IsWordFault room time word fields found)
     → IfErr read Found → IfErr read (IsLineFault room line)
-line_fault room line text time rest word fields read Found (text_is, utf8) (parted, time_is, rest_is) other (parted_again, word_is, fields_is) means =
-    let after = rest_is ∙ ap (λ l. after_blank l) text_is in
+line_fault room line time rest word fields read Found utf8 (parted, time_is, after) other (parted_again, word_is, fields_is) means =
     IfErr-weaker read Found (IsLineFault room line) (λ found h.
-    let fault = subst (λ l. IsWordFault room l (before_blank (after_blank line)) (after_blank (after_blank line)) found) (time_is ∙ ap (λ l. before_blank l) text_is)
+    let fault = subst (λ l. IsWordFault room l (before_blank (after_blank line)) (after_blank (after_blank line)) found) time_is
     (subst (λ l. IsWordFault room time l (after_blank (after_blank line)) found) (word_is ∙ ap (λ l. before_blank l) after)
     (subst (λ l. IsWordFault room time word l found) (fields_is ∙ ap (λ l. after_blank l) after) (means found h))) in
     let not_tick = ap (λ l. pointwise nat_eq l (codes "tick")) (sym after) ∙ other in
-    inr (utf8, inr (subst (λ l. HasBlank l) text_is parted, inr ((λ tick. true≢false (sym tick ∙ not_tick)), inr (subst (λ l. HasBlank l) after parted_again, fault)))))
+    inr (utf8, inr (parted, inr ((λ tick. true≢false (sym tick ∙ not_tick)), inr (subst (λ l. HasBlank l) after parted_again, fault)))))
 
 pub returns-then-eq-2-clause-refused : goal.returns-then-eq-2-clause-refused
 returns-then-eq-2-clause-refused c =
     let word : IsWord c.in-Some-split_field.word.now (codes "in") = search rules in
     let time = c.in-Some.time.now in
     let fields = c.in-Some-split_field.fields.now in
-    line_fault (length c.args.octets.now) c.args.line.now c.in-Ok.text.now time c.in-Some.rest.now c.in-Some-split_field.word.now fields c.parse_receive.result
-    (IsReceiveFault (length c.args.octets.now) time fields) c.in-Ok.ensures.cases c.in-Some.ensures (search rules) c.in-Some-split_field.ensures (λ found h. inl (word, h)) c.parse_receive.ensures.refused
+    let utf8 : IsUtf8 c.args.line.now = search rules in
+    let other : pointwise nat_eq c.in-Some.rest.now (codes "tick") ≡ false = search rules in
+    line_fault (length c.args.octets.now) c.args.line.now time c.in-Some.rest.now c.in-Some-split_field.word.now fields c.parse_receive.result
+    (IsReceiveFault (length c.args.octets.now) time fields) utf8 c.in-Some.ensures other c.in-Some-split_field.ensures (λ found h. inl (word, h)) c.parse_receive.ensures.refused
 
 pub returns-then-eq-3-clause-refused : goal.returns-then-eq-3-clause-refused
 returns-then-eq-3-clause-refused c =
     let word : IsWord c.in-Some-split_field.word.now (codes "cost") = search rules in
     let time = c.in-Some.time.now in
     let fields = c.in-Some-split_field.fields.now in
-    line_fault (length c.args.octets.now) c.args.line.now c.in-Ok.text.now time c.in-Some.rest.now c.in-Some-split_field.word.now fields c.parse_cost.result
-    (IsCostFault time fields) c.in-Ok.ensures.cases c.in-Some.ensures (search rules) c.in-Some-split_field.ensures (λ found h. inr (inl (word, h))) c.parse_cost.ensures.refused
+    let utf8 : IsUtf8 c.args.line.now = search rules in
+    let other : pointwise nat_eq c.in-Some.rest.now (codes "tick") ≡ false = search rules in
+    line_fault (length c.args.octets.now) c.args.line.now time c.in-Some.rest.now c.in-Some-split_field.word.now fields c.parse_cost.result
+    (IsCostFault time fields) utf8 c.in-Some.ensures other c.in-Some-split_field.ensures (λ found h. inr (inl (word, h))) c.parse_cost.ensures.refused
