@@ -1,6 +1,7 @@
 //! What a reader has from earlier TLVs (RFC 8966, section 4.5), and what a TLV can leave out for it.
 
-ghost use Rattle.std.specs.Prelude.{◌≡◌, ◌≤◌, length};
+ghost use Rattle.std.specs.Prelude.{◌≡◌, ◌≤◌, length, take};
+ghost use Rattle.std.specs.Option.{option_map};
 ghost use Rattle.std.specs.Str.{bytes_eq};
 ghost use Rattle.babel_packet.specs.Payloads.{octets};
 ghost use Rattle.babel_packet.specs.BodyMeanings.{hop_for};
@@ -61,16 +62,32 @@ fn given_router(addr: &Addr) -> [u8; ROUTER_ID_LEN]
     router
 }
 
-/// How many of the octets of a prefix the default prefix of its encoding has too, from the first on.
+/// How many of the first `taken` octets of an address the default prefix of its encoding has too, from the first on.
+/// Whole addresses are compared: their length is known where this is compiled, so that the loop is unrolled.
 #[inline]
-pub(crate) fn omitted(state: &ParserState, addr: &Addr, octets: &[u8]) -> usize
-    ensures value { result ≡ compressed.omitted (default_for addr.now state.now) octets.now }
-    ensures short { result ≤ length octets.now }
+#[tactic(auto, using(crate::proofs::Shared::omitted_in_front))]
+pub(crate) fn omitted(state: &ParserState, addr: &Addr, taken: usize) -> usize
+    ensures value { result ≡ compressed.omitted (default_for addr.now state.now) (take taken (octets addr.now)) }
+    ensures short { result ≤ taken }
 {
-    let default = match addr {
-        Addr::V4(_) => state.default4.as_ref().map(|default| default.as_slice()),
-        Addr::V6(_) => state.default6.as_ref().map(|default| default.as_slice()),
+    let shared = match addr {
+        Addr::V4(octets) => shared(
+            octets,
+            state.default4.as_ref().map(|default| default.as_slice()),
+        ),
+        Addr::V6(octets) => shared(
+            octets,
+            state.default6.as_ref().map(|default| default.as_slice()),
+        ),
     };
+    shared.min(taken)
+}
+
+/// How many leading octets an address and a default prefix have in common.
+#[inline(always)]
+fn shared(octets: &[u8], default: Option<&[u8]>) -> usize
+    ensures { result ≡ compressed.omitted (option_map (λ default. default.now) default.entry) octets.now }
+{
     match default {
         Some(default) => common(octets, default),
         None => 0,
@@ -78,7 +95,7 @@ pub(crate) fn omitted(state: &ParserState, addr: &Addr, octets: &[u8]) -> usize
 }
 
 /// How many leading octets both have in common.
-#[inline]
+#[inline(always)]
 fn common(one: &[u8], other: &[u8]) -> usize
     ensures value { result ≡ compressed.common one.now other.now }
     ensures short { result ≤ length one.now }

@@ -42,7 +42,10 @@ fn put_tlv(datagram: &mut Datagram, kind: u8, fields: &[u8], octets: &[u8]) -> b
     }
     datagram.push(kind);
     datagram.push(length as u8);
-    datagram.try_extend_from_slice(fields).is_ok() && datagram.try_extend_from_slice(octets).is_ok()
+    // There is room for all: no test of it is left in what is compiled.
+    datagram.try_extend_from_slice(fields).unwrap();
+    datagram.try_extend_from_slice(octets).unwrap();
+    true
 }
 
 /// Appends a TLV whose payload is the fields and then the octets of the prefix.
@@ -196,7 +199,7 @@ pub(crate) fn put_update(
     let addr = prefix.addr();
     let bits = prefix.length();
     let octets = reached(&addr, bits);
-    let omitted = omitted(state, &addr, octets);
+    let omitted = omitted(state, &addr, octets.len());
     let encoding = prefix_encoding(prefix);
     let fields = update_fields(encoding, flags, bits, omitted as u8, advertised);
     put_tlv(datagram, UPDATE, &fields, &octets[omitted..])
