@@ -9,7 +9,7 @@ use Rattle.toml.specs.Data.{Data, Items, no_items, item, get_item}
 use Rattle.toml.specs.declared.value.Value.{Value}
 use Rattle.toml.specs.View.{view, items_view}
 use Rattle.babel_config.specs.declared.errors.FileFault.{FileFault}
-use Rattle.babel_config.specs.Values.{IsOptional, IsItems}
+use Rattle.babel_config.specs.Values.{IsOptional, IsGivenOr, IsItems}
 use Rattle.babel_config.specs.Faults.{IsCaused, IsRead, IsGivenRead, HasItemFault}
 
 item_in_front : (vs : List Value) (i m : ℕ) (e : Data) → m < i → get_item m (items_view vs) ≡ Some e → get_item m (items_view (take i vs)) ≡ Some e
@@ -42,6 +42,11 @@ module _ {A B : Type 0} (Means : Data → A → Type 0) (f : B → A) where
   given_read None x h = tt
   given_read (Some d) None h = absurd h
   given_read (Some d) (Some b) h = (f b, h)
+
+module _ {A : Type 0} (Means : Data → A → Type 0) where
+  pub given_or_read : (default : A) (o : Option Data) (a : A) → IsGivenOr Means default o a → IsGivenRead Means o
+  given_or_read default None a h = tt
+  given_or_read default (Some d) a h = (a, h)
 
 pub err_caused : {A : Type 0} (r : Result A FileFault) (P : FileFault → Type 0) (fault : FileFault) → IsErrAnd r (λ given. given ≡ fault) → IsCaused P fault → IfErr r (IsCaused P)
 err_caused (Ok a) P fault is h = absurd is

@@ -1,5 +1,5 @@
 -- Defaults and lists: what follows from the parts that were read.
-use Rattle.std.proofs.Common.{◌≡◌, ℕ, ◌+◌, ◌<◌, List, [], ◌∷◌, ◌++◌, take, length, get_or, Option, Some, None, option_map, refl, sym, ap, ◌∙◌}
+use Rattle.std.proofs.Common.{◌≡◌, ℕ, ◌+◌, ◌<◌, List, [], ◌∷◌, ◌++◌, take, length, get_or, Option, Some, None, option_map, sym, ap, ◌∙◌}
 use Rattle.std.proofs.lemmas.List.{take_more}
 use Rattle.std.specs.Option.{unwrap_or}
 use Rattle.toml.specs.Data.{Data}
@@ -18,15 +18,6 @@ module _ {A : Type 0} (Means : Data → A → Type 0) where
   items_grow values i v list more a inside is grown h m =
       let next : take (i + 1) values ≡ take i values ++ v ∷ [] = take_more values i v inside ∙ ap (λ x. take i values ++ x ∷ []) (sym is) in
       rw (next, grown) (items_push (take i values) v list a h m)
-
-  given_at : (default : A) (o : Option Data) (x : Option A) → IsOptional Means o x → IsGivenOr Means default o (unwrap_or x default)
-  given_at default None None h = refl
-  given_at default None (Some a) h = absurd h
-  given_at default (Some d) None h = absurd h
-  given_at default (Some d) (Some a) h = h
-
-  pub given_or : (default : A) (o : Option Data) (x : Option A) (r : A) → r ≡ unwrap_or x default → IsOptional Means o x → IsGivenOr Means default o r
-  given_or default o x r e h = rw e (given_at default o x h)
 
 module _ {A B : Type 0} (Means : Data → B → Type 0) (f : A → B) where
   optional_at : (o : Option Data) (x : Option A) → IsOptional (λ d a. Means d (f a)) o x → IsOptional Means o (option_map f x)

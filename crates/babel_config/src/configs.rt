@@ -4,8 +4,9 @@ ghost use Rattle.std.specs.Prelude.{◌≡◌, option_map};
 
 use crate::FileFault;
 use crate::keys::{TableKind, is_table_of};
+use crate::lists::given_list;
 use crate::scalars::{Ipv4Network, Ipv6Octets, RouterIdOctets};
-use crate::values::{FromToml, optional, required};
+use crate::values::{FromToml, given_or, optional, required};
 use babel_state::{Config, Interface};
 use std::alloc::Global;
 use toml::Value;
@@ -29,16 +30,16 @@ impl FromToml for Config {
             return Err(FileFault::Form);
         }
         let RouterIdOctets(router_id) = required(alloc, value, "router-id")?;
-        let seqno: Option<u16> = optional(alloc, value, "seqno")?;
-        let collect: Option<bool> = optional(alloc, value, "collect")?;
-        let prefixes = optional(alloc, value, "prefixes")?;
-        let interfaces = optional(alloc, value, "interface")?;
+        let seqno = given_or(alloc, value, "seqno", 0)?;
+        let collect = given_or(alloc, value, "collect", false)?;
+        let prefixes = given_list(alloc, value, "prefixes")?;
+        let interfaces = given_list(alloc, value, "interface")?;
         Ok(Config {
             router_id,
-            seqno: seqno.unwrap_or(0),
-            collect: collect.unwrap_or(false),
-            prefixes: prefixes.unwrap_or(Vec::new(alloc)),
-            interfaces: interfaces.unwrap_or(Vec::new(alloc)),
+            seqno,
+            collect,
+            prefixes,
+            interfaces,
         })
     }
 }
@@ -58,16 +59,16 @@ impl FromToml for Interface {
         let transport = required(alloc, value, "transport")?;
         let ipv4: Option<Ipv4Network> = optional(alloc, value, "ipv4")?;
         let ipv6: Option<Ipv6Octets> = optional(alloc, value, "ipv6")?;
-        let peers = optional(alloc, value, "peers")?;
-        let cost: Option<u16> = optional(alloc, value, "cost")?;
-        let hello: Option<u16> = optional(alloc, value, "hello")?;
+        let peers = given_list(alloc, value, "peers")?;
+        let cost = given_or(alloc, value, "cost", DEFAULT_COST)?;
+        let hello = given_or(alloc, value, "hello", DEFAULT_HELLO_INTERVAL)?;
         Ok(Interface {
             transport,
             ipv4: network_of(ipv4),
             ipv6: octets_of(ipv6),
-            peers: peers.unwrap_or(Vec::new(alloc)),
-            cost: cost.unwrap_or(DEFAULT_COST),
-            hello: hello.unwrap_or(DEFAULT_HELLO_INTERVAL),
+            peers,
+            cost,
+            hello,
         })
     }
 }

@@ -3,7 +3,7 @@
 ghost use Rattle.std.specs.Prelude.{IfOk, IfErr};
 ghost use Rattle.toml.specs.Data.{Data, get};
 ghost use Rattle.toml.specs.View.{view};
-ghost use Rattle.babel_config.specs.Values.{IsOptional, IsRequired};
+ghost use Rattle.babel_config.specs.Values.{IsGivenOr, IsOptional, IsRequired};
 ghost use Rattle.babel_config.specs.Faults.{IsCaused, HasGivenFault, HasRequiredFault};
 
 use crate::FileFault;
@@ -38,6 +38,22 @@ pub(crate) fn optional<T: FromToml>(
     match table.get(key) {
         Some(value) => Ok(Some(T::from_toml(alloc, value)?)),
         None => Ok(None),
+    }
+}
+
+/// Reads the value at a key of a table; if the table lacks the key, it is the default.
+pub(crate) fn given_or<T: FromToml + Copy>(
+    alloc: Global,
+    table: &Value,
+    key: &str,
+    default: T,
+) -> Result<T, FileFault>
+    ensures ok { IfOk result (IsGivenOr T.means default (get key.now (view table.now))) }
+    ensures refused { IfErr result (IsCaused (HasGivenFault T.fault (get key.now (view table.now)))) }
+{
+    match table.get(key) {
+        Some(value) => T::from_toml(alloc, value),
+        None => Ok(default),
     }
 }
 

@@ -1,26 +1,24 @@
 -- Each key, with its default.
-use Rattle.std.proofs.Common.{inl, inr, Vec, Global, false}
+use Rattle.std.proofs.Common.{inl, inr, [], false}
 use Rattle.toml.specs.View.{view}
-use Rattle.babel_value.specs.Prefixes.{PrefixValue}
 use Rattle.babel_text.specs.Prefixes.{IsPrefixText}
 use Rattle.babel_text.specs.RouterIds.{IsRouterIdText}
-use Rattle.babel_state.specs.declared.configs.Interface.{Interface}
 use Rattle.babel_config.specs.declared.scalars.RouterIdOctets.{RouterIdOctets}
-use Rattle.babel_config.specs.Configs.{IsInterface, HasConfigFault}
+use Rattle.babel_config.specs.Configs.{HasConfigFault}
 use Rattle.babel_config.specs.Scalars.{IsNumber, IsFlag}
 use Rattle.babel_config.specs.Values.{IsText, IsList}
-use Rattle.babel_config.proofs.Faults.{given_read, err_caused}
-use Rattle.babel_config.proofs.Reading.{given_or, list_given_or, required_map}
+use Rattle.babel_config.proofs.Faults.{given_or_read, err_caused}
+use Rattle.babel_config.proofs.Reading.{required_map}
 use Rattle.babel_config.proofs.configs.ConfigFromToml.from_toml.Goals as goal
 
 pub returns-clause-ok : goal.returns-clause-ok
 returns-clause-ok c = record {
   keys = cc;
   router_id = required_map (IsText IsRouterIdText) (λ (r : RouterIdOctets). r.0) _ c.in_ok-router_id.field-0 c.in_ok-router_id.ensures.ok;
-  seqno = given_or IsNumber 0 _ c.in_ok-seqno.seqno c.unwrap_or.result c.unwrap_or.ensures c.in_ok-seqno.ensures.ok;
-  collect = given_or IsFlag false _ c.in_ok-collect.collect c.unwrap_or-2.result c.unwrap_or-2.ensures c.in_ok-collect.ensures.ok;
-  prefixes = list_given_or (IsList (IsText IsPrefixText)) (λ (v : Vec PrefixValue Global). v.items) _ c.in_ok-prefixes.prefixes c.new.result c.unwrap_or-3.result c.unwrap_or-3.ensures c.new.ensures.items c.in_ok-prefixes.ensures.ok;
-  interfaces = list_given_or (IsList IsInterface) (λ (v : Vec Interface Global). v.items) _ c.in_ok-interfaces.interfaces c.new-2.result c.unwrap_or-4.result c.unwrap_or-4.ensures c.new-2.ensures.items c.in_ok-interfaces.ensures.ok;
+  seqno = c.in_ok-seqno.ensures.ok;
+  collect = c.in_ok-collect.ensures.ok;
+  prefixes = c.in_ok-prefixes.ensures.ok;
+  interfaces = c.in_ok-interfaces.ensures.ok;
 }
 
 pub returns-in_err-interfaces-clause-refused : goal.returns-in_err-interfaces-clause-refused
@@ -30,11 +28,11 @@ returns-in_err-interfaces-clause-refused c =
       inr (
         (_, required_map (IsText IsRouterIdText) (λ (r : RouterIdOctets). r.0) _ c.in_ok-router_id.field-0 c.in_ok-router_id.ensures.ok),
         inr (
-          given_read IsNumber (λ n. n) _ c.in_ok-seqno.seqno c.in_ok-seqno.ensures.ok,
+          given_or_read IsNumber 0 _ c.in_ok-seqno.seqno c.in_ok-seqno.ensures.ok,
           inr (
-            given_read IsFlag (λ b. b) _ c.in_ok-collect.collect c.in_ok-collect.ensures.ok,
+            given_or_read IsFlag false _ c.in_ok-collect.collect c.in_ok-collect.ensures.ok,
             inr (
-              given_read (IsList (IsText IsPrefixText)) (λ (v : Vec PrefixValue Global). v.items) _ c.in_ok-prefixes.prefixes c.in_ok-prefixes.ensures.ok,
+              given_or_read (IsList (IsText IsPrefixText)) [] _ c.in_ok-prefixes.prefixes.items c.in_ok-prefixes.ensures.ok,
               inl (c.in_err-interfaces.ensures.refused other),
             ),
           ),

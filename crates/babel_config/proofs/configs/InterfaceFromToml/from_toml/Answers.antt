@@ -1,15 +1,14 @@
 -- Each key, with its default.
-use Rattle.std.proofs.Common.{inl, inr, Vec, Global}
+use Rattle.std.proofs.Common.{inl, inr, []}
 use Rattle.toml.specs.View.{view}
-use Rattle.babel_value.specs.declared.addresses.Addr.{Addr}
 use Rattle.babel_value.specs.Texts.{IsAddrText}
 use Rattle.babel_config.specs.declared.scalars.Ipv4Network.{Ipv4Network}
 use Rattle.babel_config.specs.declared.scalars.Ipv6Octets.{Ipv6Octets}
 use Rattle.babel_config.specs.Configs.{HasInterfaceFault}
 use Rattle.babel_config.specs.Scalars.{IsNumber, IsIpv4NetworkText, IsIpv6AddrText}
 use Rattle.babel_config.specs.Values.{IsText, IsList}
-use Rattle.babel_config.proofs.Faults.{given_read, err_caused}
-use Rattle.babel_config.proofs.Reading.{given_or, list_given_or, optional_map}
+use Rattle.babel_config.proofs.Faults.{given_read, given_or_read, err_caused}
+use Rattle.babel_config.proofs.Reading.{optional_map}
 use Rattle.babel_config.proofs.configs.InterfaceFromToml.from_toml.Goals as goal
 
 pub returns-clause-ok : goal.returns-clause-ok
@@ -18,9 +17,9 @@ returns-clause-ok c = record {
   transport = c.in_ok-transport.ensures.ok;
   ipv4 = optional_map (IsText IsIpv4NetworkText) (λ (n : Ipv4Network). n.0) _ c.in_ok-ipv4.ipv4 c.network_of.result c.network_of.ensures c.in_ok-ipv4.ensures.ok;
   ipv6 = optional_map (IsText IsIpv6AddrText) (λ (a : Ipv6Octets). a.0) _ c.in_ok-ipv6.ipv6 c.octets_of.result c.octets_of.ensures c.in_ok-ipv6.ensures.ok;
-  peers = list_given_or (IsList (IsText IsAddrText)) (λ (v : Vec Addr Global). v.items) _ c.in_ok-peers.peers c.new.result c.unwrap_or.result c.unwrap_or.ensures c.new.ensures.items c.in_ok-peers.ensures.ok;
-  cost = given_or IsNumber 96 _ c.in_ok-cost.cost c.unwrap_or-2.result c.unwrap_or-2.ensures c.in_ok-cost.ensures.ok;
-  hello = given_or IsNumber 400 _ c.in_ok-hello.hello c.unwrap_or-3.result c.unwrap_or-3.ensures c.in_ok-hello.ensures.ok;
+  peers = c.in_ok-peers.ensures.ok;
+  cost = c.in_ok-cost.ensures.ok;
+  hello = c.in_ok-hello.ensures.ok;
 }
 
 pub returns-in_err-ipv6-clause-refused : goal.returns-in_err-ipv6-clause-refused
@@ -63,7 +62,7 @@ returns-in_err-cost-clause-refused c =
           inr (
             given_read (IsText IsIpv6AddrText) (λ (a : Ipv6Octets). a.0) _ c.in_ok-ipv6.ipv6 c.in_ok-ipv6.ensures.ok,
             inr (
-              given_read (IsList (IsText IsAddrText)) (λ (v : Vec Addr Global). v.items) _ c.in_ok-peers.peers c.in_ok-peers.ensures.ok,
+              given_or_read (IsList (IsText IsAddrText)) [] _ c.in_ok-peers.peers.items c.in_ok-peers.ensures.ok,
               inl (c.in_err-cost.ensures.refused other),
             ),
           ),
@@ -82,9 +81,9 @@ returns-in_err-hello-clause-refused c =
           inr (
             given_read (IsText IsIpv6AddrText) (λ (a : Ipv6Octets). a.0) _ c.in_ok-ipv6.ipv6 c.in_ok-ipv6.ensures.ok,
             inr (
-              given_read (IsList (IsText IsAddrText)) (λ (v : Vec Addr Global). v.items) _ c.in_ok-peers.peers c.in_ok-peers.ensures.ok,
+              given_or_read (IsList (IsText IsAddrText)) [] _ c.in_ok-peers.peers.items c.in_ok-peers.ensures.ok,
               inr (
-                given_read IsNumber (λ n. n) _ c.in_ok-cost.cost c.in_ok-cost.ensures.ok,
+                given_or_read IsNumber 96 _ c.in_ok-cost.cost c.in_ok-cost.ensures.ok,
                 inl (c.in_err-hello.ensures.refused other),
               ),
             ),
