@@ -51,10 +51,10 @@ pub(crate) fn given_or<T: FromToml + Copy>(
     ensures ok { IfOk result (IsGivenOr T.means default (get key.now (view table.now))) }
     ensures refused { IfErr result (IsCaused (HasGivenFault T.fault (get key.now (view table.now)))) }
 {
-    match table.get(key) {
-        Some(value) => T::from_toml(alloc, value),
-        None => Ok(default),
-    }
+    let Some(value) = table.get(key) else {
+        return Ok(default);
+    };
+    T::from_toml(alloc, value)
 }
 
 /// Reads the value at a key of a table, which must have the key.
