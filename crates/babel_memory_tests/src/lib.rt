@@ -1,5 +1,5 @@
-//! Each allocation fails: of the machine, of the readers of files, of a speaker, of a network, and of the reports of logs.
-//! `tests/refused-memory` lets them fail in turn.
+//! Each allocation fails: of a read datagram, of the tables, of the machine, of the readers of files, of a speaker, of a network, and
+//! of the reports of logs. `tests/refused-memory` lets them fail in turn. `neighbour_calls` has calls that take no memory.
 #![tactic(auto)]
 
 #[cfg(test)]
@@ -15,10 +15,14 @@ mod machines;
 #[cfg(test)]
 mod mixed_memory;
 #[cfg(test)]
-mod mixed_runs;
+mod neighbour_calls;
 #[cfg(test)]
 mod network_memory;
+#[cfg(test)]
+mod packet_memory;
 #[cfg(test)]
 mod replay_memory;
 #[cfg(test)]
 mod speaker_memory;
+#[cfg(test)]
+mod table_memory;

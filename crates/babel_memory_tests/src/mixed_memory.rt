@@ -9,20 +9,20 @@ use babel_value::Addr;
 use std::alloc::Global;
 
 /// Hello 0, from a router of others.
-pub(crate) const HELLO: [u8; 12] = [0x2a, 2, 0, 8, 4, 6, 0, 0, 0, 0, 1, 0x90];
+const HELLO: [u8; 12] = [0x2a, 2, 0, 8, 4, 6, 0, 0, 0, 0, 1, 0x90];
 
 /// Hello 1, an IHU to 192.168.0.2, the router-id 9, and an Update of 10.0.0.0/8 with seqno 7 and
 /// metric 5.
-pub(crate) const UPDATE: [u8; 49] = [
+const UPDATE: [u8; 49] = [
     0x2a, 2, 0, 0x2d, 4, 6, 0, 0, 0, 1, 1, 0x90, 5, 10, 1, 0, 0, 0x60, 4, 0xb0, 192, 168, 0, 2, 6,
     10, 0, 0, 0, 0, 0, 0, 0, 0, 0, 9, 8, 11, 1, 0x80, 8, 0, 6, 0x40, 0, 7, 0, 5, 10,
 ];
 
 /// The address of a router of others.
-pub(crate) const OTHER: Addr = Addr::V4([192, 168, 0, 9]);
+const OTHER: Addr = Addr::V4([192, 168, 0, 9]);
 
 /// What node 1 hears over its interface.
-pub(crate) fn heard(source: Addr, octets: &[u8], now: u64) -> Heard<'_> {
+fn heard(source: Addr, octets: &[u8], now: u64) -> Heard<'_> {
     Heard {
         node: 1,
         iface: 0,
@@ -41,7 +41,7 @@ fn network(alloc: Global) -> Result<MixedNetwork, NetFault> {
 }
 
 /// The network; if an allocation fails, it is made again.
-pub(crate) fn made(alloc: Global) -> Option<MixedNetwork> {
+fn made(alloc: Global) -> Option<MixedNetwork> {
     match network(alloc) {
         Ok(net) => Some(net),
         Err(_) => network(alloc).ok(),
@@ -49,7 +49,7 @@ pub(crate) fn made(alloc: Global) -> Option<MixedNetwork> {
 }
 
 /// Whether node 1 has a selected route, and how many updates were heard.
-pub(crate) fn observe(net: &MixedNetwork) -> (bool, usize) {
+fn observe(net: &MixedNetwork) -> (bool, usize) {
     (net.router(1, &ten()).is_some(), net.heard().len())
 }
 

@@ -1,0 +1,12 @@
+pub mod LinkExamples
+pub mod SourceExamples
+pub mod RouteExamples
+pub mod ExampleStates
+pub mod LogB
+pub mod LostRoutes
+pub mod SeqnoExamples
+pub mod TickExamples
+pub mod FullTables
+pub mod CallExamples
+pub mod ThreeNodes
+pub mod ForeignNodes

@@ -1,3 +1,0 @@
-pub mod LinkExamples
-pub mod SourceExamples
-pub mod RouteExamples
