@@ -29,7 +29,7 @@ digits_have_no_blank (x ∷ xs) digits blank =
     let more : 1 + prefix_len (λ o. not (o == 32)) xs < length (x ∷ xs) = subst (λ b. cond (not b) (1 + prefix_len (λ o. not (o == 32)) xs) 0 < length (x ∷ xs)) here blank in
     rest (omega (arith, more))
 
-was_ok : (read : Result (List ℕ) FromHexError) (octets : List ℕ) → octets_or_none read ≡ Some octets → IsOk read
+pub was_ok : (read : Result (List ℕ) FromHexError) (octets : List ℕ) → octets_or_none read ≡ Some octets → IsOk read
 was_ok (Ok value) octets is = refl
 was_ok (Err fault) octets is = absurd (none-some octets is)
 

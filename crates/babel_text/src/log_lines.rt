@@ -1,11 +1,11 @@
 //! The lines of a log: what happened to the speaker, and when.
 
-ghost use Rattle.std.specs.Prelude.{◌≡◌, None, Some, length, MatchOption, IfOk, IfErr};
+ghost use Rattle.std.specs.Prelude.{◌≡◌, ◌⊎◌, None, Some, length, MatchOption, IsOk, IfOk, IfErr, IsUtf8};
 ghost use Rattle.babel_value.specs.Texts.{IsAddrText};
 ghost use Rattle.babel_text.specs.Numbers.{IsNumberText};
 ghost use Rattle.babel_text.specs.Octets.{hex_octets};
-ghost use Rattle.babel_text.specs.LogLines.{is_skipped_line, HasBlank, before_blank, after_blank, HasTwoFields, IsReceived, IsReceiveText, IsCostText, IsLine};
-ghost use Rattle.babel_text.specs.LogLines.{IsNumber, IsAddress, IsTickFault, IsFieldFault, IsReceiveFault, IsCostFault, IsLineFault};
+ghost use Rattle.babel_text.specs.LogLines.{is_skipped_line, HasBlank, before_blank, after_blank, HasTwoFields, IsReceived, IsReceiveText, IsCostText, IsActionText, IsLine};
+ghost use Rattle.babel_text.specs.LogLines.{Unless, IsNumber, IsAddress, IsTickFault, IsFieldFault, IsReceiveFault, IsCostFault, IsActionFault, IsLineFault};
 
 use crate::numbers::{u16_of, u64_of};
 use crate::{LineFault, parse_octets};
@@ -70,9 +70,30 @@ pub fn parse_line<'a>(line: &[u8], octets: &'a mut [u8]) -> Result<Event<'a>, Li
     ensures ok { IfOk result (λ event. IsLine (length octets.old) line.now event.time event.action) }
     ensures refused { IfErr result (IsLineFault (length octets.old) line.now) }
 {
-    if str::from_utf8(line).is_err() {
-        return Err(LineFault::Form);
+    match parse_fields(line, octets) {
+        Ok(event) => Ok(event),
+        Err(fault) => Err(utf8_first(line, fault)),
     }
+}
+
+/// The first fault of a line: L1 if it isn't UTF-8, else the fault given. A line that is read is ASCII, so only a refused
+/// line is tested.
+fn utf8_first(line: &[u8], fault: LineFault) -> LineFault
+    ensures { ((¬ (IsUtf8 line.now)) × (result ≡ LineFault.Form)) ⊎ (IsUtf8 line.now × (result ≡ fault)) }
+{
+    if str::from_utf8(line).is_err() {
+        return LineFault::Form;
+    }
+    fault
+}
+
+/// The same as `parse_line` for a line that may not be UTF-8, which is L1 only if a field can't be read.
+fn parse_fields<'a>(line: &[u8], octets: &'a mut [u8]) -> Result<Event<'a>, LineFault>
+    ensures parted { IsOk result → HasBlank line.now }
+    ensures time { IfOk result (λ event. IsNumberText 64 (before_blank line.now) event.time) }
+    ensures action { IfOk result (λ event. IsActionText (length octets.old) (after_blank line.now) event.action) }
+    ensures refused { IfErr result (Unless (HasBlank line.now) LineFault.Form (IsActionFault (length octets.old) (before_blank line.now) (after_blank line.now))) }
+{
     let Some((time, rest)) = split_field(line) else {
         return Err(LineFault::Form);
     };

@@ -1,39 +1,22 @@
-use Rattle.std.proofs.Common.{◌≡◌, ℕ, List, Result, length, nat_eq, false, true≢false, codes, IsUtf8, IfErr, sym, ap, subst, ◌∙◌, inl, inr, rules}
-use Rattle.std.specs.Cmp.Lexicographic.{pointwise}
-use Rattle.std.proofs.lemmas.Result.{IfErr-weaker}
+-- What is read is ASCII, and what is refused is tested for UTF-8.
+use Rattle.std.proofs.Common.{◌≡◌, ◌⊎◌, ℕ, List, length, IsUtf8, inl, inr, subst, sym, rules}
 use Rattle.babel_text.specs.declared.errors.LineFault.{LineFault}
-use Rattle.babel_text.specs.LogLines.{HasBlank, before_blank, after_blank, IsWord, IsReceiveFault, IsCostFault, IsWordFault, IsLineFault}
+use Rattle.babel_text.specs.declared.errors.LineFault.TheVariants.{Form}
+use Rattle.babel_text.specs.LogLines.{HasBlank, before_blank, after_blank, IsActionFault, IsLineFault, Unless}
+use Rattle.babel_text.proofs.Ascii.{line_is_utf8}
 use Rattle.babel_text.proofs.log_lines.parse_line.Goals as goal
 
--- What the reader of the fields after a word refuses is the fault of the line.
-line_fault : {E : Type 0} (room : ℕ) (line time rest word fields : List ℕ) (read : Result E LineFault) (Found : LineFault → Type 0)
-    → IsUtf8 line → HasBlank line × (time ≡ before_blank line) × (rest ≡ after_blank line) → pointwise nat_eq rest (codes "tick") ≡ false
-    → HasBlank rest × (word ≡ before_blank rest) × (fields ≡ after_blank rest) → ((found : LineFault) → Found found → IsWordFault room time word fields found)
-    → IfErr read Found → IfErr read (IsLineFault room line)
-line_fault room line time rest word fields read Found utf8 (parted, time_is, after) other (parted_again, word_is, fields_is) means =
-    IfErr-weaker read Found (IsLineFault room line) (λ found h.
-    let fault = subst (λ l. IsWordFault room l (before_blank (after_blank line)) (after_blank (after_blank line)) found) time_is
-    (subst (λ l. IsWordFault room time l (after_blank (after_blank line)) found) (word_is ∙ ap (λ l. before_blank l) after)
-    (subst (λ l. IsWordFault room time word l found) (fields_is ∙ ap (λ l. after_blank l) after) (means found h))) in
-    let not_tick = ap (λ l. pointwise nat_eq l (codes "tick")) (sym after) ∙ other in
-    inr (utf8, inr (parted, inr ((λ tick. true≢false (sym tick ∙ not_tick)), inr (subst (λ l. HasBlank l) after parted_again, fault)))))
+refused : (room : ℕ) (line : List ℕ) (fault found : LineFault) → Unless (HasBlank line) Form (IsActionFault room (before_blank line) (after_blank line)) fault →
+    ((¬ (IsUtf8 line)) × (found ≡ Form)) ⊎ (IsUtf8 line × (found ≡ fault)) → IsLineFault room line found
+refused room line fault found cause (inl other) = inl other
+refused room line fault found cause (inr (utf8, same)) = inr (utf8, subst (λ f. Unless (HasBlank line) Form (IsActionFault room (before_blank line) (after_blank line)) f) (sym same) cause)
 
-pub returns-then-eq-2-clause-refused : goal.returns-then-eq-2-clause-refused
-returns-then-eq-2-clause-refused c =
-    let word : IsWord c.in-Some-split_field.word.now (codes "in") = search rules in
-    let time = c.in-Some.time.now in
-    let fields = c.in-Some-split_field.fields.now in
-    let utf8 : IsUtf8 c.args.line.now = search rules in
-    let other : pointwise nat_eq c.in-Some.rest.now (codes "tick") ≡ false = search rules in
-    line_fault (length c.args.octets.now) c.args.line.now time c.in-Some.rest.now c.in-Some-split_field.word.now fields c.parse_receive.result
-    (IsReceiveFault (length c.args.octets.now) time fields) utf8 c.in-Some.ensures other c.in-Some-split_field.ensures (λ found h. inl (word, h)) c.parse_receive.ensures.refused
+pub returns-in-Ok-clause-ok : goal.returns-in-Ok-clause-ok
+returns-in-Ok-clause-ok c =
+    let blank : HasBlank c.args.line.now = search rules in
+    let time = c.in-Ok.ensures.time in
+    let action = c.in-Ok.ensures.action in
+    (line_is_utf8 (length c.args.octets.now) c.args.line.now c.in-Ok.event.time c.in-Ok.event.action blank time action, blank, time, action)
 
-pub returns-then-eq-3-clause-refused : goal.returns-then-eq-3-clause-refused
-returns-then-eq-3-clause-refused c =
-    let word : IsWord c.in-Some-split_field.word.now (codes "cost") = search rules in
-    let time = c.in-Some.time.now in
-    let fields = c.in-Some-split_field.fields.now in
-    let utf8 : IsUtf8 c.args.line.now = search rules in
-    let other : pointwise nat_eq c.in-Some.rest.now (codes "tick") ≡ false = search rules in
-    line_fault (length c.args.octets.now) c.args.line.now time c.in-Some.rest.now c.in-Some-split_field.word.now fields c.parse_cost.result
-    (IsCostFault time fields) utf8 c.in-Some.ensures other c.in-Some-split_field.ensures (λ found h. inr (inl (word, h))) c.parse_cost.ensures.refused
+pub returns-in-Err-clause-refused : goal.returns-in-Err-clause-refused
+returns-in-Err-clause-refused c = refused (length c.args.octets.now) c.args.line.now c.in-Err.fault c.utf8_first.result c.in-Err.ensures.refused c.utf8_first.ensures
