@@ -12,6 +12,3 @@ pub use datagrams::{
     babel_bench_build, babel_bench_decode, babel_bench_decode_kept, babel_bench_text,
 };
 pub use speakers::babel_bench_run;
-
-#[cfg(test)]
-mod tests;
