@@ -1,7 +1,7 @@
 //! The TLVs of a message in few octets (RFC 8966, sections 4.5 and 4.6): an Update leaves out its
 //! router-id, its next hop and the first octets of its prefix if a reader has them from earlier TLVs.
 
-ghost use Rattle.std.specs.Prelude.{◌≡◌, ◌++◌, length, take};
+ghost use Rattle.std.specs.Prelude.{◌≡◌, ◌++◌, length, take, is_some, IfSome, IfNone, OnSome};
 ghost use Rattle.std.specs.Bool.{OnTrue, OnFalse};
 ghost use Rattle.babel_message.specs.declared.messages.Message.TheVariants as messages;
 ghost use Rattle.babel_packet.specs.Compressed as compressed;
@@ -104,9 +104,10 @@ fn put_finite(
     ensures unchanged { OnFalse result (state.new ≡ state.old) }
 {
     let Origin { router, next_hop } = origin;
-    let flags = flags_of(state, &prefix, router);
-    let fits = put_needed_router_id(datagram, state, &prefix, router)
-        && put_needed_next_hop(datagram, state, next_hop)
+    let Some(flags) = put_needed_router_id(datagram, state, &prefix, router) else {
+        return false;
+    };
+    let fits = put_needed_next_hop(datagram, state, next_hop)
         && put_update(datagram, state, flags, &prefix, advertised);
     if fits {
         set_origin(state, router, next_hop);
@@ -115,35 +116,29 @@ fn put_finite(
     fits
 }
 
-/// The flags of an Update: it sets the default prefix, and the router-id if that differs and the address
-/// of the prefix gives it.
-#[inline]
-fn flags_of(state: &ParserState, prefix: &Prefix, router: RouterId) -> u8
-    ensures { result ≡ compressed.flags_of state.now prefix.now router }
-{
-    if !router_is_set(state, router) && gives_router(&prefix.addr(), router) {
-        return SETS_PREFIX | SETS_ROUTER_ID;
-    }
-    SETS_PREFIX
-}
-
-/// Appends a Router-Id, if the router-id differs and the address of the prefix doesn't give it.
+/// Appends a Router-Id, if the router-id differs and the address of the prefix doesn't give it. Returns the flags of the
+/// Update, which sets the default prefix, and the router-id if that differs and the address gives it. `None`: there is no
+/// room.
 #[inline]
 fn put_needed_router_id(
     datagram: &mut Datagram,
     state: &ParserState,
     prefix: &Prefix,
     router: RouterId,
-) -> bool
-    ensures fits { result ≡ is_room datagram.old.items (router_id_before state.now prefix.now router) }
-    ensures appended { OnTrue result (datagram.new.items ≡ datagram.old.items ++ router_id_before state.now prefix.now router) }
-    ensures unchanged { OnFalse result (datagram.new ≡ datagram.old) }
+) -> Option<u8>
+    ensures fits { is_some result ≡ is_room datagram.old.items (router_id_before state.now prefix.now router) }
+    ensures flags { IfSome result (λ flags. flags ≡ compressed.flags_of state.now prefix.now router) }
+    ensures appended { OnSome result (datagram.new.items ≡ datagram.old.items ++ router_id_before state.now prefix.now router) }
+    ensures unchanged { IfNone result (datagram.new ≡ datagram.old) }
 {
     let _room = datagram.remaining_capacity();
-    if router_is_set(state, router) || gives_router(&prefix.addr(), router) {
-        return true;
+    if router_is_set(state, router) {
+        return Some(SETS_PREFIX);
     }
-    put_router_id(datagram, router)
+    if gives_router(&prefix.addr(), router) {
+        return Some(SETS_PREFIX | SETS_ROUTER_ID);
+    }
+    put_router_id(datagram, router).then_some(SETS_PREFIX)
 }
 
 /// Appends a Next Hop, if the next hop of its family differs.
