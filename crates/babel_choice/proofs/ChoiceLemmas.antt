@@ -72,6 +72,25 @@ module _ (cost : Peer → ℕ) (before : Option Peer) (passes : Route → Bool) 
         subst (IsMeasured cost es) (sym is) known,
       )
 
+  -- one route more
+  pub found_step : (found result : Option Candidate) (new : Candidate) (route : Route) (rest : RouteEntries) → IfSome found (IsMeasured cost es) → slice_get es new.place ≡ Some route → new.metric ≡ route_metric cost route → result ≡ (if passes route then Some (option_map_or (λ old. if is_lesser new old then new else old) found new) else found) → (over (option_and_then (slice_get es) (option_map (λ c. c.place) result)) rest ≡ over (option_and_then (slice_get es) (option_map (λ c. c.place) found)) (route ∷ rest)) × IfSome result (IsMeasured cost es)
+  found_step found result new route rest known at metric is = by (passes route) refl is
+    where
+      better : Candidate
+      better = option_map_or (λ old. if is_lesser new old then new else old) found new
+
+      over_all : Option Candidate → Option Route
+      over_all kept = over (option_and_then (slice_get es) (option_map (λ c. c.place) kept)) rest
+
+      by : (b : Bool) → passes route ≡ b → result ≡ cond b (Some better) found → (over_all result ≡ over (option_and_then (slice_get es) (option_map (λ c. c.place) found)) (route ∷ rest)) × IfSome result (IsMeasured cost es)
+      by true here so =
+          let more = found_more found new better route rest known at metric here refl in
+          (ap over_all so ∙ more.0, subst (λ kept. IfSome kept (IsMeasured cost es)) (sym so) more.1)
+      by false here so = (
+        ap over_all so ∙ ap (first_from (preference cost before) (option_and_then (slice_get es) (option_map (λ c. c.place) found))) (sym (left_out passes route rest here)),
+        subst (λ kept. IfSome kept (IsMeasured cost es)) (sym so) known,
+      )
+
 -- a candidate's index is one of the table
 pub places_within : (cost : Peer → ℕ) (es : RouteEntries) (found : Option Candidate) → IfSome found (IsMeasured cost es) → IfSome found (λ old. old.place < length es)
 places_within cost es None known = tt

@@ -1,10 +1,12 @@
 //! The choice among the candidates of a prefix (RFC 8966, section 3.6).
 
-ghost use Rattle.std.specs.Prelude.{◌≡◌, ◌<◌, true, false, not, drop, length, slice_get, option_and_then, Option, IfSome, IsNone, IsSome, Some, None, option_map, if◌then◌else◌};
+ghost use Rattle.std.specs.Prelude.{◌≡◌, ◌<◌, true, false, not, drop, length, slice_get, option_and_then, Option, IfSome, IsNone, IsSome, Some, None, option_map, nat_lt, if◌then◌else◌};
 ghost use Rattle.std.specs.List.{filter, list_all};
 ghost use Rattle.std.specs.Option.{option_map_or};
 ghost use Rattle.std.specs.Ordering.{is_lt};
 ghost use Rattle.babel_table.specs.Firsts.{first_of};
+ghost use Rattle.babel_value.specs.Metrics.{infinity};
+ghost use Rattle.babel_choice.specs.declared.choices.Candidate.{Candidate};
 ghost use Rattle.babel_choice.specs.PrefixBounds.{is_before};
 ghost use Rattle.babel_choice.specs.Origins.{is_own};
 ghost use Rattle.babel_choice.specs.Choices.{is_of, others_of, rank_at, is_lesser_rank, routes_of, has_entry, choice, peer_before, is_candidate, is_change, is_feasible_route, route_metric, rank_of, rank_cmp, preference, selection_of};
@@ -142,10 +144,7 @@ fn first_of_several<E: Table<RouteKey, Entry>, T: Table<Source, SourceEntry>, C:
         if !is_of(&route, prefix) {
             return (place_of(&first), place);
         }
-        if let Some(metric) = candidate_metric(&route, inputs.sources, inputs.costs, near) {
-            let new = Candidate { metric, place };
-            first = Some(first_of_two(entries, first, new, before));
-        }
+        first = first_with(inputs, first, (place, &route), before, near);
     }
     (place_of(&first), len)
 }
@@ -173,21 +172,47 @@ pub fn selection_at<E: Table<RouteKey, Entry>>(
     })
 }
 
-/// The candidate found before, unless the new one comes before it.
+/// The candidate found before, unless the route at the index is a candidate that comes before it. Most routes don't:
+/// so their metrics are compared first, and the source of such a route is not looked up.
 #[inline(always)]
-fn first_of_two<E: Table<RouteKey, Entry>>(
-    entries: &E,
+fn first_with<E: Table<RouteKey, Entry>, T: Table<Source, SourceEntry>, C: Costs>(
+    inputs: &ChoiceInputs<'_, E, T, C>,
     found: Option<Candidate>,
-    new: Candidate,
+    at: (usize, &(RouteKey, Entry)),
     before: Option<Peer>,
-) -> Candidate
-    requires found { IfSome found (λ old. old.place < length (E.entries entries.now)) }
-    requires new { new.place < length (E.entries entries.now) }
-    ensures { result ≡ option_map_or (λ old. if is_lesser_rank (rank_at (E.entries entries.now) before new.metric new.place) (rank_at (E.entries entries.now) before old.metric old.place) then new else old) found new }
+    near: &mut usize,
+) -> Option<Candidate>
+    requires found { IfSome found (λ old. old.place < length (E.entries inputs.now.entries.now)) }
+    requires new { at.0 < length (E.entries inputs.now.entries.now) }
+    ensures { let new : Candidate = record { metric = route_metric (C.cost_of inputs.now.costs.now) at.entry.1.now; place = at.entry.0 } in result ≡ (if is_candidate inputs.now.sources.now (C.cost_of inputs.now.costs.now) at.entry.1.now then Some (option_map_or (λ old. if is_lesser_rank (rank_at (E.entries inputs.now.entries.now) before new.metric new.place) (rank_at (E.entries inputs.now.entries.now) before old.metric old.place) then new else old) found new) else found) }
+{
+    let (place, route) = at;
+    let Some(metric) = finite_metric(route, inputs.costs) else {
+        return found;
+    };
+    let new = Candidate { metric, place };
+    if is_first(inputs.entries, &found, &new, before) && is_feasible(route, inputs.sources, near) {
+        Some(new)
+    } else {
+        found
+    }
+}
+
+/// Whether a candidate comes before the one found before, if there is one.
+#[inline(always)]
+fn is_first<E: Table<RouteKey, Entry>>(
+    entries: &E,
+    found: &Option<Candidate>,
+    new: &Candidate,
+    before: Option<Peer>,
+) -> bool
+    requires found { IfSome found.now (λ old. old.place < length (E.entries entries.now)) }
+    requires new { new.now.place < length (E.entries entries.now) }
+    ensures { result ≡ option_map_or (λ old. is_lesser_rank (rank_at (E.entries entries.now) before new.now.metric new.now.place) (rank_at (E.entries entries.now) before old.metric old.place)) found.now true }
 {
     match found {
-        Some(old) if !comes_before(entries, &new, &old, before) => old,
-        _ => new,
+        Some(old) => comes_before(entries, new, old, before),
+        None => true,
     }
 }
 
@@ -242,13 +267,26 @@ fn candidate_metric<T: Table<Source, SourceEntry>, C: Costs>(
 ) -> Option<Metric>
     ensures { result ≡ (if is_candidate sources.now (C.cost_of costs.now) route.now then Some (route_metric (C.cost_of costs.now) route.now) else None) }
 {
+    let metric = finite_metric(route, costs)?;
+    if is_feasible(route, sources, near) {
+        Some(metric)
+    } else {
+        None
+    }
+}
+
+/// The metric of a route, if it is finite.
+#[inline(always)]
+fn finite_metric<C: Costs>(route: &(RouteKey, Entry), costs: &C) -> Option<Metric>
+    ensures { result ≡ (if nat_lt (route_metric (C.cost_of costs.now) route.now) infinity then Some (route_metric (C.cost_of costs.now) route.now) else None) }
+{
     let advertised = route.1.distance.metric;
     if !advertised.is_finite() {
         // Whatever its cost is: the neighbour need not be looked up.
         return None;
     }
     let metric = advertised.add(costs.cost(&route.0.peer));
-    if metric.is_finite() && is_feasible(route, sources, near) {
+    if metric.is_finite() {
         Some(metric)
     } else {
         None

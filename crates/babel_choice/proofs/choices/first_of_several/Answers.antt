@@ -1,16 +1,14 @@
 -- One candidate more, or one route more that isn't a candidate.
-use Rattle.std.proofs.Common.{◌+◌, sym, ap, subst, ◌∙◌, filter, option_map, option_and_then, slice_get, Option, IfSome, drop}
-use Rattle.babel_choice.specs.Routes.{Route, RouteEntries}
+use Rattle.std.proofs.Common.{◌+◌, refl, sym, ap, ◌∙◌, filter, option_map, option_and_then, slice_get, drop}
 use Rattle.babel_choice.specs.Choices.{is_candidate, preference, routes_of, route_metric}
 use Rattle.babel_choice.specs.declared.choices.Candidate.{Candidate}
 use Rattle.babel_table.specs.Firsts.{first_from}
-use Rattle.babel_choice.proofs.ChoiceLemmas.{measured, unmeasured, left_out, IsMeasured, found_more, places_within}
+use Rattle.babel_choice.proofs.ChoiceLemmas.{found_step, places_within}
 use Rattle.babel_choice.proofs.RunLemmas.{run_step, run_end}
-use Rattle.babel_choice.proofs.choices.first_of_several.Goals.{in-Some-candidate_metric, in_default-candidate_metric}
 use Rattle.babel_choice.proofs.choices.first_of_several.Goals as goal
 
-pub first_of_two-requires-clause-found : goal.first_of_two-requires-clause-found
-first_of_two-requires-clause-found g c = places_within (g.C.Costs.cost_of c.args.inputs.now.costs.now) (g.E.Table.entries c.args.inputs.now.entries.now) c.loop-place.first c.loop-place.invariant.measured
+pub first_with-first-requires-clause-found : goal.first_with-first-requires-clause-found
+first_with-first-requires-clause-found g c = places_within (g.C.Costs.cost_of c.args.inputs.now.costs.now) (g.E.Table.entries c.args.inputs.now.entries.now) c.loop-place.first c.loop-place.invariant.measured
 
 pub loop-place-preserved : goal.loop-place-preserved
 loop-place-preserved g c =
@@ -23,28 +21,14 @@ loop-place-preserved g c =
     let p = c.args.prefix.now in
     let rest = routes_of p (drop (c.loop-place.place + 1) es) in
     let step = run_step p es c.loop-place.place route (sym c.in-Some.ensures) (sym c.if-not-is_of.ensures) kept.from in
-    let over : Option Candidate → RouteEntries → Option Route = λ found routes. first_from (preference cost before) (option_and_then (slice_get es) (option_map (λ f. f.place) found)) (filter passes routes) in
-    let known : Option Candidate → Type 0 = λ found. IfSome found (IsMeasured cost es) in
-    elim c.match-candidate_metric.branch [
-      | in-Some-candidate_metric w ↦
-          let metric = w.in-Some-candidate_metric.metric in
-          let here = measured (passes route) (route_metric cost route) metric (sym w.in-Some-candidate_metric.ensures) in
-          let more = found_more cost before passes es c.loop-place.first (record { metric = metric; place = c.loop-place.place }) w.first_of_two.result route rest kept.measured (sym c.in-Some.ensures) here.1 here.0 w.first_of_two.ensures in
-          record {
-            from = step.from;
-            first = ap (λ found. over found rest) w.first-is ∙ more.0 ∙ ap (over c.loop-place.first) (sym step.routes) ∙ kept.first;
-            measured = subst known (sym w.first-is) more.1;
-            rest = sym step.others ∙ kept.rest;
-          }
-      | in_default-candidate_metric w ↦
-          let other = unmeasured (passes route) (route_metric cost route) (sym c.candidate_metric.ensures ∙ w.in_default-candidate_metric.is) in
-          record {
-            from = step.from;
-            first = ap (λ found. over found rest) w.first-is ∙ ap (first_from (preference cost before) (option_and_then (slice_get es) (option_map (λ f. f.place) c.loop-place.first))) (sym (left_out passes route rest other)) ∙ ap (over c.loop-place.first) (sym step.routes) ∙ kept.first;
-            measured = subst known (sym w.first-is) kept.measured;
-            rest = sym step.others ∙ kept.rest;
-          }
-    ]
+    let new : Candidate = record { metric = route_metric cost route; place = c.loop-place.place } in
+    let more = found_step cost before passes es c.loop-place.first c.first_with-first.result new route rest kept.measured (sym c.in-Some.ensures) refl c.first_with-first.ensures in
+    record {
+      from = step.from;
+      first = more.0 ∙ ap (λ routes. first_from (preference cost before) (option_and_then (slice_get es) (option_map (λ f. f.place) c.loop-place.first)) (filter passes routes)) (sym step.routes) ∙ kept.first;
+      measured = more.1;
+      rest = sym step.others ∙ kept.rest;
+    }
 
 pub returns-then-not-is_of-clause-first : goal.returns-then-not-is_of-clause-first
 returns-then-not-is_of-clause-first g c =
