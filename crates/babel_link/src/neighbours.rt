@@ -259,6 +259,15 @@ impl Neighbours {
         true
     }
 
+    /// Whether a deadline may be due. If it returns `false`, none is, and `tick` changes nothing. It looks at no neighbour.
+    #[inline]
+    pub fn may_be_due(&self, now: u64) -> bool
+        ensures links { IsFalse result → tick_of now self.now ≡ self.now }
+        ensures gone { IsFalse result → gone_of now self.now ≡ [] }
+    {
+        self.due <= now
+    }
+
     /// Handles the deadlines that are due, as `tick`, and returns what that changed of the links' costs. `Several`
     /// only means that this isn't known. Before the first deadline it looks at no neighbour.
     pub fn tick_costs(&mut self, now: u64, gone: &mut ArrayVec<Peer, MAX_NEIGHBOURS>) -> CostChanges

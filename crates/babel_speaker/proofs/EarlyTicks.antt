@@ -3,7 +3,7 @@ use Rattle.std.proofs.Common.{◌≡◌, ℕ, ◌<◌, Bool, true, false, nat_le
 use Rattle.std.specs.List.{list_any}
 use Rattle.std.specs.Option.{option_and_then, option_map_or, unwrap_or}
 use Rattle.std.proofs.lemmas.Bool.Decides.{nat_tests}
-use Rattle.std.proofs.Math.Nat.{min-le_left, min-le_right}
+use Rattle.std.proofs.Math.Nat.{min-le_right}
 use Rattle.babel_link.specs.declared.links.Timer.{Timer}
 use Rattle.babel_link.specs.declared.links.History.{History}
 use Rattle.babel_link.specs.declared.links.Link.{Link}
@@ -18,42 +18,24 @@ use Rattle.babel_state.specs.CurrentSelections.{AreCurrent}
 use Rattle.babel_state.specs.Reselection.{reselect_all}
 use Rattle.babel_state.specs.SettledLaws.{AreSelectionsInOrder}
 use Rattle.babel_state.specs.State.{State, with_entries}
-use Rattle.babel_state.specs.Ticks.{is_due, is_due_request, forget_each, links_ticked, routes_ticked, requests_ticked, interfaces_ticked, sources_ticked, ticked}
+use Rattle.babel_state.specs.Ticks.{is_due_request, links_ticked, routes_ticked, requests_ticked, interfaces_ticked, sources_ticked, ticked}
 use Rattle.babel_state.proofs.SettledLemmas.{nothing_reselected}
 use Rattle.babel_speaker.specs.DueTimers.{has_due_timer}
-use Rattle.babel_speaker.proofs.QuietTicks.{nothing_due, no_request_due}
-use Rattle.babel_speaker.specs.Deadlines.{never, earliest, timer_due, interface_due, hello_due, link_due, source_dues, deadlines, next_deadline, EarlyTicksChangeNothing}
+use Rattle.babel_speaker.proofs.QuietTicks.{nothing_due, no_request_due, no_link_due}
+use Rattle.babel_speaker.proofs.TimerDues.{first_later, second_later, no_timer}
+use Rattle.babel_speaker.specs.Deadlines.{never, earliest, interface_due, hello_due, link_due, source_dues, deadlines, next_deadline, EarlyTicksChangeNothing}
 use Rattle.babel_speaker.proofs.Earliest.{earliest_both, no_later}
 
 -- ---- what is due after a moment isn't due at it
-
-first_later : (now a b : ℕ) → now < min a b → now < a
-first_later now a b early = omega (arith, early, min-le_left a b)
-
-second_later : (now a b : ℕ) → now < min a b → now < b
-second_later now a b early = omega (arith, early, min-le_right a b)
 
 module _ (now : ℕ) where
   head_later : (moment due : ℕ) (dues : List ℕ) → now < earliest (min moment due) dues → now < due
   head_later moment due dues early = omega (arith, early, no_later (min moment due) dues, min-le_right moment due)
 
-  timer_waits : (timer : Option ℕ) → now < timer_due timer → is_due now timer ≡ false
-  timer_waits None early = absurd (omega (arith, early))
-  timer_waits (Some due) early = grind (arith, nat_tests)
-
-  no_timer : (i : InterfaceEntry) → now < interface_due i → has_due_timer now i ≡ false
-  no_timer i early =
-      let first : now < min (timer_due i.hello_due) (timer_due i.ihu_due) = first_later now (min (timer_due i.hello_due) (timer_due i.ihu_due)) (timer_due i.update_due) early in
-      rw (
-        timer_waits i.hello_due (first_later now (timer_due i.hello_due) (timer_due i.ihu_due) first),
-        timer_waits i.ihu_due (second_later now (timer_due i.hello_due) (timer_due i.ihu_due) first),
-        timer_waits i.update_due (second_later now (min (timer_due i.hello_due) (timer_due i.ihu_due)) (timer_due i.update_due) early),
-      ) refl
-
   no_timers : (moment : ℕ) (is : List InterfaceEntry) → now < earliest moment (map interface_due is) → list_any (has_due_timer now) is ≡ false
   no_timers moment [] early = refl
   no_timers moment (i ∷ is) early =
-      rw (no_timer i (head_later moment (interface_due i) (map interface_due is) early)) (no_timers (min moment (interface_due i)) is early)
+      rw (no_timer now i (head_later moment (interface_due i) (map interface_due is) early)) (no_timers (min moment (interface_due i)) is early)
 
   no_hello : (history : Option History) → now < hello_due history → option_and_then (fired_history now) history ≡ None
   no_hello None early = refl
@@ -111,10 +93,7 @@ module _ (now : ℕ) where
   -- ---- each part of a tick
 
   same_links : (moment : ℕ) (s : State) → now < earliest moment (map (λ e. link_due e.1) s.neighbours) → links_ticked now s ≡ s
-  unfolding links_ticked
-  same_links moment s early =
-      ap (λ gone. forget_each gone (record s { neighbours = tick_of now s.neighbours })) (none_gone moment s.neighbours early)
-      ∙ ap (λ links. record s { neighbours = links }) (none_ticked moment s.neighbours early)
+  same_links moment s early = no_link_due now s (none_gone moment s.neighbours early) (none_ticked moment s.neighbours early)
 
   same_routes : (moment : ℕ) (s : State) → now < earliest moment (map (λ e. e.1.deadline) s.routes.entries) → routes_ticked now s ≡ s
   unfolding routes_ticked

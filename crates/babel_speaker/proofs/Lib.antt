@@ -35,6 +35,7 @@ pub mod SettledItems
 pub mod Restoring
 pub mod SentUpdates
 pub mod Earliest
+pub mod TimerDues
 pub mod EarlyTicks
 pub mod CurrentWalks
 pub mod SnapshotsSent

@@ -6,6 +6,7 @@ ghost use Rattle.babel_value.specs.Metrics.{infinity};
 ghost use Rattle.babel_state.specs.Limits.{longest_hello, most_interfaces};
 ghost use Rattle.babel_speaker.specs.ShortHellos.{have_short_hellos};
 
+use crate::tables::timers::interface_due;
 use babel_state::{InterfaceEntry, MAX_INTERFACES};
 use babel_value::Metric;
 use std::marker::Model;
@@ -14,19 +15,22 @@ use std::marker::Model;
 #[derive(Drop)]
 pub struct Interfaces {
     pub(crate) entries: Vec<InterfaceEntry>,
+    /// Before this moment no timer is due.
+    pub(crate) due: u64,
 }
 
 impl Model for Interfaces {
     ghost use Rattle.std.specs.Prelude.{◌≡◌, ◌≤◌, List, length, true};
     ghost use Rattle.babel_state.specs.declared.interfaces.InterfaceEntry.{InterfaceEntry};
     ghost use Rattle.babel_state.specs.Limits.{most_interfaces};
+    ghost use Rattle.babel_speaker.specs.DueTimers.{AreTimersDueFrom};
     ghost use Rattle.babel_speaker.specs.ShortHellos.{have_short_hellos};
 
     ghost Value = { List InterfaceEntry };
 
     ghost view = { λ i. i.entries.items };
 
-    ghost invariant = { λ i. (length i.entries.items ≤ most_interfaces) × (have_short_hellos i.entries.items ≡ true) };
+    ghost invariant = { λ i. (length i.entries.items ≤ most_interfaces) × (have_short_hellos i.entries.items ≡ true) × AreTimersDueFrom i.due i.entries.items };
 }
 
 impl Interfaces {
@@ -36,7 +40,7 @@ impl Interfaces {
         requires hellos { have_short_hellos entries.items ≡ true }
         ensures { result ≡ entries.items }
     {
-        Interfaces { entries }
+        Interfaces { entries, due: 0 }
     }
 
     /// The interface of the number. Its Hello interval is at most 4,000 centiseconds.
@@ -54,6 +58,7 @@ impl Interfaces {
         requires hello { entry.hello ≤ longest_hello }
         ensures { self.new ≡ slice_set self.old iface entry }
     {
+        self.due = self.due.min(interface_due(&entry));
         self.entries[usize::from(iface)] = entry;
     }
 

@@ -1,8 +1,9 @@
 //! What a tick changes in the requests and the interfaces: waits and timers (RFC 8966, sections 3.4, 3.7.1 and 3.8.2.1).
 
-ghost use Rattle.std.specs.Prelude.{◌≡◌, ◌<◌, ◌+◌, ◌++◌, map, take, drop, length};
+ghost use Rattle.std.specs.Prelude.{◌≡◌, ◌<◌, ◌+◌, ◌++◌, map, take, drop, length, false, IsFalse};
 ghost use Rattle.std.specs.List.{list_any};
 ghost use Rattle.babel_table.specs.Entries.{revised_entries};
+ghost use Rattle.babel_speaker.specs.Deadlines.{earliest, timer_due, interface_due};
 ghost use Rattle.babel_speaker.specs.DueTimers.{has_due_timer, has_due_update};
 ghost use Rattle.babel_state.specs.Ticks.{is_last, waited, is_due, next_due, fired};
 
@@ -78,12 +79,23 @@ fn next_due(now: u64, duration: u64, timer: Option<u64>) -> Option<u64>
     }
 }
 
-/// Whether a timer of the interface is due.
-fn has_due_timer(now: u64, interface: &InterfaceEntry) -> bool
-    ensures { result ≡ has_due_timer now interface.now }
+/// When the timer is due: at once, if it was never set.
+fn timer_due(timer: Option<u64>) -> u64
+    ensures { result ≡ timer_due timer }
 {
-    is_due(now, interface.hello_due)
-        || (is_due(now, interface.ihu_due) || is_due(now, interface.update_due))
+    match timer {
+        Some(due) => due,
+        None => 0,
+    }
+}
+
+/// When the interface's next Hello, IHUs or Updates are due.
+pub(crate) fn interface_due(interface: &InterfaceEntry) -> u64
+    ensures { result ≡ interface_due interface.now }
+{
+    timer_due(interface.hello_due)
+        .min(timer_due(interface.ihu_due))
+        .min(timer_due(interface.update_due))
 }
 
 /// Whether the interface's timer of updates is due.
@@ -105,14 +117,34 @@ pub(crate) fn fired(now: u64, interface: &InterfaceEntry) -> InterfaceEntry
     next
 }
 
+/// The earlier one of a moment and of the deadline of the interface of the number.
+fn earlier_of_interface(interfaces: &Interfaces, iface: u8, due: u64) -> u64
+    ensures { earliest result (map interface_due (drop (iface + 1) interfaces.now)) ≡ earliest due (map interface_due (drop iface interfaces.now)) }
+{
+    match interfaces.get(iface) {
+        Some(interface) => due.min(interface_due(&interface)),
+        None => due,
+    }
+}
+
+/// The least of a moment and of the deadlines of all interfaces.
+#[tactic(auto, using(crate::proofs::Earliest::all_passed))]
+pub(crate) fn earliest_interface(interfaces: &Interfaces, due: u64) -> u64
+    ensures { result ≡ earliest due (map interface_due interfaces.now) }
+{
+    let mut least = due;
+    for iface in 0..interfaces.len() {
+        least = earlier_of_interface(interfaces, iface, least);
+    }
+    least
+}
+
 impl Interfaces {
-    /// Whether a timer of an interface is due.
-    pub fn have_due_timer(&self, now: u64) -> bool
-        ensures { result ≡ list_any (has_due_timer now) self.now }
+    /// Whether a timer may be due. If it returns `false`, none is. It looks at no interface.
+    pub fn may_be_due(&self, now: u64) -> bool
+        ensures { IsFalse result → list_any (has_due_timer now) self.now ≡ false }
     {
-        self.entries
-            .iter()
-            .any(|interface| has_due_timer(now, interface))
+        self.due <= now
     }
 
     /// Whether an update of each prefix is due on an interface.
@@ -143,5 +175,6 @@ impl Interfaces {
         for iface in 0..self.len() {
             self.fire(now, iface);
         }
+        self.due = earliest_interface(self, u64::MAX);
     }
 }

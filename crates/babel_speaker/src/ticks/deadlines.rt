@@ -2,44 +2,25 @@
 
 ghost use Rattle.std.specs.Prelude.{◌≡◌, ◌≢◌, ◌↔◌, ◌+◌, ◌<◌, ℕ, [], IsTrue, false, map, drop};
 ghost use Rattle.babel_value.specs.Prefixes.{PrefixValue};
-ghost use Rattle.babel_speaker.specs.Deadlines.{earliest, timer_due, interface_due, hello_due, link_due, next_deadline, EarlyTicksChangeNothing};
+ghost use Rattle.babel_speaker.specs.Deadlines.{earliest, hello_due, link_due, next_deadline, EarlyTicksChangeNothing};
 ghost use Rattle.babel_speaker.specs.StalePrefixes.{is_stale};
 ghost use Rattle.babel_state.specs.CurrentSelections.{AreCurrent};
 ghost use Rattle.babel_state.specs.Ticks.{ticked};
 
 use crate::hints::Hints;
 use crate::state::Core;
-use crate::tables::{Announced, Interfaces, LinkCosts, RequestTable};
+use crate::tables::timers::earliest_interface;
+use crate::tables::{Announced, LinkCosts, RequestTable};
 use babel_choice::Costs;
 use babel_link::{History, Link, Neighbours};
 use babel_route::Routes;
 use babel_sources::Sources;
-use babel_state::InterfaceEntry;
 
 /// If all selections are current, a tick before the least deadline changes nothing.
 #[tactic(auto, using(crate::proofs::EarlyTicks::early_ticks))]
 pub fn early_ticks_change_nothing()
     ensures { EarlyTicksChangeNothing }
 {}
-
-/// When the timer is due: at once, if it was never set.
-fn timer_due(timer: Option<u64>) -> u64
-    ensures { result ≡ timer_due timer }
-{
-    match timer {
-        Some(due) => due,
-        None => 0,
-    }
-}
-
-/// When the interface's next Hello, IHUs or Updates are due.
-fn interface_due(interface: &InterfaceEntry) -> u64
-    ensures { result ≡ interface_due interface.now }
-{
-    timer_due(interface.hello_due)
-        .min(timer_due(interface.ihu_due))
-        .min(timer_due(interface.update_due))
-}
 
 /// When the next Hello of the history is missed.
 fn hello_due(history: &Option<History>) -> u64
@@ -65,28 +46,6 @@ fn link_due(link: &Link) -> u64
     hello_due(&link.multicast)
         .min(hello_due(&link.unicast))
         .min(txcost_due)
-}
-
-/// The earlier one of a moment and of the deadline of the interface of the number.
-fn earlier_of_interface(interfaces: &Interfaces, iface: u8, due: u64) -> u64
-    ensures { earliest result (map interface_due (drop (iface + 1) interfaces.now)) ≡ earliest due (map interface_due (drop iface interfaces.now)) }
-{
-    match interfaces.get(iface) {
-        Some(interface) => due.min(interface_due(&interface)),
-        None => due,
-    }
-}
-
-/// The least of a moment and of the deadlines of all interfaces.
-#[tactic(auto, using(crate::proofs::Earliest::all_passed))]
-fn earliest_interface(interfaces: &Interfaces, due: u64) -> u64
-    ensures { result ≡ earliest due (map interface_due interfaces.now) }
-{
-    let mut least = due;
-    for iface in 0..interfaces.len() {
-        least = earlier_of_interface(interfaces, iface, least);
-    }
-    least
 }
 
 /// The least of a moment and of the deadlines of all neighbours.

@@ -36,7 +36,7 @@ impl Core {
     /// neighbours are removed. Returns what changed: if nothing, all selections that were current are so, and the selected
     /// routes are reported as before; if at most the cost of one link, the selections of the prefixes to which its neighbour
     /// has no route stay current.
-    #[tactic(auto, unfolding(babel_state::specs::Ticks::links_ticked))]
+    #[tactic(auto, unfolding(babel_state::specs::Ticks::links_ticked), using(crate::proofs::QuietTicks::no_link_due))]
     pub(crate) fn tick_links(&mut self, now: u64) -> CostChanges
         ensures state { self.new ≡ links_ticked now self.old }
         ensures quiet { result ≡ Nothing → AreCurrent self.old → AreCurrent self.new }
@@ -44,6 +44,11 @@ impl Core {
         ensures others { (peer : Peer) → result ≡ One peer → AreCurrent self.old → AreOthersCurrent peer self.new }
         ensures in_order { AreSelectionsInOrder self.new }
     {
+        if !self.neighbours.may_be_due(now) {
+            // The routes are in order.
+            let _count = self.routes.len();
+            return CostChanges::Nothing;
+        }
         let mut gone = ArrayVec::new();
         let changes = self.neighbours.tick_costs(now, &mut gone);
         self.forget_each(gone.as_slice());
@@ -151,12 +156,13 @@ impl Core {
         self.requests.end_waits(now);
     }
 
-    /// Queues what the timers of the interfaces ask for (RFC 8966, sections 3.4.1, 3.4.2 and 3.7.1).
+    /// Queues what the timers of the interfaces ask for (RFC 8966, sections 3.4.1, 3.4.2 and 3.7.1). As long as none can
+    /// be due, it looks at no interface.
     #[tactic(auto, using(crate::proofs::QuietTicks::nothing_due))]
     pub(crate) fn tick_interfaces(&mut self, now: u64, scratch: &mut Scratch)
         ensures { self.new ≡ interfaces_ticked now self.old }
     {
-        let due = self.interfaces.have_due_timer(now);
+        let due = self.interfaces.may_be_due(now);
         if due {
             self.fire_timers(now, scratch);
         }

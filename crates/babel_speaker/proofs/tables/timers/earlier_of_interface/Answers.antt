@@ -2,7 +2,7 @@
 use Rattle.std.proofs.Common.{sym, ap, min, ◌∙◌}
 use Rattle.babel_speaker.specs.Deadlines.{interface_due}
 use Rattle.babel_speaker.proofs.Earliest.{one_passed, none_passed}
-use Rattle.babel_speaker.proofs.ticks.deadlines.earlier_of_interface.Goals as goal
+use Rattle.babel_speaker.proofs.tables.timers.earlier_of_interface.Goals as goal
 
 pub returns-in-Some : goal.returns-in-Some
 returns-in-Some c =
