@@ -1,6 +1,6 @@
 //! The items that wait to be sent, the oldest first.
 
-ghost use Rattle.std.specs.Prelude.{◌≡◌, ◌≤◌, ◌<◌, ◌⊎◌, [], ◌∷◌, drop, length, slice_get, IfOk};
+ghost use Rattle.std.specs.Prelude.{◌≡◌, ◌≤◌, [], ◌∷◌, drop, length, slice_get, IfOk};
 ghost use Rattle.babel_state.specs.Queueing.{queued};
 
 use babel_state::{Item, MAX_PENDING};
@@ -50,10 +50,17 @@ impl PendingItems {
     pub fn push(&mut self, item: Item)
         ensures { self.new ≡ queued (item ∷ []) self.old }
     {
-        make_room(&mut self.items, &mut self.removed);
-        let cut = u64::from(self.items.len() == MAX_PENDING);
+        let full = self.items.len() == MAX_PENDING;
         self.items.push_back(item);
-        self.dropped = self.dropped.saturating_add(cut);
+        if !full {
+            return;
+        }
+        // The ring gave up its first item: one that was removed, or else the oldest one.
+        if self.removed > 0 {
+            self.removed -= 1;
+            return;
+        }
+        self.dropped = self.dropped.saturating_add(1);
     }
 
     /// The oldest item.
@@ -90,20 +97,4 @@ impl PendingItems {
     {
         self.dropped
     }
-}
-
-/// Takes the places of the items that were removed, if there is no other.
-fn make_room(items: &mut HeapCircularBuffer<Item>, removed: &mut usize)
-    requires within { removed.old ≤ length items.old.items }
-    ensures items { drop removed.new items.new.items ≡ drop removed.old items.old.items }
-    ensures capacity { items.new.capacity ≡ items.old.capacity }
-    ensures within { removed.new ≤ length items.new.items }
-    ensures room { (removed.new ≡ 0) ⊎ (length items.new.items < items.new.capacity) }
-{
-    if items.len() < items.capacity() {
-        return;
-    }
-    let left = items.len() - *removed;
-    items.truncate_front(left);
-    *removed = 0;
 }
