@@ -1,11 +1,12 @@
--- Clearing past the last octet clears nothing.
-use Rattle.std.proofs.Common.{◌≡◌, ℕ, ◌-◌, ◌*◌, ◌≤◌, ◌%◌, ◌^◌, List, [], ◌∷◌, length, refl, arith}
+-- The first bits of an IPv4 address, octet by octet.
+use Rattle.std.proofs.Common.{◌≡◌, ℕ, ◌-◌, ◌%◌, ◌^◌, List, [], ◌∷◌, length, get_or, refl}
 use Rattle.babel_value.specs.Prefixes.{cleared}
 
-pub cleared_all : (bits : ℕ) (octets : List ℕ) → 8 * length octets ≤ bits → cleared bits octets ≡ octets
-cleared_all bits [] whole = refl
-cleared_all bits (octet ∷ octets) whole =
-    let none : 8 - bits ≡ 0 = omega (arith, whole) in
-    let rest = cleared_all (bits - 8) octets (omega (arith, whole)) in
-    let first : octet - octet % 2 ^ (8 - bits) ≡ octet = rw none (omega arith) in
-    cc
+pub cleared_four : (bits : ℕ) (xs : List ℕ) → length xs ≡ 4 →
+    (get_or xs 0 0 - get_or xs 0 0 % 2 ^ (8 - bits)) ∷ (get_or xs 1 0 - get_or xs 1 0 % 2 ^ (8 - (bits - 8))) ∷ (get_or xs 2 0 - get_or xs 2 0 % 2 ^ (8 - (bits - 8 - 8))) ∷ (get_or xs 3 0 - get_or xs 3 0 % 2 ^ (8 - (bits - 8 - 8 - 8))) ∷ [] ≡ cleared bits xs
+cleared_four bits [] four = cc
+cleared_four bits (a ∷ []) four = cc
+cleared_four bits (a ∷ b ∷ []) four = cc
+cleared_four bits (a ∷ b ∷ c ∷ []) four = cc
+cleared_four bits (a ∷ b ∷ c ∷ d ∷ []) four = refl
+cleared_four bits (a ∷ b ∷ c ∷ d ∷ e ∷ es) four = cc

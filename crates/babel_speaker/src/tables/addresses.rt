@@ -2,12 +2,13 @@
 
 ghost use Rattle.std.specs.Prelude.{◌≡◌};
 ghost use Rattle.std.specs.List.{list_any};
+ghost use Rattle.babel_value.specs.Prefixes.{cleared};
 ghost use Rattle.babel_state.specs.Configs.{is_link_local};
 ghost use Rattle.babel_state.specs.Addresses.{address_of, is_own_address, is_one_of, is_in_network, is_from_link};
 
 use crate::tables::Interfaces;
 use babel_state::InterfaceEntry;
-use babel_value::{Addr, Family, Prefix};
+use babel_value::{Addr, Family, keep_bits};
 
 /// Whether an IPv6 address is in fe80::/10 (RFC 4291, section 2.5.6).
 #[tactic(auto, unfolding(babel_state::specs::Configs::is_link_local))]
@@ -57,17 +58,30 @@ pub fn is_own_address(addr: &Addr, interface: &InterfaceEntry) -> bool
         || is_one_of(addr, address_of(Family::Ipv6, interface))
 }
 
+/// The IPv4 address with the bits past the first ones cleared, of which there are this many.
+#[tactic(auto, using(crate::proofs::Networks::cleared_four))]
+fn first_bits(octets: &[u8; 4], bits: u8) -> [u8; 4]
+    ensures { result ≡ cleared bits octets.now }
+{
+    let second = bits.saturating_sub(8);
+    let third = second.saturating_sub(8);
+    let fourth = third.saturating_sub(8);
+    [
+        keep_bits(octets[0], bits),
+        keep_bits(octets[1], second),
+        keep_bits(octets[2], third),
+        keep_bits(octets[3], fourth),
+    ]
+}
+
 /// Whether the two IPv4 addresses have the same first bits, this many.
-#[tactic(auto, using(crate::proofs::Networks::cleared_all))]
 fn is_in_network(octets: &[u8; 4], network: &([u8; 4], u8)) -> bool
     ensures { result ≡ is_in_network octets.now network.now }
 {
-    let (source, own, length) = (*octets, network.0, network.1);
-    let (source, own) = (Addr::V4(source), Addr::V4(own));
-    match (Prefix::new(source, length), Prefix::new(own, length)) {
-        (Some(source), Some(own)) => source.addr().cmp(&own.addr()).is_eq(),
-        _ => source.cmp(&own).is_eq(),
-    }
+    let (own, length) = *network;
+    let source = Addr::V4(first_bits(octets, length));
+    let own = Addr::V4(first_bits(&own, length));
+    source.cmp(&own).is_eq()
 }
 
 /// Whether a neighbour on the interface's link may have the address.
