@@ -118,6 +118,7 @@ impl Neighbours {
     }
 
     /// Whether the peer's entry is at this place.
+    #[inline]
     fn is_at(&self, place: usize, peer: &Peer) -> bool
         ensures { IsTrue result → IsPlaceOf peer.now self.now place }
     {
@@ -153,6 +154,19 @@ impl Neighbours {
             self.near.set(place);
         }
         found
+    }
+
+    /// The same for the sender of a message, mostly that of the last one. So the first look is compiled into the callers.
+    #[inline(always)]
+    fn search_sender(&self, peer: &Peer) -> Result<usize, usize>
+        ensures found { IfOk result (IsPlaceOf peer.now self.now) }
+        ensures absent { IfErr result (IsGapFor peer.now self.now) }
+    {
+        let near = self.near.get();
+        if self.is_at(near, peer) {
+            return Ok(near);
+        }
+        self.search_near(peer)
     }
 
     /// What is known of the peer, by the place that a search for it found.
@@ -211,7 +225,7 @@ impl Neighbours {
         ensures ok { OnOk result (self.new ≡ hello_of now peer unicast seqno interval self.old) }
         ensures err { OnErr result (self.new ≡ self.old) }
     {
-        let place = self.search_near(&peer);
+        let place = self.search_sender(&peer);
         let known = self.link_at(peer, place);
         if known.is_none() && self.links.len() == MAX_NEIGHBOURS {
             return Err(Full);
@@ -232,7 +246,7 @@ impl Neighbours {
         ensures known { result ≡ is_some (find peer_cmp peer self.old) }
         ensures links { self.new ≡ ihu_of now peer rxcost interval self.old }
     {
-        let place = self.search_near(&peer);
+        let place = self.search_sender(&peer);
         let Some(mut link) = self.link_at(peer, place) else {
             return false;
         };
@@ -337,7 +351,7 @@ impl Neighbours {
     pub fn known(&self, peer: Peer) -> bool
         ensures { result ≡ is_some (find peer_cmp peer self.now) }
     {
-        self.get(peer).is_some()
+        self.link_at(peer, self.search_sender(&peer)).is_some()
     }
 
     /// The neighbour with exactly `place` lesser ones.
