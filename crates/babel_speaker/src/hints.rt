@@ -1,12 +1,17 @@
 //! What a speaker keeps next to its state, so that calls are quick and their changes are counted.
 
-ghost use Rattle.std.specs.Prelude.{IfOk, IsFalse};
+ghost use Rattle.std.specs.Prelude.{◌≡◌, IfOk, IsFalse};
 
 use crate::tables::Scratch;
 use babel_choice::Cursor;
+use babel_message::Placed;
 use babel_route::Trail;
 use babel_value::Memory;
 use std::alloc::Global;
+use std::mem;
+
+/// For how many TLVs a list may have room that is kept: 8 KiB.
+const MOST_KEPT: usize = 128;
 
 /// What speeds calls up, and what they note of their changes. The state that a call leaves doesn't depend on it.
 #[derive(Drop)]
@@ -21,6 +26,8 @@ pub struct Hints {
     pub scratch: Scratch,
     /// The order in which neighbours send their updates.
     pub trail: Trail,
+    /// What the last datagram meant. The list is kept, so that the next datagram mostly allocates none.
+    pub placed: Vec<Placed>,
     /// Where the searches of an update, or of the items of a datagram, begin.
     pub cursor: Cursor,
 }
@@ -37,7 +44,26 @@ impl Hints {
             lowered: false,
             scratch,
             trail: Trail::new(),
+            placed: Vec::new(alloc),
             cursor: Cursor::new(),
         })
+    }
+
+    /// The kept list, in whose place is an empty one. It takes no memory.
+    pub fn take_list(&mut self, alloc: Global) -> Vec<Placed>
+        ensures settled { self.new.settled ≡ self.old.settled }
+        ensures changed { self.new.changed ≡ self.old.changed }
+    {
+        mem::replace(&mut self.placed, Vec::new(alloc))
+    }
+
+    /// Keeps the list for the next datagram, unless it has room for more than `MOST_KEPT` TLVs.
+    pub fn keep_list(&mut self, placed: Vec<Placed>)
+        ensures settled { self.new.settled ≡ self.old.settled }
+        ensures changed { self.new.changed ≡ self.old.changed }
+    {
+        if placed.capacity() <= MOST_KEPT {
+            self.placed = placed;
+        }
     }
 }

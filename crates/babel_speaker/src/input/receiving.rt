@@ -12,7 +12,7 @@ use crate::input::records::Arrival;
 use crate::state::Core;
 use babel_choice::Cursor;
 use babel_message::{Content, Message, Placed, Reason, Refusal};
-use babel_packet::decode;
+use babel_packet::decode_into;
 use babel_state::{Note, RecvFault, Verdict};
 use babel_value::Distance;
 use std::alloc::Global;
@@ -140,11 +140,14 @@ pub(crate) fn receive(
     if let Some(fault) = core.source_fault(arrival.peer.iface, &source) {
         return Err(fault);
     }
-    let placed = match decode(alloc, octets, source) {
-        Ok(placed) => placed,
-        Err(refusal) => return Err(RecvFault::Refused(refusal)),
-    };
-    take_places(core, alloc, arrival, placed.as_slice(), hints)
+    let mut placed = hints.take_list(alloc);
+    if let Err(refusal) = decode_into(octets, source, &mut placed) {
+        hints.keep_list(placed);
+        return Err(RecvFault::Refused(refusal));
+    }
+    let notes = take_places(core, alloc, arrival, placed.as_slice(), hints);
+    hints.keep_list(placed);
+    notes
 }
 
 /// The same for a datagram that is decoded already.
