@@ -1,11 +1,12 @@
 -- `cmp` and `==` of keys are the stated orders.
-use Rattle.std.proofs.Common.{◌≡◌, refl, ap, ◌∙◌}
+use Rattle.std.proofs.Common.{◌≡◌, ℕ, List, nat_eq, refl, sym, ap, ◌∙◌}
+use Rattle.std.specs.Cmp.Lexicographic.{pointwise, texts_ties}
 use Rattle.std.specs.Ordering.{ordering_then, nat_cmp, is_eq}
 use Rattle.babel_value.specs.declared.addresses.Addr.{Addr}
 use Rattle.babel_value.specs.declared.addresses.Addr.TheVariants.{V4, V6}
 use Rattle.babel_value.specs.declared.keys.Peer.{Peer}
 use Rattle.babel_value.specs.Prefixes.{PrefixValue}
-use Rattle.babel_value.specs.Orders.{addr_cmp, peer_cmp, prefix_cmp}
+use Rattle.babel_value.specs.Orders.{octets_cmp, addr_cmp, peer_cmp, prefix_cmp}
 use Rattle.babel_value.specs.contracts.addresses.AddrOrd.TheImpl as addrs
 use Rattle.babel_value.specs.contracts.keys.PeerOrd.TheImpl as peers
 use Rattle.babel_value.specs.contracts.keys.PeerOrd.TheImpl.Laws.{matches_eq-law as peers_match}
@@ -32,3 +33,6 @@ same_prefix p q = matches_eq-law p q ∙ ap is_eq (cmp_of_prefixes p q)
 
 pub same_peer : (p q : Peer) → (equal_peers.ghosts).eq p q ≡ is_same_peer p q
 same_peer p q = peers_match p q ∙ ap is_eq (cmp_of_peers p q)
+
+pub same_router : (a b : List ℕ) → is_eq (octets_cmp a b) ≡ pointwise nat_eq a b
+same_router a b = sym (texts_ties a b)

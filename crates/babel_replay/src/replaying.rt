@@ -399,14 +399,14 @@ impl Replayer {
         ensures speaker { self.new.speaker.state ≡ self.old.speaker.state }
         ensures failed { IfErr result (λ fault. fault ≡ LineFault.Write) }
     {
-        let Some(seen) = self.seen.get(index) else {
+        let Some((prefix, last)) = self.seen.get(index) else {
             return Ok(());
         };
-        let (prefix, last) = seen;
-        let choice = self.choice(&prefix, near);
-        if is_same(&choice, &last) {
+        let choice = self.choice(prefix, near);
+        if is_same(&choice, last) {
             return Ok(());
         }
+        let prefix = *prefix;
         self.seen.set(index, choice);
         set_select(&mut self.drafts.line, time, &prefix, &choice);
         write_line(out, &self.drafts.line)
@@ -448,8 +448,8 @@ impl Replayer {
         let Some((prefix, _)) = self.seen.get(index) else {
             return Ok(());
         };
-        let choice = self.choice(&prefix, near);
-        write_line(out, &table_line(&prefix, &choice))
+        let choice = self.choice(prefix, near);
+        write_line(out, &table_line(prefix, &choice))
     }
 }
 

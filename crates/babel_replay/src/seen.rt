@@ -2,6 +2,8 @@
 //! was last printed of each.
 
 ghost use Rattle.std.specs.Prelude.{◌≡◌, ◌+◌, ◌≤◌, ◌<◌, [], length, zip, slice_get, OnOk, IsTrue, IsFalse};
+ghost use Rattle.std.specs.Map.Iter.{deref_pair};
+ghost use Rattle.std.specs.Option.{option_map};
 ghost use Rattle.indexmap.specs.IndexMap.{set_value_at};
 ghost use Rattle.babel_replay.specs.Seen.{choice_of, is_same_route, is_same_choice, updated, updates_in, stored, with_seen, seen_after};
 
@@ -36,12 +38,14 @@ pub(crate) fn is_same(a: &Option<Choice>, b: &Option<Choice>) -> bool
     }
 }
 
+/// Router-ids are compared by their order, which takes them as numbers.
+#[tactic(auto, using(crate::proofs::Comparing::same_router))]
 fn is_same_route(a: &Choice, b: &Choice) -> bool
     ensures { result ≡ is_same_route a.now b.now }
 {
     a.peer.cmp(&b.peer).is_eq()
         && a.metric == b.metric
-        && a.router == b.router
+        && a.router.cmp(&b.router).is_eq()
         && a.seqno == b.seqno
 }
 
@@ -142,11 +146,10 @@ impl SeenPrefixes {
     }
 
     /// The prefix at the index, and what was last printed of it.
-    pub(crate) fn get(&self, index: usize) -> Option<(Prefix, Option<Choice>)>
-        ensures { result ≡ slice_get self.now.entries index }
+    pub(crate) fn get(&self, index: usize) -> Option<(&Prefix, &Option<Choice>)>
+        ensures { option_map deref_pair result ≡ slice_get self.now.entries index }
     {
-        let (prefix, choice) = self.table.get_index(index)?;
-        Some((*prefix, *choice))
+        self.table.get_index(index)
     }
 
     /// Notes what is printed of the prefix at the index.
