@@ -27,6 +27,9 @@ use babel_value::{Addr, HelloKind, Metric, Prefix, RouterId, Seqno};
 /// The datagram that is being built.
 pub(crate) type Datagram = ArrayVec<u8, DATAGRAM_LEN>;
 
+/// How many octets are pushed one by one.
+const FEW: usize = 4;
+
 /// Appends a TLV whose payload is the fields and then these octets.
 #[inline(always)]
 fn put_tlv(datagram: &mut Datagram, kind: u8, fields: &[u8], octets: &[u8]) -> bool
@@ -42,10 +45,26 @@ fn put_tlv(datagram: &mut Datagram, kind: u8, fields: &[u8], octets: &[u8]) -> b
     }
     datagram.push(kind);
     datagram.push(length as u8);
-    // There is room for all: no test of it is left in what is compiled.
+    // There is room for all of them.
     datagram.try_extend_from_slice(fields).unwrap();
-    datagram.try_extend_from_slice(octets).unwrap();
+    append(datagram, octets);
     true
+}
+
+/// Appends octets, for which there is room. An Update mostly has few, and to push these takes less than a call that
+/// copies them.
+#[inline(always)]
+fn append(datagram: &mut Datagram, octets: &[u8])
+    requires { length datagram.old.items + length octets.now ≤ DATAGRAM_LEN }
+    ensures { datagram.new.items ≡ datagram.old.items ++ octets.now }
+{
+    if octets.len() > FEW {
+        datagram.try_extend_from_slice(octets).unwrap();
+        return;
+    }
+    for octet in octets {
+        datagram.push(*octet);
+    }
 }
 
 /// Appends a TLV whose payload is the fields and then the octets of the prefix.
