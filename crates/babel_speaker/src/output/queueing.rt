@@ -86,11 +86,11 @@ pub fn queue_updates_of(
 )
     ensures { pending.new ≡ queued (map (update_to peer.now) (reachable_of announced.now routes.now.selections)) pending.old }
 {
+    let target = Target {
+        iface: peer.iface,
+        to: Some(peer.addr),
+    };
     for prefix in Reachable::new(announced, routes) {
-        let target = Target {
-            iface: peer.iface,
-            to: Some(peer.addr),
-        };
         pending.push(Item::Update { target, prefix });
     }
 }
