@@ -1,12 +1,12 @@
 //! The route table and route selection (RFC 8966, sections 3.2.6, 3.5 and 3.6).
 
-ghost use Rattle.std.specs.Prelude.{◌≡◌, ◌↔◌, ◌≤◌, ◌<◌, [], length, slice_get, option_map, IfOk, OnOk, OnErr, IsErr, IsNone, IsSome, IsTrue, IsFalse, is_some, map};
+ghost use Rattle.std.specs.Prelude.{◌≡◌, ◌↔◌, ◌≤◌, ◌<◌, [], length, slice_get, option_map, IfOk, OnOk, OnErr, IsErr, IsNone, IsSome, IsTrue, IsFalse, is_some, map, option_and_then, Some, None, if◌then◌else◌};
 ghost use Rattle.std.specs.List.{filter};
 ghost use Rattle.std.specs.FinMap.{find, is_sorted};
 ghost use Rattle.babel_value.specs.Orders.{prefix_cmp};
 ghost use Rattle.babel_route.specs.Rooms.{most_routes};
 ghost use Rattle.babel_choice.specs.RouteKeys.{route_cmp};
-ghost use Rattle.babel_choice.specs.Routes.{key_of, updated, retracted, retracted_all, has_routes_from, forgotten, all_forgotten, expired, routes_due};
+ghost use Rattle.babel_choice.specs.Routes.{is_from, key_of, updated, retracted, retracted_all, has_routes_from, forgotten, all_forgotten, expired, routes_due};
 ghost use Rattle.babel_choice.specs.Choices.{routes_of, choice};
 ghost use Rattle.babel_choice.specs.Origins.{is_own};
 ghost use Rattle.babel_choice.specs.PrefixBounds.{is_beyond};
@@ -222,6 +222,18 @@ impl<E: Table<RouteKey, Entry>, S: Table<Prefix, Selection>> RoutesOver<E, S> {
             .map(|route| (route.0.prefix, route.0.peer, route.1))
     }
 
+    /// The prefix of the route that exactly `place` others come before, if the neighbour advertised it.
+    #[inline(always)]
+    pub fn prefix_from(&self, place: usize, peer: &Peer) -> Option<Prefix>
+        ensures { result ≡ option_and_then (λ route. if is_from peer.now route.0 then Some route.0.prefix else None) (slice_get self.now.entries place) }
+    {
+        let route = self.entries.at(place)?;
+        if !route.0.peer.cmp(peer).is_eq() {
+            return None;
+        }
+        Some(route.0.prefix)
+    }
+
     /// The neighbour's entry for the prefix.
     pub fn entry(&self, prefix: &Prefix, peer: &Peer) -> Option<Entry>
         ensures { result ≡ find route_cmp (key_of prefix.now peer.now) self.now.entries }
@@ -287,12 +299,15 @@ impl<E: Table<RouteKey, Entry>, S: Table<Prefix, Selection>> RoutesOver<E, S> {
     }
 
     /// The selection of the prefix, as the last reselection left it. The search begins at the cursor, which goes to
-    /// the prefix.
+    /// the next prefix: prefixes that rise are each found at once.
     #[inline(always)]
     pub fn selected_near(&self, prefix: &Prefix, cursor: &mut Cursor) -> Option<Selection>
         ensures { result ≡ selection_at prefix.now self.now }
     {
-        find_near(&self.selections, &mut cursor.selection, prefix)
+        let mut near = cursor.selection;
+        let selection = find_near(&self.selections, &mut near, prefix);
+        cursor.selection = near.wrapping_add(usize::from(selection.is_some()));
+        selection
     }
 
     /// Selects the route of the prefix again (RFC 8966, section 3.6): the candidate of the least metric,

@@ -1,20 +1,28 @@
 -- Reselecting the prefixes whose selection isn't current is reselecting all.
-use Rattle.std.specs.Prelude.{◌≡◌, ℕ, Bool, true, false, cond, not, ◌||◌, List, [], ◌∷◌, filter, T, ⊤, Option, Some, None}
-use Rattle.std.specs.Ordering.{eq_by_cmp}
+use Rattle.std.specs.Prelude.{◌≡◌, ℕ, Bool, true, false, cond, not, ◌&&◌, ◌||◌, List, [], ◌∷◌, ◌+◌, ◌<◌, drop, length, slice_get, filter, map, T, ⊤, Option, Some, None, option_and_then, if◌then◌else◌}
+use Rattle.std.specs.declared.cmp.Ordering.{Ordering}
+use Rattle.std.specs.declared.cmp.Ordering.TheVariants.{Less, Equal, Greater}
+use Rattle.std.specs.Cmp.{tied_itself}
+use Rattle.std.specs.Ordering.{eq_by_cmp, is_lt, ordering_then}
 use Rattle.std.specs.FinMap.{find, put, is_sorted}
-use Rattle.std.specs.FinMap.Entries.{find-put, find-where_key, is_sorted-put, is_sorted-where_key, same_entries}
+use Rattle.std.specs.FinMap.Entries.{below_all, find-put, find-where_key, is_sorted-put, is_sorted-where_key, same_entries}
 use Rattle.std.proofs.Common.{refl, sym, ◌∙◌, ap, subst}
-use Rattle.std.proofs.lemmas.Bool.{false≢true}
+use Rattle.std.proofs.lemmas.Bool.{false≢true, and_parts}
+use Rattle.std.proofs.lemmas.Option.{same_Some, none-some}
 use Rattle.babel_value.specs.declared.keys.Peer.{Peer}
-use Rattle.babel_value.specs.Orders.{prefix_cmp}
+use Rattle.babel_value.specs.Orders.{prefix_cmp, peer_cmp}
 use Rattle.babel_value.specs.Prefixes.{PrefixValue}
-use Rattle.babel_value.proofs.OrderLaws.{prefix_total, prefix_exact}
+use Rattle.babel_value.proofs.OrderLaws.{prefix_total, prefix_exact, peer_total, peer_exact}
 use Rattle.babel_table.specs.Entries.{with_value}
 use Rattle.babel_table.proofs.LookupLemmas.{equal}
 use Rattle.babel_table.proofs.PlaceLemmas.{holds, so, sorted_put, sorted_without}
 use Rattle.babel_choice.specs.declared.entries.Selection.{Selection}
 use Rattle.babel_route.specs.Currency.{is_current}
+use Rattle.babel_choice.specs.declared.entries.RouteKey.{RouteKey}
 use Rattle.babel_choice.specs.RouteKeys.{route_cmp}
+use Rattle.babel_choice.specs.Routes.{Route, RouteEntries, is_from}
+use Rattle.babel_choice.proofs.RunLemmas.{drop_at}
+use Rattle.circular_buffer.proofs.Places.{slice_get-some}
 use Rattle.babel_choice.specs.Choices.{Selections}
 use Rattle.babel_route.specs.Selections.{RoutesValue, IsCurrent, selection_at, choice_at, prefixes_of}
 use Rattle.babel_route.proofs.CurrencyLemmas.{same_selection}
@@ -155,16 +163,6 @@ pub stale_reselected : (now : ℕ) (s t : State) (set : PrefixSet) → is_sorted
 stale_reselected now s t set routes selections sorted stale is =
     is ∙ all_reselected now s routes selections set sorted (λ p none. current_at p s (sym (stale p) ∙ none))
 
-has_filtered : (p : PrefixValue) (f : PrefixValue → Bool) (ps : List PrefixValue) → f p ≡ true → has_prefix p ps ≡ true → has_prefix p (filter f ps) ≡ true
-has_filtered p f [] passes has = has
-has_filtered p f (q ∷ ps) passes has = by (eq_by_cmp prefix_cmp p q) (f q) refl refl has (has_filtered p f ps passes)
-  where
-    by : (b kept : Bool) → eq_by_cmp prefix_cmp p q ≡ b → f q ≡ kept → (b || has_prefix p ps) ≡ true → (has_prefix p ps ≡ true → has_prefix p (filter f ps) ≡ true) → has_prefix p (cond kept (q ∷ filter f ps) (filter f ps)) ≡ true
-    by true true same kept has rest = rw same refl
-    by true false same kept has rest = absurd (false≢true (sym kept ∙ ap f (sym (prefix_exact p q (equal (prefix_cmp p q) same))) ∙ passes))
-    by false true same kept has rest = rw same (rest has)
-    by false false same kept has rest = rest has
-
 -- The others of these prefixes are current.
 pub gathered_reselected : (now : ℕ) (s t : State) (ps : List PrefixValue) (set : PrefixSet) → is_sorted route_cmp s.routes.entries ≡ true → is_sorted prefix_cmp s.routes.selections ≡ true → ((p : PrefixValue) → has_prefix p ps ≡ false → IsCurrentAt p s) → set ≡ gathered ps [] → t ≡ reselect_each now (prefixes_in set) s → t ≡ reselect_all now s
 gathered_reselected now s t ps set routes selections others gathers is =
@@ -173,17 +171,113 @@ gathered_reselected now s t ps set routes selections others gathers is =
     sorted : is_sorted prefix_cmp set ≡ true
     sorted = ap (is_sorted prefix_cmp) gathers ∙ so (is_sorted prefix_cmp (gathered ps [])) (sorted_gathered ps [] tt)
 
-pub stale_from_reselected : (now : ℕ) (peer : Peer) (s t : State) (set : PrefixSet) → is_sorted route_cmp s.routes.entries ≡ true → is_sorted prefix_cmp s.routes.selections ≡ true → AreOthersCurrent peer s → set ≡ gathered (filter (is_stale s.sources (cost_at s) s.announced s.routes) (prefixes_from peer s.routes.entries)) [] → t ≡ reselect_each now (prefixes_in set) s → t ≡ reselect_all now s
-stale_from_reselected now peer s t set routes selections others gathers is =
-    gathered_reselected now s t (filter stale from) set routes selections (λ p none. by p (has_prefix p from) (stale p) refl refl none) gathers is
-  where
-    from : List PrefixValue
-    from = prefixes_from peer s.routes.entries
+-- ---- one reselection
 
-    stale : PrefixValue → Bool
-    stale = is_stale s.sources (cost_at s) s.announced s.routes
+pub unchanged_reselected : (now : ℕ) (p : PrefixValue) (s t : State) → t ≡ select p s → t ≡ s → t ≡ reselect now None p s
+unfolding reselect
+unchanged_reselected now p s t selected is =
+    is ∙ sym (ap (λ u. follow_up now None p (selected_at p s) (selected_at p u) u) (sym selected ∙ is) ∙ nothing_follows now p s (selected_at p s))
 
-    by : (p : PrefixValue) (has not_current : Bool) → has_prefix p from ≡ has → stale p ≡ not_current → has_prefix p (filter stale from) ≡ false → IsCurrentAt p s
-    by p false not_current is_from is_stale none = others p is_from
-    by p true false is_from is_stale none = current_at p s is_stale
-    by p true true is_from is_stale none = absurd (false≢true (sym none ∙ has_filtered p stale from is_stale is_from))
+pub changed_reselected : (now : ℕ) (p : PrefixValue) (s t u : State) (old new : Option Selection) → t ≡ select p s → old ≡ selected_at p s → new ≡ selected_at p t → u ≡ follow_up now None p old new t → u ≡ reselect now None p s
+unfolding reselect
+changed_reselected now p s t u old new selected before after follows =
+    follows ∙ (λ i. follow_up now None p (before i) (after i) t) ∙ ap (λ v. follow_up now None p (selected_at p s) (selected_at p v) v) selected
+
+pub entries_kept : (now : ℕ) (p : PrefixValue) (s t : State) → t ≡ reselect now None p s → t.routes.entries ≡ s.routes.entries
+unfolding kept_of
+entries_kept now p s t is = ap (λ (u : State). u.routes.entries) is ∙ ap (λ (u : State). u.routes.entries) (reselects_kept now None p s)
+
+-- ---- the prefixes of a neighbour's routes
+
+abbrev units : List PrefixValue → PrefixSet
+units [] = []
+units (p ∷ ps) = (p, tt) ∷ units ps
+
+of_units : (ps : List PrefixValue) → prefixes_in (units ps) ≡ ps
+of_units [] = refl
+of_units (p ∷ ps) = ap (λ qs. p ∷ qs) (of_units ps)
+
+both : (a b : Bool) → a ≡ true → b ≡ true → (a && b) ≡ true
+both a b one other = rw one other
+
+first_lesser : (o p : Ordering) → p ≡ Equal → is_lt (ordering_then o p) ≡ true → is_lt o ≡ true
+first_lesser Less p tied lesser = refl
+first_lesser Equal p tied lesser = absurd (false≢true (ap is_lt (sym tied) ∙ lesser))
+first_lesser Greater p tied lesser = lesser
+
+module _ (peer : Peer) where
+  tied : (a b : RouteKey) → is_from peer a ≡ true → is_from peer b ≡ true → peer_cmp a.peer b.peer ≡ Equal
+  tied a b one other =
+      ap (λ q. peer_cmp q b.peer) (peer_exact a.peer peer (equal (peer_cmp a.peer peer) one))
+      ∙ ap (peer_cmp peer) (peer_exact b.peer peer (equal (peer_cmp b.peer peer) other))
+      ∙ tied_itself peer_total peer
+
+  from_below : (key : RouteKey) (es : RouteEntries) → is_from peer key ≡ true → below_all route_cmp key es ≡ true → below_all prefix_cmp key.prefix (units (prefixes_from peer es)) ≡ true
+  from_below key [] from below = refl
+  from_below key (e ∷ es) from below =
+      let parts = and_parts (is_lt (route_cmp key e.0)) (below_all route_cmp key es) below in
+      by (is_from peer e.0) refl parts.0 (from_below key es from parts.1)
+    where
+      by : (b : Bool) → is_from peer e.0 ≡ b → is_lt (route_cmp key e.0) ≡ true → below_all prefix_cmp key.prefix (units (prefixes_from peer es)) ≡ true → below_all prefix_cmp key.prefix (units (map (λ f. f.0.prefix) (cond b (e ∷ filter (λ f. is_from peer f.0) es) (filter (λ f. is_from peer f.0) es)))) ≡ true
+      by true is lesser rest =
+          both (is_lt (prefix_cmp key.prefix e.0.prefix)) (below_all prefix_cmp key.prefix (units (prefixes_from peer es)))
+          (first_lesser (prefix_cmp key.prefix e.0.prefix) (peer_cmp key.peer e.0.peer) (tied key e.0 from is) lesser) rest
+      by false is lesser rest = rest
+
+  from_sorted : (es : RouteEntries) → is_sorted route_cmp es ≡ true → is_sorted prefix_cmp (units (prefixes_from peer es)) ≡ true
+  from_sorted [] sorted = refl
+  from_sorted (e ∷ es) sorted =
+      let parts = and_parts (below_all route_cmp e.0 es) (is_sorted route_cmp es) sorted in
+      by (is_from peer e.0) refl parts.0 (from_sorted es parts.1)
+    where
+      by : (b : Bool) → is_from peer e.0 ≡ b → below_all route_cmp e.0 es ≡ true → is_sorted prefix_cmp (units (prefixes_from peer es)) ≡ true → is_sorted prefix_cmp (units (map (λ f. f.0.prefix) (cond b (e ∷ filter (λ f. is_from peer f.0) es) (filter (λ f. is_from peer f.0) es)))) ≡ true
+      by true is below rest =
+          both (below_all prefix_cmp e.0.prefix (units (prefixes_from peer es))) (is_sorted prefix_cmp (units (prefixes_from peer es)))
+          (from_below e.0 es is below) rest
+      by false is below rest = rest
+
+-- All prefixes of the neighbour were reselected.
+pub from_reselected : (now : ℕ) (peer : Peer) (s t : State) → is_sorted route_cmp s.routes.entries ≡ true → is_sorted prefix_cmp s.routes.selections ≡ true → AreOthersCurrent peer s → t ≡ reselect_each now (prefixes_from peer s.routes.entries) s → t ≡ reselect_all now s
+from_reselected now peer s t routes selections others is =
+    let ps : List PrefixValue = prefixes_from peer s.routes.entries in
+    is ∙ ap (λ qs. reselect_each now qs s) (sym (of_units ps))
+    ∙ all_reselected now s routes selections (units ps) (from_sorted peer s.routes.entries routes)
+    (λ p none. others p (ap (has_prefix p) (sym (of_units ps)) ∙ none))
+
+-- ---- the walk over the routes
+
+module _ (peer : Peer) where
+  abbrev pub prefix_in : Option Route → Option PrefixValue
+  prefix_in = option_and_then (λ e. if is_from peer e.0 then Some e.0.prefix else None)
+
+  from_here : (es : RouteEntries) (place : ℕ) (p : PrefixValue) → prefix_in (slice_get es place) ≡ Some p → prefixes_from peer (drop place es) ≡ p ∷ prefixes_from peer (drop (place + 1) es)
+  from_here es place p is = by (slice_get es place) refl is
+    where
+      here : (e : Route) (b : Bool) → is_from peer e.0 ≡ b → cond b (Some e.0.prefix) None ≡ Some p → prefixes_from peer (e ∷ drop (place + 1) es) ≡ p ∷ prefixes_from peer (drop (place + 1) es)
+      here e true so found = rw so (ap (λ q. q ∷ prefixes_from peer (drop (place + 1) es)) (same_Some e.0.prefix p found))
+      here e false so found = absurd (none-some p found)
+
+      by : (o : Option Route) → slice_get es place ≡ o → prefix_in o ≡ Some p → prefixes_from peer (drop place es) ≡ p ∷ prefixes_from peer (drop (place + 1) es)
+      by None at found = absurd (none-some p found)
+      by (Some e) at found = ap (prefixes_from peer) (drop_at es place e at) ∙ here e (is_from peer e.0) refl found
+
+  none_here : (es : RouteEntries) (place : ℕ) → place < length es → prefix_in (slice_get es place) ≡ None → prefixes_from peer (drop place es) ≡ prefixes_from peer (drop (place + 1) es)
+  none_here es place within is =
+      let found = slice_get-some es place within in
+      ap (prefixes_from peer) (drop_at es place found.0 found.1) ∙ here found.0 (is_from peer found.0.0) refl (ap prefix_in (sym found.1) ∙ is)
+    where
+      here : (e : Route) (b : Bool) → is_from peer e.0 ≡ b → cond b (Some e.0.prefix) None ≡ None → prefixes_from peer (e ∷ drop (place + 1) es) ≡ prefixes_from peer (drop (place + 1) es)
+      here e true so none = absurd (none-some e.0.prefix (sym none))
+      here e false so none = rw so refl
+
+  pub one_walked : (now : ℕ) (es : RouteEntries) (place : ℕ) (p : PrefixValue) (s t goal : State) → Some p ≡ prefix_in (slice_get s.routes.entries place) → s.routes.entries ≡ es → t ≡ reselect now None p s → reselect_each now (prefixes_from peer (drop place es)) s ≡ goal → reselect_each now (prefixes_from peer (drop (place + 1) es)) t ≡ goal
+  one_walked now es place p s t goal found kept is done =
+      ap (reselect_each now (prefixes_from peer (drop (place + 1) es))) is
+      ∙ ap (λ ps. reselect_each now ps s) (sym (from_here es place p (ap (λ fs. prefix_in (slice_get fs place)) (sym kept) ∙ sym found)))
+      ∙ done
+
+  pub none_walked : (now : ℕ) (es : RouteEntries) (place : ℕ) (s t goal : State) → place < length s.routes.entries → None ≡ prefix_in (slice_get s.routes.entries place) → s.routes.entries ≡ es → t ≡ s → reselect_each now (prefixes_from peer (drop place es)) s ≡ goal → reselect_each now (prefixes_from peer (drop (place + 1) es)) t ≡ goal
+  none_walked now es place s t goal within found kept is done =
+      ap (reselect_each now (prefixes_from peer (drop (place + 1) es))) is
+      ∙ ap (λ ps. reselect_each now ps s) (sym (none_here es place (subst (λ fs. place < length fs) kept within) (ap (λ fs. prefix_in (slice_get fs place)) (sym kept) ∙ sym found)))
+      ∙ done

@@ -10,7 +10,6 @@ pub mod prefixes;
 pub mod reachable;
 pub mod requests;
 pub mod scratch;
-pub mod selection_inputs;
 pub mod timers;
 
 pub use announced::Announced;
@@ -21,4 +20,3 @@ pub use prefixes::Prefixes;
 pub use reachable::Reachable;
 pub use requests::{RequestTable, SeqnoRequest};
 pub use scratch::Scratch;
-pub use selection_inputs::SelectionInputs;

@@ -1,11 +1,12 @@
 //! Whether the selection of a prefix is current (RFC 8966, section 3.6).
 
-ghost use Rattle.std.specs.Prelude.{◌≡◌, ◌<◌, length, IsSome, IsNone};
+ghost use Rattle.std.specs.Prelude.{◌≡◌, ◌<◌, length, IsSome, IsNone, IfSome};
 ghost use Rattle.std.specs.FinMap.{find};
 ghost use Rattle.babel_value.specs.Orders.{prefix_cmp};
 ghost use Rattle.babel_table.specs.Entries.{with_value};
 ghost use Rattle.babel_choice.specs.Origins.{is_own};
 ghost use Rattle.babel_route.specs.Currency.{is_same_distance, is_same_entry, is_same_selection, is_current};
+ghost use Rattle.babel_route.specs.Selections.{selection_at, reselected};
 
 use super::RoutesOver;
 use super::refresh::replace_at;
@@ -38,6 +39,48 @@ impl<E: Table<RouteKey, Entry>, S: Table<Prefix, Selection>> RoutesOver<E, S> {
         let after = choose(&inputs, prefix, origin, &before, cursor);
         is_same_selection(&before, &after)
     }
+
+    /// Selects the route of the prefix again, as `select_near`. It returns `None` if the selection was the one that a
+    /// reselection leaves: then nothing changed. The cursor goes to the next prefix.
+    #[inline(always)]
+    pub fn select_changed<T: Table<Source, SourceEntry>, C: Costs>(
+        &mut self,
+        prefix: &Prefix,
+        origin: Origin,
+        sources: &SourcesOver<T>,
+        costs: &C,
+        cursor: &mut Cursor,
+    ) -> Option<(Option<Selection>, Option<Selection>)>
+        ensures current { IsNone result → self.new ≡ self.old }
+        ensures before { IfSome result (λ selections. selections.0 ≡ selection_at prefix.now self.old) }
+        ensures selected { IfSome result (λ selections. selections.1 ≡ selection_at prefix.now self.new) }
+        ensures routes { self.new ≡ reselected sources.now (C.cost_of costs.now) prefix.now (is_own origin) self.old }
+    {
+        let mut place = cursor.selection;
+        let before = find_near(&self.selections, &mut place, prefix);
+        let inputs = ChoiceInputs {
+            entries: &self.entries,
+            sources,
+            costs,
+        };
+        let after = choose(&inputs, prefix, origin, &before, cursor);
+        cursor.selection = place_after(place, &before, &after);
+        if is_same_selection(&before, &after) {
+            return None;
+        }
+        exchange_near(&mut self.selections, place, *prefix, &before, &after);
+        Some((before, after))
+    }
+}
+
+/// The index at which the search for the next prefix's selection begins: after that of this prefix, which is at the index
+/// `place`, if it is still there. After one that is new, the next is mostly new too: then its search begins here.
+fn place_after(place: usize, before: &Option<Selection>, after: &Option<Selection>) -> usize {
+    if before.is_some() && after.is_some() {
+        place.wrapping_add(1)
+    } else {
+        place
+    }
 }
 
 /// Stores the new selection of the prefix, unless it is the old one.
@@ -57,9 +100,26 @@ pub(crate) fn replace_near<S: Table<Prefix, Selection>>(
     if is_same_selection(before, &after) {
         return;
     }
-    match (before, &after) {
+    exchange_near(selections, place, prefix, before, &after);
+}
+
+/// Stores the new selection of the prefix.
+#[inline(always)]
+fn exchange_near<S: Table<Prefix, Selection>>(
+    selections: &mut S,
+    place: usize,
+    prefix: Prefix,
+    before: &Option<Selection>,
+    after: &Option<Selection>,
+)
+    requires before { before.now ≡ find prefix_cmp prefix (S.entries selections.old) }
+    requires room { IsSome after.now → IsNone (find prefix_cmp prefix (S.entries selections.old)) → length (S.entries selections.old) < S.room selections.old }
+    ensures entries { S.entries selections.new ≡ with_value prefix_cmp prefix after.now (S.entries selections.old) }
+    ensures room { S.room selections.new ≡ S.room selections.old }
+{
+    match (before, after) {
         (Some(_), Some(after)) => replace_at(selections, place, prefix, after),
-        _ => set_near(selections, place, prefix, after),
+        _ => set_near(selections, place, prefix, *after),
     }
 }
 

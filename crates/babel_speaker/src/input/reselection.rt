@@ -1,7 +1,7 @@
 //! Route selection and what follows from it: triggered updates and requests for a seqno (RFC 8966,
 //! sections 3.6, 3.7.2 and 3.8.2).
 
-ghost use Rattle.std.specs.Prelude.{◌≡◌, [], ◌∷◌, IsTrue, IsFalse};
+ghost use Rattle.std.specs.Prelude.{◌≡◌, [], ◌∷◌, None, IsTrue, IsFalse, IsNone, IfSome};
 ghost use Rattle.babel_state.specs.declared.requests.Resend.TheVariants.{Unfeasible};
 ghost use Rattle.babel_state.specs.Limits.{request_hops};
 ghost use Rattle.babel_state.specs.Reselection.{queue, updates_to_all, update_to, request_seqno, unfeasible_peers, is_same_origin, advertise_change, may_request_for_lost, seqno_after, request_for_lost, is_selected_peer, request_for_update, request_from_sender, request_for_seqno, follow_up, select, reselect, reselect_each, reselect_all};
@@ -16,7 +16,7 @@ use crate::input::causes::UnfeasibleUpdate;
 use crate::input::selection_changes::{are_alike, is_same_origin, is_selected_peer, seqno_after};
 use crate::output::queueing::{has_unfeasible, queue_requests_to_unfeasible, queue_updates_to_all};
 use crate::state::Core;
-use crate::tables::{LinkChange, LinkCosts, Scratch, SelectionInputs, SeqnoRequest};
+use crate::tables::{LinkChange, LinkCosts, Scratch, SeqnoRequest};
 use babel_choice::{Cursor, Selection};
 use babel_state::{Item, REQUEST_HOPS, Resend, Target};
 use babel_value::{Peer, Prefix, Seqno, Source};
@@ -300,19 +300,52 @@ impl Core {
         self.reselect_all(now, &mut hints.scratch)
     }
 
-    /// Selects the route of each prefix again to which the neighbour has a route and whose selection isn't current. If
-    /// all other selections are current, that leaves what a reselection of all leaves.
-    fn reselect_from(&mut self, now: u64, peer: &Peer, scratch: &mut Scratch)
+    /// Selects the route of the prefix again, as `select_near`. It returns `None` if its selection is current: then nothing
+    /// changed. The cursor goes to the next prefix.
+    #[inline(always)]
+    fn select_changed(
+        &mut self,
+        prefix: &Prefix,
+        cursor: &mut Cursor,
+    ) -> Option<(Option<Selection>, Option<Selection>)>
+        ensures state { self.new ≡ select prefix.now self.old }
+        ensures current { IsNone result → self.new ≡ self.old }
+        ensures old { IfSome result (λ selections. selections.0 ≡ selected_at prefix.now self.old) }
+        ensures new { IfSome result (λ selections. selections.1 ≡ selected_at prefix.now self.new) }
+    {
+        let origin = self.origin(prefix);
+        let links = LinkCosts::new(&self.interfaces, &self.neighbours);
+        self.routes
+            .select_changed(prefix, origin, &self.sources, &links, cursor)
+    }
+
+    /// Selects the route of the prefix again, as `reselect_near` without a cause. If its selection is current, that is
+    /// found by the same choice. The cursor goes to the next prefix.
+    #[inline(always)]
+    fn reselect_changed(&mut self, now: u64, prefix: &Prefix, cursor: &mut Cursor)
+        ensures state { self.new ≡ reselect now None prefix.now self.old }
+        ensures entries { self.new.routes.entries ≡ self.old.routes.entries }
+    {
+        if let Some(selections) = self.select_changed(prefix, cursor) {
+            self.follow_up(now, None, prefix, &selections);
+        }
+    }
+
+    /// Selects the route of each prefix again to which the neighbour has a route, in one walk over the table. If all other
+    /// selections are current, that leaves what a reselection of all leaves.
+    fn reselect_from(&mut self, now: u64, peer: &Peer)
         requires others { AreOthersCurrent peer.now self.old }
         ensures state { self.new ≡ reselect_all now self.old }
         ensures current { AreCurrent self.new }
     {
-        // The tables are in order.
-        let _count = self.routes.len();
-        let links = LinkCosts::new(&self.interfaces, &self.neighbours);
-        let inputs = SelectionInputs::new(&self.announced, &self.sources, &links);
-        scratch.gather_stale_from(&self.routes, peer, &inputs);
-        self.reselect_each(now, scratch);
+        let mut cursor = Cursor::new();
+        for place in 0..self.routes.len() {
+            if let Some(prefix) = self.routes.prefix_from(place, peer) {
+                cursor.entry = place;
+                cursor.source = cursor.source.wrapping_add(1);
+                self.reselect_changed(now, &prefix, &mut cursor);
+            }
+        }
     }
 
     /// Selects routes again after a change of the link to a neighbour. It leaves what a reselection of all leaves, and the
@@ -333,7 +366,7 @@ impl Core {
         match change {
             LinkChange::Nothing => return self.reselect_unless(now, hints),
             LinkChange::Cost if hints.settled => {
-                self.reselect_from(now, peer, &mut hints.scratch);
+                self.reselect_from(now, peer);
             }
             _ => {
                 hints.settled = false;

@@ -88,7 +88,6 @@ pub fn selected_route_near(core: &Core, prefix: &Prefix, near: &mut usize) -> Op
 {
     match core.selected_near(prefix, near) {
         Some(Selection { peer, entry }) => {
-            *near = near.wrapping_add(1);
             let Entry {
                 next_hop,
                 router,

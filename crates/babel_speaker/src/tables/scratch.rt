@@ -1,24 +1,22 @@
 //! Room for a list of prefixes in ascending order, which some calls need while they run.
 
-ghost use Rattle.std.specs.Prelude.{◌≡◌, ◌↔◌, ◌&&◌, ◌≤◌, ◌<◌, ◌+◌, ◌++◌, [], length, filter, map, IfOk, IsTrue};
+ghost use Rattle.std.specs.Prelude.{◌≡◌, ◌↔◌, ◌≤◌, ◌<◌, ◌+◌, ◌++◌, [], length, map, IfOk, IsTrue};
 ghost use Rattle.std.specs.FinMap.{put, is_sorted};
 ghost use Rattle.babel_value.specs.Orders.{prefix_cmp};
 ghost use Rattle.babel_value.specs.Prefixes.{PrefixValue};
 ghost use Rattle.babel_route.specs.Rooms.{most_listed_prefixes, most_routes};
 ghost use Rattle.babel_choice.specs.RouteKeys.{route_cmp};
-ghost use Rattle.babel_choice.specs.Routes.{is_from};
 ghost use Rattle.babel_state.specs.Sameness.{has_prefix};
 ghost use Rattle.babel_state.specs.State.{gathered, prefixes_in};
 ghost use Rattle.babel_speaker.specs.DueRoutes.{prefixes_due};
-ghost use Rattle.babel_speaker.specs.LinkChanges.{prefixes_from};
 ghost use Rattle.babel_speaker.specs.StalePrefixes.{is_stale};
 
-use crate::tables::{Announced, Prefixes, SelectionInputs};
-use babel_choice::{Costs, Cursor, RouteKey};
+use crate::tables::{Announced, Prefixes};
+use babel_choice::Costs;
 use babel_route::{PREFIX_PLACES, Routes};
 use babel_sources::Sources;
 use babel_table::{SortedTable, Table};
-use babel_value::{Memory, Peer, Prefix};
+use babel_value::{Memory, Prefix};
 use std::alloc::Global;
 use std::marker::Model;
 
@@ -102,24 +100,6 @@ impl Scratch {
         }
     }
 
-    /// Adds the prefix of each route of the neighbour, unless its selection is current.
-    fn insert_stale_from<C: Costs>(
-        &mut self,
-        routes: &Routes,
-        peer: &Peer,
-        inputs: &SelectionInputs<'_, C>,
-    )
-        requires room { length self.old + length routes.now.entries ≤ most_listed_prefixes }
-        ensures { self.new ≡ gathered (filter (is_stale inputs.now.sources.now (C.cost_of inputs.now.costs.now) inputs.now.announced.now routes.now) (prefixes_from peer.now routes.now.entries)) self.old }
-    {
-        let mut cursor = Cursor::new();
-        for route in routes.routes() {
-            if is_stale_from(&route.0, peer, routes, inputs, &mut cursor) {
-                self.insert(route.0.prefix);
-            }
-        }
-    }
-
     /// Adds the prefix of each route that is due.
     fn insert_due(&mut self, routes: &Routes, now: u64)
         requires room { length self.old + most_routes ≤ most_listed_prefixes }
@@ -182,20 +162,6 @@ impl Scratch {
         self.insert_stale(routes, announced, sources, costs);
     }
 
-    /// Makes the set that of the prefixes to which the neighbour has a route and whose selection isn't current.
-    pub fn gather_stale_from<C: Costs>(
-        &mut self,
-        routes: &Routes,
-        peer: &Peer,
-        inputs: &SelectionInputs<'_, C>,
-    )
-        ensures { self.new ≡ gathered (filter (is_stale inputs.now.sources.now (C.cost_of inputs.now.costs.now) inputs.now.announced.now routes.now) (prefixes_from peer.now routes.now.entries)) [] }
-    {
-        let _routes = routes.len();
-        self.clear();
-        self.insert_stale_from(routes, peer, inputs);
-    }
-
     /// Makes the set that of the prefixes that have a route which is due.
     pub fn gather_expiring(&mut self, routes: &Routes, now: u64)
         ensures { self.new ≡ gathered (prefixes_due now routes.now.entries) [] }
@@ -214,23 +180,4 @@ impl Scratch {
         self.insert_announced(announced);
         self.insert_selections(routes);
     }
-}
-
-/// Whether the route is of the neighbour and the selection of its prefix isn't current. The searches begin at the
-/// cursor, which goes to the prefix.
-fn is_stale_from<C: Costs>(
-    route: &RouteKey,
-    peer: &Peer,
-    routes: &Routes,
-    inputs: &SelectionInputs<'_, C>,
-    cursor: &mut Cursor,
-) -> bool
-    ensures { result ≡ (is_from peer.now route.now && is_stale inputs.now.sources.now (C.cost_of inputs.now.costs.now) inputs.now.announced.now routes.now route.now.prefix) }
-{
-    if !route.peer.cmp(peer).is_eq() {
-        return false;
-    }
-    let origin = inputs.announced.origin(&route.prefix);
-    let (sources, costs) = (inputs.sources, inputs.costs);
-    !routes.is_current_near(&route.prefix, origin, sources, costs, cursor)
 }
