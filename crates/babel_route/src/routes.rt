@@ -291,6 +291,13 @@ impl<E: Table<RouteKey, Entry>, S: Table<Prefix, Selection>> RoutesOver<E, S> {
         PrefixRoutes::new(&self.entries, *prefix)
     }
 
+    /// The same. The search begins at the index, which goes to the route before the first one of the prefix.
+    pub fn routes_of_near(&self, prefix: &Prefix, near: &mut usize) -> PrefixRoutes<'_, E>
+        ensures { result ≡ routes_of prefix.now self.now.entries }
+    {
+        PrefixRoutes::new_near(&self.entries, *prefix, near)
+    }
+
     /// The route of the prefix that was selected, as the last reselection left it.
     pub fn selected(&self, prefix: &Prefix) -> Option<(Peer, Entry)>
         ensures { result ≡ option_map (λ s. (s.peer, s.entry)) (selection_at prefix.now self.now) }

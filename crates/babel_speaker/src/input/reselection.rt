@@ -139,11 +139,11 @@ impl Core {
         }
     }
 
-    /// Whether a lost route may come back by a greater seqno (RFC 8966, section 3.8.2.1).
-    fn may_request_for_lost(&self, prefix: &Prefix) -> bool
+    /// Whether a lost route may come back by a greater seqno (RFC 8966, section 3.8.2.1). The searches begin at the cursor.
+    fn may_request_for_lost(&self, prefix: &Prefix, cursor: &mut Cursor) -> bool
         ensures { result ≡ may_request_for_lost prefix.now self.now }
     {
-        !self.announces(prefix) && has_unfeasible(&self.routes, &self.sources, prefix)
+        !self.announces(prefix) && has_unfeasible(&self.routes, &self.sources, prefix, cursor)
     }
 
     /// Requests a greater seqno of a lost route (RFC 8966, section 3.8.2.1).
@@ -201,12 +201,13 @@ impl Core {
         cause: Option<UnfeasibleUpdate>,
         prefix: &Prefix,
         selections: &(Option<Selection>, Option<Selection>),
+        cursor: &mut Cursor,
     )
         ensures { self.new ≡ request_for_seqno now cause prefix.now selections.now.0 selections.now.1 self.old }
     {
         let old = &selections.0;
         if let Some(lost) = old {
-            if selections.1.is_none() && self.may_request_for_lost(prefix) {
+            if selections.1.is_none() && self.may_request_for_lost(prefix, cursor) {
                 self.request_for_lost(now, prefix, lost);
                 return;
             }
@@ -223,12 +224,13 @@ impl Core {
         cause: Option<UnfeasibleUpdate>,
         prefix: &Prefix,
         selections: &(Option<Selection>, Option<Selection>),
+        cursor: &mut Cursor,
     )
         ensures state { self.new ≡ follow_up now cause prefix.now selections.now.0 selections.now.1 self.old }
         ensures kept { KeepsRoutes self.old self.new }
     {
         self.advertise_change(prefix, &selections.0, &selections.1);
-        self.request_for_seqno(now, cause, prefix, selections);
+        self.request_for_seqno(now, cause, prefix, selections, cursor);
     }
 
     /// Selects the route of the prefix again after an input, which was this unfeasible update or none,
@@ -254,7 +256,7 @@ impl Core {
         ensures kept { IsFalse result → KeepsRoutes self.old self.new }
     {
         let selections = self.select_near(prefix, cursor);
-        self.follow_up(now, cause, prefix, &selections);
+        self.follow_up(now, cause, prefix, &selections, cursor);
         !are_alike(&selections.0, &selections.1)
     }
 
@@ -327,7 +329,7 @@ impl Core {
         ensures entries { self.new.routes.entries ≡ self.old.routes.entries }
     {
         if let Some(selections) = self.select_changed(prefix, cursor) {
-            self.follow_up(now, None, prefix, &selections);
+            self.follow_up(now, None, prefix, &selections, cursor);
         }
     }
 

@@ -141,11 +141,13 @@ impl Core {
                     peer: update.peer,
                     router: source.router,
                 };
-                self.follow_up(now, Some(cause), &source.prefix, &selections);
+                let cursor = &mut hints.cursor;
+                self.follow_up(now, Some(cause), &source.prefix, &selections, cursor);
                 return Verdict::Unfeasible(*pair);
             }
         }
-        self.follow_up(now, None, &source.prefix, &selections);
+        let cursor = &mut hints.cursor;
+        self.follow_up(now, None, &source.prefix, &selections, cursor);
         self.satisfy_request(&source, update.distance.seqno);
         Verdict::Taken
     }

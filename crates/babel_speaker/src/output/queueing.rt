@@ -8,7 +8,7 @@ ghost use Rattle.babel_state.specs.Reselection.{update_to_all, update_to, reques
 ghost use Rattle.babel_speaker.specs.Reaching.{reachable_of};
 
 use crate::tables::{Announced, PendingItems, Reachable, SeqnoRequest};
-use babel_choice::{Entry, RouteKey};
+use babel_choice::{Cursor, Entry, RouteKey};
 use babel_route::Routes;
 use babel_sources::Sources;
 use babel_state::{Item, Target};
@@ -29,19 +29,32 @@ pub fn queue_updates_to_all(pending: &mut PendingItems, interfaces: u8, prefix: 
 pub fn is_unfeasible(route: &(RouteKey, Entry), sources: &Sources) -> bool
     ensures { result ≡ is_unfeasible sources.now route.now }
 {
+    let mut nowhere = usize::MAX;
+    is_unfeasible_near(route, sources, &mut nowhere)
+}
+
+/// The same. The search for the source begins near an index.
+fn is_unfeasible_near(route: &(RouteKey, Entry), sources: &Sources, near: &mut usize) -> bool
+    ensures { result ≡ is_unfeasible sources.now route.now }
+{
     let source = Source {
         prefix: route.0.prefix,
         router: route.1.router,
     };
-    !sources.feasible(source, route.1.distance)
+    !sources.feasible_near(source, route.1.distance, near)
 }
 
-/// Whether a route to the prefix is unfeasible.
-pub fn has_unfeasible(routes: &Routes, sources: &Sources, prefix: &Prefix) -> bool
+/// Whether a route to the prefix is unfeasible. The searches begin at the cursor.
+pub fn has_unfeasible(
+    routes: &Routes,
+    sources: &Sources,
+    prefix: &Prefix,
+    cursor: &mut Cursor,
+) -> bool
     ensures { result ≡ list_any (is_unfeasible sources.now) (routes_of prefix.now routes.now.entries) }
 {
-    for route in routes.routes_of(prefix) {
-        if is_unfeasible(&route, sources) {
+    for route in routes.routes_of_near(prefix, &mut cursor.entry) {
+        if is_unfeasible_near(&route, sources, &mut cursor.source) {
             return true;
         }
     }
