@@ -1,13 +1,16 @@
 -- Datagrams that are taken one after another until there is none.
-use Rattle.std.proofs.Common.{◌≡◌, ◌+◌, ◌≤◌, ℕ, List, [], ◌∷◌, ◌++◌, length, Option, Some, refl, sym, ap, ◌∙◌, subst, arith}
+use Rattle.std.proofs.Common.{◌≡◌, ◌+◌, ◌≤◌, ℕ, List, [], ◌∷◌, ◌++◌, length, Option, Some, None, refl, sym, ap, ◌∙◌, subst, arith}
 use Rattle.std.proofs.lemmas.Grind.{flat_map-append}
 use Rattle.std.proofs.lemmas.List.{append-nil, length-append}
+use Rattle.std.proofs.lemmas.List.{nil_from_length}
 use Rattle.std.specs.Io.KnownBytes.{Appends}
+use Rattle.babel_state.specs.declared.items.Item.{Item}
 use Rattle.babel_state.specs.declared.items.Target.{Target}
+use Rattle.babel_state.specs.NextDatagram.{Fits, Draft, drafted, next_datagram}
 use Rattle.babel_state.specs.State.{State}
 use Rattle.babel_speaker.specs.PendingItems.{DatagramsTakeItems}
 use Rattle.babel_speaker.specs.Sending.{fits_by, draft_at}
-use Rattle.babel_replay.specs.Report.{Sent, IsNext, AreNext, out_line, out_lines}
+use Rattle.babel_replay.specs.Report.{Sent, Sends, IsNext, AreNext, out_line, out_lines}
 use Rattle.babel_replay.specs.Texts.{line, out_text}
 use Rattle.babel_replay.proofs.Writing.{appends_none, appends_more}
 
@@ -45,3 +48,18 @@ pub fewer_left : DatagramsTakeItems → (count most time : ℕ) (mid : State) (t
     count + 1 + length new.pending.items ≤ most
 fewer_left takes count most time mid target new few goes state =
     omega (arith, few, takes time (fits_by mid) mid target (sym goes), ap (λ s. length s.pending.items) state)
+
+-- ---- nothing is pending
+
+no_draft_of : (time : ℕ) (f : Fits) (s : State) (items : List Item) → s.pending.items ≡ items → items ≡ [] → next_datagram time f s ≡ record { state = s; target = None; messages = [] }
+unfolding next_datagram
+no_draft_of time f s items is none = ap (λ xs. drafted time f xs (record { state = s; target = None; messages = [] })) (is ∙ none)
+
+pub sends_nothing : (time : ℕ) (s : State) (h : Option (List ℕ)) → length s.pending.items ≡ 0 → Sends time s s h h
+sends_nothing time s h none =
+    let draft = no_draft_of time (fits_by s) s s.pending.items refl (nil_from_length s.pending.items none) in
+    record {
+      sent = [];
+      sends = record { last = s; each = refl; ends = (ap (λ (d : Draft). d.target) draft, sym (ap (λ (d : Draft). d.state) draft)) };
+      written = appends_none h;
+    }

@@ -486,7 +486,11 @@ fn send_datagrams<W: Write>(
     ensures failed { IfErr result (λ fault. fault ≡ LineFault.Write) }
 {
     datagrams_take_items();
-    for _ in 0..speaker.pending_count() + 1 {
+    let pending = speaker.pending_count();
+    if pending == 0 {
+        return Ok(());
+    }
+    for _ in 0..pending + 1 {
         let Some(target) = speaker.next_datagram(time, &mut drafts.datagram) else {
             return Ok(());
         };

@@ -4,7 +4,7 @@ use Rattle.babel_state.specs.Addresses.{transport_at}
 use Rattle.babel_state.proofs.KeptRoutes.{same_routes, routes_through}
 use Rattle.babel_speaker.specs.Sending.{draft_at}
 use Rattle.babel_replay.proofs.MessageCounts.{counted_of}
-use Rattle.babel_replay.proofs.Sending.{sending_begins, sending_goes, fewer_left}
+use Rattle.babel_replay.proofs.Sending.{sending_begins, sending_goes, fewer_left, sends_nothing}
 use Rattle.babel_replay.proofs.replaying.send_datagrams.Goals as goal
 
 pub loop-init : goal.loop-init
@@ -35,3 +35,7 @@ returns-in_default-clause-kept g c =
 pub returns-in_err-write_line-clause-kept : goal.returns-in_err-write_line-clause-kept
 returns-in_err-write_line-clause-kept g c =
     routes_through c.args.speaker.now.state c.loop.speaker.state c.next_datagram.new.self.state c.loop.invariant.2 c.next_datagram.ensures.kept
+
+pub returns-then-pending-eq0-clause-sent : goal.returns-then-pending-eq0-clause-sent
+returns-then-pending-eq0-clause-sent g c =
+    sends_nothing c.args.time c.args.speaker.now.state (g.W.Write.contents c.args.out.now) (omega (arith, c.pending_count-pending.ensures.count, c.if-pending-eq0.true))
