@@ -72,8 +72,17 @@ fn ihu_with(iface: u8, rxcost: u16, interval: u16) -> Message {
 
 /// Two IHUs of the neighbour 0 of the interface, which has routes, of which each changes the cost of the link.
 fn costs(iface: u8) -> Vec<u8> {
+    ihus(iface, [97, 96])
+}
+
+/// The same: the link is lost, and comes back.
+fn flips(iface: u8) -> Vec<u8> {
+    ihus(iface, [65_535, 96])
+}
+
+fn ihus(iface: u8, rxcosts: [u16; 2]) -> Vec<u8> {
     let mut steps = Vec::new();
-    for rxcost in [97, 96] {
+    for rxcost in rxcosts {
         steps.extend(datagram(iface, 0, NOW, &[ihu_with(iface, rxcost, 60_000)]));
     }
     steps
@@ -285,6 +294,12 @@ pub fn all() -> Vec<Case> {
             name: "a new cost, 60 routes",
             setup: setup(),
             turn: costs(1),
+            times: 2,
+        },
+        Case {
+            name: "a link that flips, 60 routes",
+            setup: setup(),
+            turn: flips(1),
             times: 2,
         },
         Case {
