@@ -275,7 +275,7 @@ impl Neighbours {
 
     /// Whether a deadline may be due. If it returns `false`, none is, and `tick` changes nothing. It looks at no neighbour.
     #[inline]
-    pub fn may_be_due(&self, now: u64) -> bool
+    fn may_be_due(&self, now: u64) -> bool
         ensures links { IsFalse result → tick_of now self.now ≡ self.now }
         ensures gone { IsFalse result → gone_of now self.now ≡ [] }
     {
@@ -284,6 +284,7 @@ impl Neighbours {
 
     /// Handles the deadlines that are due, as `tick`, and returns what that changed of the links' costs. `Several`
     /// only means that this isn't known. Before the first deadline it looks at no neighbour.
+    #[inline]
     pub fn tick_costs(&mut self, now: u64, gone: &mut ArrayVec<Peer, MAX_NEIGHBOURS>) -> CostChanges
         ensures links { self.new ≡ tick_of now self.old }
         ensures gone { gone.new.items ≡ gone_of now self.old }
@@ -291,21 +292,21 @@ impl Neighbours {
         ensures others { (peer : Peer) → result ≡ One peer → KeepsOtherCosts peer self.old self.new }
         ensures flushed { result ≢ Several → gone.new.items ≡ [] }
     {
+        if !self.may_be_due(now) {
+            gone.clear();
+            return CostChanges::Nothing;
+        }
         let changes = self.cost_changes(now);
         let _ = self.tick(now, gone);
         changes
     }
 
-    /// What a tick at this moment would change of the links' costs. `Several` only means that this isn't known. Before
-    /// the first deadline it looks at no neighbour.
+    /// What a tick at this moment would change of the links' costs. `Several` only means that this isn't known.
     fn cost_changes(&self, now: u64) -> CostChanges
         ensures costs { result ≡ Nothing → (peer : Peer) (nominal : ℕ) → cost_of peer nominal (tick_of now self.now) ≡ cost_of peer nominal self.now }
         ensures others { (peer : Peer) → result ≡ One peer → KeepsOtherCosts peer self.now (tick_of now self.now) }
         ensures gone { result ≢ Several → gone_of now self.now ≡ [] }
     {
-        if now < self.due {
-            return CostChanges::Nothing;
-        }
         let mut changed = None;
         for place in 0..self.links.len() {
             let (peer, link) = &self.links[place];

@@ -3,10 +3,12 @@
 ghost use Rattle.std.specs.Prelude.{◌≡◌, IfOk, IsFalse};
 
 use crate::tables::Scratch;
+use arrayvec::ArrayVec;
 use babel_choice::Cursor;
+use babel_link::MAX_NEIGHBOURS;
 use babel_message::Placed;
 use babel_route::Trail;
-use babel_value::Memory;
+use babel_value::{Memory, Peer};
 use std::alloc::Global;
 use std::mem;
 
@@ -24,6 +26,8 @@ pub struct Hints {
     pub lowered: bool,
     /// Room for a list of prefixes.
     pub scratch: Scratch,
+    /// The neighbours that the last tick flushed: room that a tick need not make.
+    pub gone: ArrayVec<Peer, MAX_NEIGHBOURS>,
     /// The order in which neighbours send their updates.
     pub trail: Trail,
     /// What the last datagram meant. The list is kept, so that the next datagram mostly allocates none.
@@ -43,6 +47,7 @@ impl Hints {
             changed: false,
             lowered: false,
             scratch,
+            gone: ArrayVec::new(),
             trail: Trail::new(),
             placed: Vec::new(alloc),
             cursor: Cursor::new(),

@@ -19,7 +19,7 @@ use crate::state::Core;
 use crate::tables::{LinkChange, Scratch};
 use crate::ticks::due_items::{queue_all_timers, queue_repeats};
 use arrayvec::ArrayVec;
-use babel_link::CostChanges;
+use babel_link::{CostChanges, MAX_NEIGHBOURS};
 use babel_value::Peer;
 
 impl Core {
@@ -36,21 +36,19 @@ impl Core {
     /// neighbours are removed. Returns what changed: if nothing, all selections that were current are so, and the selected
     /// routes are reported as before; if at most the cost of one link, the selections of the prefixes to which its neighbour
     /// has no route stay current.
-    #[tactic(auto, unfolding(babel_state::specs::Ticks::links_ticked), using(crate::proofs::QuietTicks::no_link_due))]
-    pub(crate) fn tick_links(&mut self, now: u64) -> CostChanges
+    #[tactic(auto, unfolding(babel_state::specs::Ticks::links_ticked))]
+    pub(crate) fn tick_links(
+        &mut self,
+        now: u64,
+        gone: &mut ArrayVec<Peer, MAX_NEIGHBOURS>,
+    ) -> CostChanges
         ensures state { self.new ≡ links_ticked now self.old }
         ensures quiet { result ≡ Nothing → AreCurrent self.old → AreCurrent self.new }
         ensures kept { result ≡ Nothing → KeepsRoutes self.old self.new }
         ensures others { (peer : Peer) → result ≡ One peer → AreCurrent self.old → AreOthersCurrent peer self.new }
         ensures in_order { AreSelectionsInOrder self.new }
     {
-        if !self.neighbours.may_be_due(now) {
-            // The routes are in order.
-            let _count = self.routes.len();
-            return CostChanges::Nothing;
-        }
-        let mut gone = ArrayVec::new();
-        let changes = self.neighbours.tick_costs(now, &mut gone);
+        let changes = self.neighbours.tick_costs(now, gone);
         self.forget_each(gone.as_slice());
         changes
     }
@@ -206,7 +204,7 @@ impl Core {
         ensures current { AreCurrent self.new }
         ensures kept { IsFalse result → KeepsRoutes self.old self.new }
     {
-        let changes = self.tick_links(now);
+        let changes = self.tick_links(now, &mut hints.gone);
         let selected = self.reselect_links(changes, now, hints);
         let expired = self.expire_routes(now, &mut hints.scratch);
         selected || expired

@@ -1,24 +1,13 @@
--- Before the first deadline nothing changes; else each link was looked at, and all costs but at most one stay.
-use Rattle.std.proofs.Common.{◌≡◌, ℕ, ◌+◌, ◌<◌, ◌≤◌, [], false, All, Option, Some, None, is_some, length, take, get_or, refl, sym, ◌∙◌, ap, subst, arith}
+-- Each link was looked at, and all costs but at most one stay.
+use Rattle.std.proofs.Common.{◌≡◌, ℕ, ◌+◌, ◌<◌, ◌≤◌, false, All, Option, Some, None, is_some, length, take, get_or, refl, sym, ◌∙◌, subst, arith}
 use Rattle.std.proofs.lemmas.List.{take_all}
 use Rattle.std.proofs.lemmas.List.Elements.{All-more}
 use Rattle.babel_value.specs.declared.keys.Peer.{Peer}
 use Rattle.babel_link.specs.declared.links.Link.{Link}
-use Rattle.babel_link.specs.Neighbours.{Links, tick_of, gone_of, cost_of, KeepsOtherCosts}
+use Rattle.babel_link.specs.Neighbours.{Links, tick_of, KeepsOtherCosts}
 use Rattle.babel_link.specs.declared.changes.CostChanges.TheVariants.{One}
 use Rattle.babel_link.proofs.CostLemmas.{Keeps, KeepsOther, costs_kept, none_gone, keeps_other, all_keep_other, changed_stays, other_costs_kept, none_gone_but}
-use Rattle.babel_link.proofs.DueLemmas.{quiet_tick, quiet_gone}
 use Rattle.babel_link.proofs.neighbours.Neighbours.cost_changes.Goals as goal
-
-pub returns-then-now-self-clause-costs : goal.returns-then-now-self-clause-costs
-returns-then-now-self-clause-costs c nothing peer nominal =
-    subst (λ (links : Links). cost_of peer nominal (tick_of c.args.now links) ≡ cost_of peer nominal links) c.self.view_is
-    (ap (cost_of peer nominal) (quiet_tick c.args.now c.self.inside.due c.if-now-self.true c.self.inside.links.items c.self.invariant.3))
-
-pub returns-then-now-self-clause-gone : goal.returns-then-now-self-clause-gone
-returns-then-now-self-clause-gone c known =
-    subst (λ (links : Links). gone_of c.args.now links ≡ []) c.self.view_is
-    (quiet_gone c.args.now c.self.inside.due c.if-now-self.true c.self.inside.links.items c.self.invariant.3)
 
 -- One more link.
 one_more : (P : Peer × Link → Type 0) (place : ℕ) (e : Peer × Link) (items links : Links) → place < length items → items ≡ links → e ≡ get_or items place e → All P (take place links) → P e → All P (take (place + 1) links)
