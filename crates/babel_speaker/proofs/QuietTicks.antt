@@ -1,7 +1,8 @@
--- Before a request or a timer of an interface is due a tick changes nothing of them.
+-- Before a request, a timer of an interface or a deadline of a neighbour is due a tick changes nothing of them.
 use Rattle.std.proofs.Common.{◌≡◌, ℕ, ◌+◌, Bool, true, false, List, [], ◌∷◌, ◌++◌, map, refl, ap, ◌∙◌}
 use Rattle.std.specs.Prelude.{◌||◌}
 use Rattle.std.specs.List.{list_any}
+use Rattle.babel_link.specs.Neighbours.{tick_of, gone_of}
 use Rattle.babel_table.specs.Entries.{revised_entries}
 use Rattle.babel_value.specs.Prefixes.{PrefixValue}
 use Rattle.babel_state.specs.PendingRequests.{PendingRequests}
@@ -9,7 +10,7 @@ use Rattle.babel_state.specs.declared.interfaces.InterfaceEntry.{InterfaceEntry}
 use Rattle.babel_state.specs.declared.items.Item.{Item}
 use Rattle.babel_state.specs.Queueing.{queued}
 use Rattle.babel_state.specs.State.{State}
-use Rattle.babel_state.specs.Ticks.{is_due_request, waited, repeated_items, all_repeated_items, requests_ticked, is_due, fired, timer_items, all_timer_items, interfaces_ticked}
+use Rattle.babel_state.specs.Ticks.{forget_each, links_ticked, is_due_request, waited, repeated_items, all_repeated_items, requests_ticked, is_due, fired, timer_items, all_timer_items, interfaces_ticked}
 use Rattle.babel_speaker.specs.DueTimers.{has_due_timer, has_due_update}
 use Rattle.babel_speaker.specs.TickItems.{timers_of, all_timers_of}
 
@@ -84,3 +85,11 @@ module _ (now : ℕ) where
   pub no_request_due : (s : State) → list_any (λ e. is_due_request now e.1) s.requests ≡ false → requests_ticked now s ≡ s
   unfolding requests_ticked
   no_request_due s none = queues_no_request (all_repeated_items now s s.requests) (revised_entries (waited now) s.requests) s (none_repeats s s.requests none) (all_wait s.requests none)
+
+  -- ---- no deadline of a neighbour
+
+  pub no_link_due : (s : State) → gone_of now s.neighbours ≡ [] → tick_of now s.neighbours ≡ s.neighbours → links_ticked now s ≡ s
+  unfolding links_ticked
+  no_link_due s none same =
+      ap (λ gone. forget_each gone (record s { neighbours = tick_of now s.neighbours })) none
+      ∙ ap (λ links. record s { neighbours = links }) same

@@ -7,7 +7,7 @@ ghost use Rattle.babel_route.specs.Rooms.{most_routes, most_listed_prefixes};
 ghost use Rattle.babel_sources.specs.Rooms.{most_sources, collection_time};
 ghost use Rattle.babel_state.specs.declared.limits.TheConstants.{MAX_INTERFACES, MAX_PEERS, MAX_PREFIXES, MAX_REQUESTS, MAX_PENDING, MAX_COST, MAX_HELLO_INTERVAL, REQUEST_HOPS, REQUEST_WAIT, LAST_REQUEST_WAIT};
 ghost use Rattle.babel_state.specs.Limits.{most_interfaces, most_peers, most_prefixes, most_requests, most_pending, greatest_cost, longest_hello, request_hops, first_wait, last_wait};
-ghost use Rattle.babel_speaker.specs.declared.output.forms.TheConstants.{IHU_HELLOS, UPDATE_HELLOS};
+ghost use Rattle.babel_speaker.specs.declared.tables.timers.TheConstants.{IHU_HELLOS, UPDATE_HELLOS};
 ghost use Rattle.babel_speaker.specs.Intervals.{hellos_an_ihu, hellos_an_update};
 
 /// The constants of the code are the numbers of the definitions.

@@ -8,15 +8,10 @@ ghost use Rattle.babel_state.specs.Limits.{longest_hello};
 ghost use Rattle.babel_speaker.specs.Intervals.{hellos_an_ihu, hellos_an_update};
 
 use crate::output::records::Advertisement;
+use crate::tables::timers::{IHU_HELLOS, UPDATE_HELLOS};
 use babel_message::Message;
 use babel_state::{InterfaceEntry, Outgoing, Target};
 use babel_value::{Addr, Metric, Peer, Prefix};
-
-/// How many Hello intervals an IHU's interval has (RFC 8966, appendix B).
-const IHU_HELLOS: u16 = 3;
-
-/// How many Hello intervals an Update's interval has (RFC 8966, appendix B).
-const UPDATE_HELLOS: u16 = 4;
 
 /// All neighbours of the interface.
 pub(crate) fn to_all(iface: u8) -> Target

@@ -12,6 +12,12 @@ use babel_state::{InterfaceEntry, LAST_REQUEST_WAIT, PendingRequest, Resend};
 use babel_table::{Revised, Revision, revise_dues};
 use babel_value::Source;
 
+/// How many Hello intervals the interval of IHUs has (RFC 8966, appendix B).
+pub(crate) const IHU_HELLOS: u16 = 3;
+
+/// How many Hello intervals the interval of Updates has (RFC 8966, appendix B).
+pub(crate) const UPDATE_HELLOS: u16 = 4;
+
 /// Whether the wait of a pending request is over for the last time.
 pub fn is_last(resend: &Resend, wait: u16) -> bool
     ensures { result ≡ is_last resend.now wait }
@@ -112,8 +118,8 @@ pub(crate) fn fired(now: u64, interface: &InterfaceEntry) -> InterfaceEntry
     let hello = u64::from(interface.hello);
     let mut next = *interface;
     next.hello_due = next_due(now, hello, interface.hello_due);
-    next.ihu_due = next_due(now, 3 * hello, interface.ihu_due);
-    next.update_due = next_due(now, 4 * hello, interface.update_due);
+    next.ihu_due = next_due(now, u64::from(IHU_HELLOS) * hello, interface.ihu_due);
+    next.update_due = next_due(now, u64::from(UPDATE_HELLOS) * hello, interface.update_due);
     next
 }
 
