@@ -313,6 +313,7 @@ impl<E: Table<RouteKey, Entry>, S: Table<Prefix, Selection>> RoutesOver<E, S> {
     {
         let mut near = cursor.selection;
         let selection = find_near(&self.selections, &mut near, prefix);
+        // The next search may begin at any index: this one is mostly the right one.
         cursor.selection = near.wrapping_add(usize::from(selection.is_some()));
         selection
     }

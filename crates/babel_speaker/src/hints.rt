@@ -12,7 +12,7 @@ use babel_value::{Memory, Peer};
 use std::alloc::Global;
 use std::mem;
 
-/// For how many TLVs a list may have room that is kept: 8 KiB.
+/// The most TLVs for which a kept list has room: 8 KiB.
 const MOST_KEPT: usize = 128;
 
 /// What speeds calls up, and what they note of their changes. The state that a call leaves doesn't depend on it.

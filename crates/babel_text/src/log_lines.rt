@@ -43,11 +43,9 @@ pub enum Action<'a> {
     },
 }
 
-/// The words after the time.
+// The words after the time.
 const TICK: &[u8] = b"tick";
-
 const IN: &[u8] = b"in";
-
 const COST: &[u8] = b"cost";
 
 /// Whether the line is skipped: it is empty, or begins with `#`.
@@ -87,7 +85,8 @@ fn utf8_first(line: &[u8], fault: LineFault) -> LineFault
     fault
 }
 
-/// The same as `parse_line` for a line that may not be UTF-8, which is L1 only if a field can't be read.
+/// The same as `parse_line`, without the test for UTF-8: a refused line has the fault of its first
+/// field that can't be read, and a line without fields is L1.
 fn parse_fields<'a>(line: &[u8], octets: &'a mut [u8]) -> Result<Event<'a>, LineFault>
     ensures parted { IsOk result → HasBlank line.now }
     ensures time { IfOk result (λ event. IsNumberText 64 (before_blank line.now) event.time) }

@@ -1,7 +1,7 @@
 //! Numbers: ASCII digits without a sign and without a leading zero.
 //!
-//! The digits are read by a loop of its own: `parse` of `u64` takes any radix and a sign, and costs twice as much for
-//! each digit.
+//! The digits are read by a loop of its own: `parse` of `u64` reads a sign too and is made for any
+//! radix, and costs twice as much for each digit.
 
 ghost use Rattle.std.specs.Prelude.{◌≡◌, ◌+◌, ◌-◌, ◌*◌, ◌^◌, ◌<◌, ◌&&◌, ◌==◌, nat_lt, length, slice_index, MatchOption};
 ghost use Rattle.std.specs.Int.{IsInRange};

@@ -75,6 +75,7 @@ impl<E: Table<RouteKey, Entry>, S: Table<Prefix, Selection>> RoutesOver<E, S> {
 
 /// The index at which the search for the next prefix's selection begins: after that of this prefix, which is at the index
 /// `place`, if it is still there. After one that is new, the next is mostly new too: then its search begins here.
+/// A search may begin at any index, and finds the same.
 fn place_after(place: usize, before: &Option<Selection>, after: &Option<Selection>) -> usize {
     if before.is_some() && after.is_some() {
         place.wrapping_add(1)

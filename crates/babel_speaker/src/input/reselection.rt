@@ -344,6 +344,7 @@ impl Core {
         for place in 0..self.routes.len() {
             if let Some(prefix) = self.routes.prefix_from(place, peer) {
                 cursor.entry = place;
+                // A search may begin at any index. Sources of routes that follow each other mostly do too.
                 cursor.source = cursor.source.wrapping_add(1);
                 self.reselect_changed(now, &prefix, &mut cursor);
             }
