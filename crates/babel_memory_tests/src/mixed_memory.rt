@@ -142,7 +142,7 @@ fn hearing_is_refused_by_the_first_cause(rt: HostRuntime) {
             HearFault::NoInterface,
         ]
         .map(Some);
-        assert_eq!(rt; first_faults(&mut net), faults);
+        assert!(rt; first_faults(&mut net) == faults);
         assert!(rt; observe(&net) == (false, 0));
     }
 }
@@ -183,7 +183,7 @@ fn steps_go_on_among_others(rt: HostRuntime) {
         assert!(rt;
             stepped.is_ok() || (stepped == Err(StepFault::Memory) && net.step(&restart).is_ok())
         );
-        assert_eq!(rt; net.step(&Event::Raise { node: 2 }), Err(StepFault::NoNode));
+        assert!(rt; net.step(&Event::Raise { node: 2 }) == Err(StepFault::NoNode));
         assert!(rt; observe(&net) == (false, 1));
     }
 }
@@ -244,9 +244,9 @@ fn mixed_runs_out_of_memory_stop_before_the_event(rt: HostRuntime) {
     assert!(rt; net.is_some());
     if let Some(mut net) = net {
         if let Some((index, stopped)) = stop_of(&mut net, &events()) {
-            assert_eq!(rt; seen_after(rt.alloc(), index), Some(stopped));
+            assert!(rt; seen_after(rt.alloc(), index) == Some(stopped));
         }
-        assert_eq!(rt; seen(&net), ((true, 1), [true, true, false]));
+        assert!(rt; seen(&net) == ((true, 1), [true, true, false]));
         assert!(rt; is_foreign(&net));
     }
 }

@@ -73,6 +73,6 @@ fn calls_of_a_full_table(rt: HostRuntime) -> Result<(), Fail> {
     }
     assert!(rt; is_between(&neighbours, peer(0), peer(63)));
     assert!(rt; !hears(&mut neighbours, peer(64)));
-    assert_eq!(rt; go(&mut neighbours), 64);
+    assert!(rt; go(&mut neighbours) == 64);
     Ok(())
 }

@@ -20,7 +20,7 @@ fn memory_runs_out(rt: HostRuntime) {
     let placed_of = match decode(rt.alloc(), DATAGRAM.as_slice(), SOURCE) {
         Ok(placed) => placed.len(),
         Err(refusal) => {
-            assert_eq!(rt; refusal, Refusal::Memory);
+            assert!(rt; refusal == Refusal::Memory);
             0
         }
     };
@@ -30,6 +30,6 @@ fn memory_runs_out(rt: HostRuntime) {
     datagram[31] = 0x0c;
     match decode(rt.alloc(), datagram.as_slice(), SOURCE) {
         Ok(_) => assert!(rt; false),
-        Err(refusal) => assert_eq!(rt; refusal, Refusal::Tlv(30)),
+        Err(refusal) => assert!(rt; refusal == Refusal::Tlv(30)),
     }
 }

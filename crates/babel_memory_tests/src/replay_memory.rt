@@ -54,11 +54,11 @@ fn line_of(rt: &impl Abort, ended: Result<(), ReplayFault>) -> u64 {
     match ended {
         Ok(()) => 4,
         Err(ReplayFault::Config(fault)) => {
-            assert_eq!(rt; fault, ConfigFault::Memory);
+            assert!(rt; fault == ConfigFault::Memory);
             0
         }
         Err(ReplayFault::Line { number, fault }) => {
-            assert_eq!(rt; fault, LineFault::Memory);
+            assert!(rt; fault == LineFault::Memory);
             number
         }
     }
@@ -71,7 +71,7 @@ fn memory_runs_out_in_replay(rt: HostRuntime) -> Result<(), Fail> {
     let config = config(rt.alloc())?;
     let ended = replay(rt.alloc(), config, &mut log, &mut out);
     let report = report_before(line_of(&rt, ended));
-    assert_eq!(rt; out.octets.get(..out.count), Some(report.as_bytes()));
+    assert!(rt; out.octets.get(..out.count) == Some(report.as_bytes()));
     Ok(())
 }
 
@@ -91,6 +91,6 @@ fn memory_runs_out_in_explain(rt: HostRuntime) -> Result<(), Fail> {
     let config = config(rt.alloc())?;
     let ended = explain(rt.alloc(), config, &mut log, prefix()?, &mut out);
     let routes = routes_before(line_of(&rt, ended));
-    assert_eq!(rt; out.octets.get(..out.count), Some(routes.as_bytes()));
+    assert!(rt; out.octets.get(..out.count) == Some(routes.as_bytes()));
     Ok(())
 }

@@ -12,11 +12,11 @@ fn neighbours_without_memory(rt: HostRuntime) -> Result<(), Fail> {
     let neighbours = match Neighbours::new(rt.alloc()) {
         Ok(neighbours) => neighbours,
         Err(fault) => {
-            assert_eq!(rt; fault, Memory);
+            assert!(rt; fault == Memory);
             Neighbours::new(rt.alloc())?
         }
     };
-    assert_eq!(rt; neighbours.at(0), None);
+    assert!(rt; neighbours.at(0) == None);
     Ok(())
 }
 
@@ -25,11 +25,11 @@ fn sources_without_memory(rt: HostRuntime) -> Result<(), Fail> {
     let sources = match Sources::new(rt.alloc()) {
         Ok(sources) => sources,
         Err(fault) => {
-            assert_eq!(rt; fault, Memory);
+            assert!(rt; fault == Memory);
             Sources::new(rt.alloc())?
         }
     };
-    assert_eq!(rt; sources.len(), 0);
+    assert!(rt; sources.len() == 0);
     Ok(())
 }
 
@@ -39,10 +39,10 @@ fn routes_without_memory(rt: HostRuntime) -> Result<(), Fail> {
     let routes = match Routes::new(rt.alloc()) {
         Ok(routes) => routes,
         Err(fault) => {
-            assert_eq!(rt; fault, Memory);
+            assert!(rt; fault == Memory);
             Routes::new(rt.alloc())?
         }
     };
-    assert_eq!(rt; routes.len(), 0);
+    assert!(rt; routes.len() == 0);
     Ok(())
 }
