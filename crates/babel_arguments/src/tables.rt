@@ -3,22 +3,34 @@
 /// The commands of the program.
 #[derive(Clone, Copy)]
 pub enum CommandName {
+    /// Shows datagrams.
     Show,
+    /// Checks a configuration.
     Check,
+    /// Replays a log.
     Replay,
+    /// Explains the routes after a log.
     Explain,
+    /// Runs the network of a scenario.
     Net,
+    /// Simulates the network of a topology.
     Simulate,
+    /// Runs the speaker of a configuration.
     Speak,
+    /// Runs a speaker on the network's devices.
     Run,
+    /// Asks a running speaker.
     Ask,
+    /// Writes a topology.
     Topology,
 }
 
 /// The program: the texts of its help, and its commands.
 #[derive(Clone, Copy)]
 pub struct Program {
+    /// Its name.
     pub name: &'static str,
+    /// The version that it prints.
     pub version: &'static str,
     /// What it does, in a line.
     pub about: &'static str,
@@ -31,6 +43,7 @@ pub struct Program {
 /// A command: its arguments, and the texts of its help.
 #[derive(Clone, Copy)]
 pub struct Subcommand {
+    /// Which command it is.
     pub command: CommandName,
     /// The word of the command line that names it.
     pub name: &'static str,
@@ -49,8 +62,11 @@ pub struct Subcommand {
 pub struct Argument {
     /// The name by which it is read, without dashes.
     pub name: &'static str,
+    /// How it is found among the words.
     pub place: Place,
+    /// What it takes.
     pub takes: Takes,
+    /// Whether it may be left out, and what it is given with.
     pub rules: &'static [Rule],
     /// The line of the help.
     pub help: &'static str,
