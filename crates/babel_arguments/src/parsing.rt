@@ -56,16 +56,23 @@ fn command_of<'a>(alloc: Global, program: &Program) -> Result<Command<'a>, Alloc
 }
 
 fn subcommand_of<'a>(alloc: Global, subcommand: &Subcommand) -> Result<Command<'a>, AllocError> {
-    let mut command = Command::new(alloc, subcommand.name)
+    let args = args_of(alloc, subcommand.arguments)?;
+    let command = Command::new(alloc, subcommand.name)
         .about(subcommand.about)
-        .after_help(subcommand.after_help);
-    if let Some(usage) = subcommand.usage {
-        command = command.override_usage(usage);
+        .after_help(subcommand.after_help)
+        .args(args)?;
+    match subcommand.usage {
+        Some(usage) => Ok(command.override_usage(usage)),
+        None => Ok(command),
     }
-    for argument in subcommand.arguments {
-        command = command.arg(arg_of(alloc, argument)?)?;
+}
+
+fn args_of<'a>(alloc: Global, arguments: &[Argument]) -> Result<Vec<Arg<'a>>, AllocError> {
+    let mut args = Vec::new(alloc);
+    for argument in arguments {
+        args.push(arg_of(alloc, argument)?)?;
     }
-    Ok(command)
+    Ok(args)
 }
 
 fn arg_of<'a>(alloc: Global, argument: &Argument) -> Result<Arg<'a>, AllocError> {
@@ -79,25 +86,31 @@ fn arg_of<'a>(alloc: Global, argument: &Argument) -> Result<Arg<'a>, AllocError>
 
 /// The argument with what it takes.
 fn with_values<'a>(arg: Arg<'a>, takes: Takes) -> Arg<'a> {
+    let arg = arg.action(action_of(takes));
     match takes {
-        Takes::Nothing => arg.action(ArgAction::SetTrue),
-        Takes::Text(value) => arg.value_name(value).action(ArgAction::Set),
-        Takes::Texts(value) => arg.value_name(value).action(ArgAction::Append),
+        Takes::Nothing => arg,
+        Takes::Text(value) | Takes::Texts(value) => arg.value_name(value),
         Takes::Number(value, least, greatest) => arg
             .value_name(value)
-            .action(ArgAction::Set)
             .value_parser(ValueParser::unsigned(least, greatest)),
         Takes::Word(value, words) => arg
             .value_name(value)
-            .action(ArgAction::Set)
             .value_parser(words)
             .hide_possible_values(true),
         Takes::Words(value, words) => arg
             .value_name(value)
-            .action(ArgAction::Append)
-            .value_delimiter(',')
             .value_parser(words)
-            .hide_possible_values(true),
+            .hide_possible_values(true)
+            .value_delimiter(','),
+    }
+}
+
+/// What becomes of the values if it is given several times.
+fn action_of(takes: Takes) -> ArgAction {
+    match takes {
+        Takes::Nothing => ArgAction::SetTrue,
+        Takes::Text(_) | Takes::Number(_, _, _) | Takes::Word(_, _) => ArgAction::Set,
+        Takes::Texts(_) | Takes::Words(_, _) => ArgAction::Append,
     }
 }
 
