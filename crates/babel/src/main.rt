@@ -1,39 +1,32 @@
-//! The program `babel`: the command line of all commands.
+//! The program `babel`: reads the command line, and calls the command with the standard streams.
 //!
-//! This crate reads the command line and calls the command with the standard streams and the files that it
-//! opens. The commands are functions of the libraries.
+//! The commands are functions of the libraries `babel_report_commands`, `babel_topology_commands`
+//! and `babel_router_commands`, and so are the tables of their arguments. `commands` lists them,
+//! `dispatch` calls them, `usage` has what is written in their place, and `help` the help of the
+//! program.
 #![tactic(auto)]
 
-mod arguments;
-mod asking;
-mod command_line;
-mod details;
-mod files;
-mod forms;
+mod commands;
+mod dispatch;
 mod help;
-mod noting;
-mod opening;
-mod pictures;
-mod routing;
-mod routing_arguments;
-mod simulating;
-mod speaking;
-mod topologies;
+mod usage;
 
-use command_line::{Arguments, read_arguments, report_arguments, run};
-use noting::colours_at;
+use babel_arguments::{NotingWriter, colours_at, read_words};
+use babel_json::FormWriter;
+use dispatch::run;
 use std::process::ExitCode;
+use usage::report_words;
 
 fn main(rt: HostRuntime) -> ExitCode {
     let mut err = rt.stderr();
-    let status = match read_arguments(&rt) {
+    let status = match read_words(&rt) {
         Ok(words) => {
             let out = rt.stdout();
             let colours = colours_at(&rt, &out);
-            let arguments = Arguments { words, colours };
-            run(&rt, &arguments, rt.stdin(), out, &mut err)
+            let out = NotingWriter::new(FormWriter::new(rt.alloc(), out), colours);
+            run(&rt, &words, &mut rt.stdin(), out, &mut err)
         }
-        Err(error) => report_arguments(error, &mut err),
+        Err(fault) => report_words(fault, &mut err),
     };
     ExitCode::from(status)
 }

@@ -4,7 +4,7 @@ use babel_value::{Line, Prefix};
 use std::io::{self, Write};
 
 /// The words by which lines can be selected: what a line is about, the names of messages, and codes.
-pub static WORDS: [&str; 49] = [
+pub const WORDS: [&str; 49] = [
     "select",
     "out",
     "table",

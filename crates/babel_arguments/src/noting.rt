@@ -1,20 +1,22 @@
 //! The standard output, and why it couldn't be written.
 
+use babel_line_details::LineProblem;
 use std::env;
 use std::io::{self, IsTerminal, Write};
 use std::rt::Env;
 
 /// Whether what people read may have colours.
-#[derive(Clone, Copy, Debug, PartialEq, Eq)]
-pub(crate) enum Colours {
+#[derive(Clone, Copy)]
+pub enum Colours {
     /// It may.
     Shown,
     /// It may not.
     Hidden,
 }
 
-/// Colours are shown at a terminal, unless the environment has `NO_COLOR` with a text that isn't empty.
-pub(crate) fn colours_at<R: AllocGlobal + Env, O: IsTerminal>(rt: &R, out: &O) -> Colours {
+/// Colours are shown at a terminal, unless the environment has `NO_COLOR` with a text that isn't
+/// empty.
+pub fn colours_at<R: AllocGlobal + Env, O: IsTerminal>(rt: &R, out: &O) -> Colours {
     let is_off = match env::var(rt, "NO_COLOR") {
         Ok(value) => !value.is_empty(),
         Err(_) => false,
@@ -28,7 +30,7 @@ pub(crate) fn colours_at<R: AllocGlobal + Env, O: IsTerminal>(rt: &R, out: &O) -
 
 /// A writer that keeps whether it took anything, and why it failed.
 #[derive(Drop)]
-pub(crate) struct NotingWriter<W: Write + Drop> {
+pub struct NotingWriter<W: Write + Drop> {
     inner: W,
     is_written: bool,
     failure: Option<io::ErrorKind>,
@@ -36,7 +38,8 @@ pub(crate) struct NotingWriter<W: Write + Drop> {
 }
 
 impl<W: Write + Drop> NotingWriter<W> {
-    pub(crate) fn new(inner: W, colours: Colours) -> NotingWriter<W> {
+    /// A writer that took nothing.
+    pub fn new(inner: W, colours: Colours) -> NotingWriter<W> {
         NotingWriter {
             inner,
             is_written: false,
@@ -46,22 +49,22 @@ impl<W: Write + Drop> NotingWriter<W> {
     }
 
     /// Whether what it takes may have colours.
-    pub(crate) fn colours(&self) -> Colours {
+    pub fn colours(&self) -> Colours {
         self.colours
     }
 
     /// The writer that it writes to.
-    pub(crate) fn inner_mut(&mut self) -> &mut W {
+    pub fn inner_mut(&mut self) -> &mut W {
         &mut self.inner
     }
 
     /// Whether it took an octet.
-    pub(crate) fn is_written(&self) -> bool {
+    pub fn is_written(&self) -> bool {
         self.is_written
     }
 
     /// Why the last call that failed did so, if one failed.
-    pub(crate) fn failure(&self) -> Option<io::ErrorKind> {
+    pub fn failure(&self) -> Option<io::ErrorKind> {
         self.failure
     }
 }
@@ -89,4 +92,13 @@ impl<W: Write + Drop> Write for NotingWriter<W> {
             }
         }
     }
+}
+
+/// Writes why the output couldn't be written.
+pub fn explain_output<E: Write>(failure: io::ErrorKind, err: &mut E) -> io::Result<()> {
+    let problem = match failure {
+        io::ErrorKind::BrokenPipe => LineProblem::BrokenPipe,
+        _ => LineProblem::Write,
+    };
+    writeln!(err, "standard output: {problem}")
 }

@@ -1,9 +1,7 @@
-//! The command `run`, and what it writes if it is refused.
+//! The command `run`: a speaker on the devices of the network, over IPv6.
 
-use crate::details::{details_of, explain_unreadable_file};
-use crate::files::octets_of;
-use crate::opening::kept;
-use babel_commands::{Details, Status, refuse};
+use babel_arguments::{argument, explain_unreadable, kept, octets_of, wants_details};
+use babel_commands::{Status, refuse};
 use babel_config::FileFault;
 use babel_file_details::{FileText, explain_router_file};
 use babel_line_details::Excerpt;
@@ -17,10 +15,10 @@ use std::os::fd::AsRawFd;
 use std::time::Clock;
 
 /// The UDP port that is used if none is given (RFC 8966, section 4).
-const DEFAULT_PORT: u16 = 6696;
+pub(crate) const DEFAULT_PORT: u16 = 6696;
 
 /// Runs a speaker on the devices, until the input ends. Its fault is written.
-pub(crate) fn run_router<F, R: Read + AsRawFd, W: Write, E: Write + IsTerminal>(
+pub fn run_router<F, R: Read + AsRawFd, W: Write, E: Write + IsTerminal>(
     rt: &F,
     arguments: &ArgMatches<'_>,
     input: &mut R,
@@ -36,7 +34,7 @@ where
         Err(refused) => refused,
     };
     let status = refuse_words(refused, err);
-    if details_of(arguments, err) == Details::Shown {
+    if wants_details(arguments, err) {
         // If writing the sentence fails, the status still reports the fault.
         let _ = explain(rt, arguments, refused, err);
     }
@@ -88,9 +86,9 @@ fn explain_router<F: AllocGlobal + Files, E: Write>(
     fault: FileFault,
     err: &mut E,
 ) -> io::Result<()> {
-    let name = arguments.get_str("config").unwrap_or("");
+    let name = argument(arguments, "config");
     if fault == FileFault::Unreadable {
-        return explain_unreadable_file(rt, name, err);
+        return explain_unreadable(rt, name, err);
     }
     match octets_of(rt.alloc(), rt, name) {
         Some(octets) => {
@@ -113,11 +111,11 @@ fn explain_run<E: Write>(
             writeln!(err, "device {} {fault}", Excerpt(name))
         }
         RunFault::Control => {
-            let path = arguments.get_str("control").unwrap_or("");
+            let path = argument(arguments, "control");
             writeln!(err, "--control {} {fault}", Excerpt(path))
         }
         RunFault::SnapshotFile(_) | RunFault::Restore(_) => {
-            let name = arguments.get_str("keep").unwrap_or("");
+            let name = argument(arguments, "keep");
             writeln!(err, "{name}: {fault}")
         }
         fault => writeln!(err, "{fault}"),
