@@ -12,7 +12,7 @@ use std::io::{self, IsTerminal, Write};
 const NAME: &str = "babel: ";
 
 /// The form of what is written.
-#[derive(Clone, Copy, Debug, PartialEq, Eq)]
+#[derive(Clone, Copy)]
 pub enum FaultForm {
     /// The text as it is.
     AsWritten,
@@ -83,7 +83,7 @@ impl<'a, 'b, E: Write + IsTerminal> FaultWriter<'a, 'b, E> {
             self.finish()?;
             return Ok(self.code.extend_from_slice(self.line.as_slice())?);
         }
-        if self.code.is_empty() && self.form == FaultForm::Faults {
+        if self.code.is_empty() && matches!(self.form, FaultForm::Faults) {
             return Ok(());
         }
         let len = file_len(self.line.as_slice(), self.files);
@@ -157,7 +157,7 @@ fn put_sentence<'a>(object: &mut Object<'a>, sentence: &Sentence<'a>, line: Opti
 
 impl<E: Write + IsTerminal> Write for FaultWriter<'_, '_, E> {
     fn write(&mut self, buf: &[u8]) -> io::Result<usize> {
-        if self.form == FaultForm::AsWritten {
+        if matches!(self.form, FaultForm::AsWritten) {
             return self.inner.write(buf);
         }
         self.take(buf)?;
@@ -172,6 +172,6 @@ impl<E: Write + IsTerminal> Write for FaultWriter<'_, '_, E> {
 /// Sentences are wanted for objects as at a terminal.
 impl<E: Write + IsTerminal> IsTerminal for FaultWriter<'_, '_, E> {
     fn is_terminal(&self) -> bool {
-        self.form != FaultForm::AsWritten || self.inner.is_terminal()
+        !matches!(self.form, FaultForm::AsWritten) || self.inner.is_terminal()
     }
 }

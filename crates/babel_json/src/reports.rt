@@ -5,7 +5,7 @@ use crate::shapes::{EXPLAINED, FOREIGN_HOP, Field, HOP, Kind, SELECTED, Shape};
 use crate::words::Words;
 
 /// Whose lines are read: each command has lines of its own.
-#[derive(Clone, Copy, Debug, PartialEq, Eq)]
+#[derive(Clone, Copy)]
 pub enum Report {
     /// Those of `show`.
     Show,

@@ -8,7 +8,7 @@ use std::io::{self, ErrorKind, Write};
 use std::mem::swap;
 
 /// How IPv6 addresses are written.
-#[derive(Clone, Copy, Debug, PartialEq, Eq)]
+#[derive(Clone, Copy, PartialEq, Eq)]
 pub enum Addresses {
     /// In eight groups.
     Full,
@@ -17,7 +17,7 @@ pub enum Addresses {
 }
 
 /// The form of what is written.
-#[derive(Clone, Copy, Debug, PartialEq, Eq)]
+#[derive(Clone, Copy)]
 pub enum Form {
     /// The text as it is.
     AsWritten,
@@ -174,7 +174,7 @@ fn origin_of(head: &Head) -> Origin<'_> {
 
 impl<W: Write + Drop> Write for FormWriter<W> {
     fn write(&mut self, buf: &[u8]) -> io::Result<usize> {
-        if self.form == Form::AsWritten {
+        if matches!(self.form, Form::AsWritten) {
             return self.inner.write(buf);
         }
         if let Some(kind) = self.failure {
