@@ -12,8 +12,8 @@ pub(crate) struct Sentence<'a> {
 }
 
 impl<'a> Sentence<'a> {
-    /// Reads `<file>:<line>:<column>: <message>`, of which the column and the line may be missing. The
-    /// file is one of these; without one the whole text is the message.
+    /// Reads `<file>:<line>:<column>: <message>`, of which the column and the line may be missing.
+    /// The file is one of these; without one the whole text is the message.
     pub(crate) fn read(text: &'a str, files: &[&str]) -> Sentence<'a> {
         for file in files {
             if let Some(rest) = text.strip_prefix(*file) {

@@ -42,7 +42,7 @@ pub struct FormWriter<W: Write + Drop> {
     short: Vec<u8>,
     /// What is to be written of the text that came.
     made: Vec<u8>,
-    /// The line `# <line> <source>`, which comes before the lines of a datagram; empty if none came.
+    /// The line `# <line> <source>` before the lines of a datagram; empty if none came.
     head: Vec<u8>,
     /// Why a call failed. Each later call fails too: a part of what came is lost.
     failure: Option<ErrorKind>,
