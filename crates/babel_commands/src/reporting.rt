@@ -11,4 +11,5 @@ mod sightings;
 pub use absence::{Absence, absence_of};
 pub use explaining::{explain, try_explain};
 pub use log_until::{Log, LogUntil};
+pub(crate) use replaying::config_in;
 pub use replaying::{SelectedLog, replay, try_replay, try_replay_selected};

@@ -2,17 +2,18 @@
 
 use crate::keys::key_in;
 use crate::objects::Object;
-use crate::places::{Sentence, file_len};
+use crate::places::Sentence;
 use crate::words::Words;
 use crate::writers::text_in;
 use std::alloc::Global;
 use std::io::{self, IsTerminal, Write};
+use std::mem::swap;
 
 /// What a line with a code begins with.
 const NAME: &str = "babel: ";
 
 /// The form of what is written.
-#[derive(Clone, Copy, Debug, PartialEq, Eq)]
+#[derive(Clone, Copy)]
 pub enum FaultForm {
     /// The text as it is.
     AsWritten,
@@ -34,6 +35,8 @@ pub struct FaultWriter<'a, 'b, E: Write + IsTerminal> {
     line: Vec<u8>,
     /// The code whose sentence has not come yet; empty if there is none.
     code: Vec<u8>,
+    /// The object that is written.
+    made: Vec<u8>,
 }
 
 impl<'a, 'b, E: Write + IsTerminal> FaultWriter<'a, 'b, E> {
@@ -51,6 +54,7 @@ impl<'a, 'b, E: Write + IsTerminal> FaultWriter<'a, 'b, E> {
             files,
             line: Vec::new(alloc),
             code: Vec::new(alloc),
+            made: Vec::new(alloc),
         }
     }
 
@@ -59,21 +63,20 @@ impl<'a, 'b, E: Write + IsTerminal> FaultWriter<'a, 'b, E> {
         if self.code.is_empty() {
             return Ok(());
         }
+        self.made.clear();
         let code = self.code.as_slice();
-        let made = fault_line(self.alloc, code, &code[..0], 0);
-        self.code.clear();
-        self.write_made(made)
+        let pushed = push_fault(self.alloc, code, &code[..0], self.files, &mut self.made);
+        self.write_made(pushed)
     }
 
     fn take(&mut self, text: &[u8]) -> io::Result<()> {
-        let mut parts = text.split(|octet| *octet == b'\n');
-        if let Some(front) = parts.next() {
-            self.line.extend_from_slice(front)?;
-        }
-        for part in parts {
-            self.end_line()?;
-            self.line.clear();
-            self.line.extend_from_slice(part)?;
+        for octet in text {
+            if *octet == b'\n' {
+                self.end_line()?;
+                self.line.clear();
+            } else {
+                self.line.push(*octet)?;
+            }
         }
         Ok(())
     }
@@ -81,43 +84,47 @@ impl<'a, 'b, E: Write + IsTerminal> FaultWriter<'a, 'b, E> {
     fn end_line(&mut self) -> io::Result<()> {
         if self.line.starts_with(NAME.as_bytes()) {
             self.finish()?;
-            return Ok(self.code.extend_from_slice(self.line.as_slice())?);
-        }
-        if self.code.is_empty() && self.form == FaultForm::Faults {
+            swap(&mut self.line, &mut self.code);
             return Ok(());
         }
-        let len = file_len(self.line.as_slice(), self.files);
+        if self.code.is_empty() && matches!(self.form, FaultForm::Faults) {
+            return Ok(());
+        }
+        self.made.clear();
         let code = self.code.as_slice();
-        let made = fault_line(self.alloc, code, self.line.as_slice(), len);
-        self.code.clear();
-        self.write_made(made)
+        let pushed = push_fault(
+            self.alloc,
+            code,
+            self.line.as_slice(),
+            self.files,
+            &mut self.made,
+        );
+        self.write_made(pushed)
     }
 
-    fn write_made(&mut self, made: io::Result<Vec<u8>>) -> io::Result<()> {
-        match made {
-            Ok(made) => self.inner.write_all(made.as_slice()),
-            Err(error) => Err(error),
-        }
+    fn write_made(&mut self, pushed: io::Result<()>) -> io::Result<()> {
+        self.code.clear();
+        pushed?;
+        self.inner.write_all(self.made.as_slice())
     }
 }
 
-/// The object of a code with its sentence, either of which may be empty. The sentence begins with the
-/// name of a file of so many octets.
-fn fault_line<'x>(
+/// Appends the object of a code with its sentence, either of which may be empty. The sentence may
+/// begin with the name of one of the files.
+fn push_fault<'x>(
     alloc: Global,
     code: &'x [u8],
     sentence: &'x [u8],
-    file_len: usize,
-) -> io::Result<Vec<u8>> {
+    files: &[&str],
+    out: &mut Vec<u8>,
+) -> io::Result<()> {
     let code = text_in(code)?;
-    let sentence = Sentence::read(text_in(sentence)?, file_len);
+    let sentence = Sentence::read(text_in(sentence)?, files);
     let object = match code.strip_prefix(NAME) {
         Some(code) => fault_object(code, &sentence),
         None => sentence_object(&sentence),
     };
-    let mut line = Vec::new(alloc);
-    object.push_to(alloc, &mut line)?;
-    Ok(line)
+    object.push_to(alloc, out)
 }
 
 /// The object of a code, which may have a line before it, and a number and a further code after it.
@@ -157,7 +164,7 @@ fn put_sentence<'a>(object: &mut Object<'a>, sentence: &Sentence<'a>, line: Opti
 
 impl<E: Write + IsTerminal> Write for FaultWriter<'_, '_, E> {
     fn write(&mut self, buf: &[u8]) -> io::Result<usize> {
-        if self.form == FaultForm::AsWritten {
+        if matches!(self.form, FaultForm::AsWritten) {
             return self.inner.write(buf);
         }
         self.take(buf)?;
@@ -172,6 +179,6 @@ impl<E: Write + IsTerminal> Write for FaultWriter<'_, '_, E> {
 /// Sentences are wanted for objects as at a terminal.
 impl<E: Write + IsTerminal> IsTerminal for FaultWriter<'_, '_, E> {
     fn is_terminal(&self) -> bool {
-        self.form != FaultForm::AsWritten || self.inner.is_terminal()
+        !matches!(self.form, FaultForm::AsWritten) || self.inner.is_terminal()
     }
 }

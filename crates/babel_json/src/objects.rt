@@ -105,10 +105,10 @@ impl Serialize for Object<'_> {
         for member in self.members.iter() {
             out.key(member.key)?;
             match member.value {
-                Value::Text(text) => out.str(text)?,
-                Value::Number(number) => out.u64(number)?,
-                Value::Null => out.unit()?,
-            }
+                Value::Text(text) => out.str(text),
+                Value::Number(number) => out.u64(number),
+                Value::Null => out.unit(),
+            }?;
         }
         out.end_map()
     }

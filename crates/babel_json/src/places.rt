@@ -12,49 +12,38 @@ pub(crate) struct Sentence<'a> {
 }
 
 impl<'a> Sentence<'a> {
-    /// Reads `<file>:<line>:<column>: <message>`, of which the column and the line may be missing. The
-    /// file has so many octets; without one the whole text is the message.
-    pub(crate) fn read(text: &'a str, file_len: usize) -> Sentence<'a> {
-        let (file, rest) = match text.get(..file_len) {
-            Some(file) => (file, text.get(file_len..).unwrap_or("")),
-            None => ("", text),
-        };
-        if file.is_empty() {
-            return Sentence {
-                file: None,
-                line: None,
-                column: None,
-                message: text,
-            };
+    /// Reads `<file>:<line>:<column>: <message>`, of which the column and the line may be missing.
+    /// The file is one of these; without one the whole text is the message.
+    pub(crate) fn read(text: &'a str, files: &[&str]) -> Sentence<'a> {
+        for file in files {
+            if let Some(rest) = text.strip_prefix(*file) {
+                if !file.is_empty() && rest.starts_with(':') {
+                    return Sentence::after_file(text.strip_suffix(rest), rest);
+                }
+            }
         }
-        Sentence::after_file(file, rest)
+        Sentence {
+            file: None,
+            line: None,
+            column: None,
+            message: text,
+        }
     }
 
-    fn after_file(file: &'a str, rest: &'a str) -> Sentence<'a> {
+    fn after_file(file: Option<&'a str>, rest: &'a str) -> Sentence<'a> {
         let (line, rest) = number_in(rest);
         let (column, rest) = match line {
             Some(_) => number_in(rest),
             None => (None, rest),
         };
+        let rest = rest.strip_prefix(':').unwrap_or(rest);
         Sentence {
-            file: Some(file),
+            file,
             line,
             column,
-            message: message_in(rest),
+            message: rest.strip_prefix(' ').unwrap_or(rest),
         }
     }
-}
-
-/// How many octets the name of a file has with which the text begins; 0 if it begins with none. A
-/// colon ends a name.
-pub(crate) fn file_len(text: &[u8], files: &[&str]) -> usize {
-    for file in files {
-        let name = file.as_bytes();
-        if !name.is_empty() && text.starts_with(name) && text.get(name.len()) == Some(&b':') {
-            return name.len();
-        }
-    }
-    0
 }
 
 /// The number after a colon, and what follows it.
@@ -68,10 +57,4 @@ fn number_in(rest: &str) -> (Option<u64>, &str) {
         Some(number) => (Some(number), after),
         None => (None, rest),
     }
-}
-
-/// The sentence after the last colon of a place.
-fn message_in(rest: &str) -> &str {
-    let rest = rest.strip_prefix(':').unwrap_or(rest);
-    rest.strip_prefix(' ').unwrap_or(rest)
 }

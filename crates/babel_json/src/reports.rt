@@ -1,11 +1,14 @@
 //! The lines of the reports, and the object that each becomes.
 
 use crate::objects::{Object, Value};
-use crate::shapes::{EXPLAINED, FOREIGN_HOP, Field, HOP, Kind, SELECTED, Shape};
+use crate::shapes::{
+    DONE, ENDED, EVENT_DATAGRAM, EXPLAINED, FOREIGN_HOP, Field, HOP, JUDGED, Kind, Lead, REFUSED,
+    REFUSED_EVENT, RESTORED, SELECTED, SENT, SOURCE, Tlv,
+};
 use crate::words::Words;
 
 /// Whose lines are read: each command has lines of its own.
-#[derive(Clone, Copy, Debug, PartialEq, Eq)]
+#[derive(Clone, Copy)]
 pub enum Report {
     /// Those of `show`.
     Show,
@@ -30,7 +33,7 @@ pub(crate) struct Origin<'a> {
 pub(crate) fn object_of<'a>(report: Report, origin: Origin<'a>, line: &'a str) -> Object<'a> {
     let mut words = Words::new(line);
     let read = match report {
-        Report::Show => shown(&mut words, origin),
+        Report::Show => shown(&mut words, Head::Origin(origin)),
         Report::Check => Some(checked(&mut words)),
         Report::Replay => replayed(&mut words),
         Report::Explain => Some(explained(&mut words)),
@@ -50,101 +53,92 @@ fn text_object<'a>(line: &'a str) -> Object<'a> {
 
 /// The object of a datagram whose lines follow.
 pub(crate) fn datagram_object<'a>(origin: Origin<'a>) -> Object<'a> {
-    with_origin("datagram", origin)
+    headed("datagram", Head::Origin(origin))
 }
 
-/// An object with the origin alone.
-fn with_origin<'a>(kind: &'static str, origin: Origin<'a>) -> Object<'a> {
+/// What the object of a line about a datagram begins with.
+#[derive(Clone, Copy)]
+enum Head<'a> {
+    /// In `show` the datagram.
+    Origin(Origin<'a>),
+    /// In `replay` the time.
+    Time(u64),
+}
+
+fn headed<'a>(kind: &'static str, head: Head<'a>) -> Object<'a> {
     let mut object = Object::new(kind);
-    put_origin(&mut object, origin);
+    match head {
+        Head::Origin(origin) => {
+            object.number_or_null("line", origin.line);
+            object.text_or_null("source", origin.source);
+        }
+        Head::Time(time) => object.number("time", time),
+    }
     object
 }
 
-/// A line of `show`.
-fn shown<'a>(words: &mut Words<'a>, origin: Origin<'a>) -> Option<Object<'a>> {
+/// A line of `show`, or one of `replay` after its time: what is refused, or a TLV, in `replay` with
+/// what became of a message.
+fn shown<'a>(words: &mut Words<'a>, head: Head<'a>) -> Option<Object<'a>> {
     if words.skip("refused") {
-        return Some(refused(words, with_origin("refused", origin)));
+        return Some(filled(headed("refused", head), words, &REFUSED));
     }
     let offset = words.number();
-    let tlv = tlv_in(words)?;
-    let mut object = with_origin(tlv.kind(), origin);
+    let tlv = Tlv::from_name(words.word())?;
+    let mut object = headed(tlv.object, head);
     object.number("offset", offset);
-    put_tlv(&mut object, words, tlv);
+    if tlv.is_message {
+        object.text("message", tlv.name);
+    }
+    put_fields(&mut object, words, tlv.fields);
+    match head {
+        Head::Time(_) if tlv.is_message => put_fields(&mut object, words, &JUDGED),
+        _ => {}
+    }
     Some(object)
 }
 
-fn put_origin<'a>(object: &mut Object<'a>, origin: Origin<'a>) {
-    object.number_or_null("line", origin.line);
-    object.text_or_null("source", origin.source);
-}
-
-/// What a TLV is.
-#[derive(Clone, Copy)]
-enum Tlv {
-    Message(Shape),
-    State,
-    Ignored,
-}
-
-impl Tlv {
-    /// The type of its object.
-    fn kind(self) -> &'static str {
-        match self {
-            Tlv::Message(_) => "message",
-            Tlv::State => "state",
-            Tlv::Ignored => "ignored",
-        }
-    }
-}
-
-/// The TLV that the next word is of, if it is of one.
-fn tlv_in(words: &mut Words<'_>) -> Option<Tlv> {
-    match words.word() {
-        "state" => Some(Tlv::State),
-        "ignored" => Some(Tlv::Ignored),
-        name => Some(Tlv::Message(Shape::from_name(name)?)),
-    }
-}
-
-/// Appends the members of a TLV.
-fn put_tlv<'a>(object: &mut Object<'a>, words: &mut Words<'a>, tlv: Tlv) {
-    match tlv {
-        Tlv::State => {}
-        Tlv::Ignored => put_reason(object, words),
-        Tlv::Message(shape) => {
-            object.text("message", shape.name());
-            put_fields(object, words, shape.fields());
-        }
-    }
-}
-
-/// Appends the reason why a TLV is ignored, and the type of the sub-TLV after `I5`.
-fn put_reason<'a>(object: &mut Object<'a>, words: &mut Words<'a>) {
-    object.text("reason", words.word());
-    object.number_or_null("subtlv", words.optional_number());
+/// The object with each field.
+fn filled<'a>(object: Object<'a>, words: &mut Words<'a>, fields: &'static [Field]) -> Object<'a> {
+    let mut object = object;
+    put_fields(&mut object, words, fields);
+    object
 }
 
 /// Appends each field.
 fn put_fields<'a>(object: &mut Object<'a>, words: &mut Words<'a>, fields: &'static [Field]) {
-    for field in fields.iter() {
-        let word = field.word();
-        if !word.is_empty() {
-            words.expect(word);
+    for Field(key, lead, kind) in fields.iter() {
+        let has_value = match *lead {
+            Lead::Nothing => true,
+            Lead::Word(word) => {
+                words.expect(word);
+                true
+            }
+            Lead::Optional(word) => words.skip(word),
+        };
+        if has_value {
+            object.put(key, value_of(words, key, *kind));
+        } else {
+            object.null(key);
         }
-        object.put(field.key(), value_of(words, field.kind()));
     }
 }
 
-fn value_of<'a>(words: &mut Words<'a>, kind: Kind) -> Value<'a> {
+fn value_of<'a>(words: &mut Words<'a>, key: &'static str, kind: Kind) -> Value<'a> {
     match kind {
-        Kind::Number => Value::Number(words.number()),
         Kind::Text => Value::Text(words.word()),
-        Kind::Receiver => {
-            if words.skip("any") {
-                return Value::Null;
-            }
-            Value::Text(words.word())
+        Kind::Number => Value::Number(words.number()),
+        Kind::Count => {
+            let number = words.number();
+            words.expect(key);
+            Value::Number(number)
         }
+        Kind::OptionalNumber => match words.optional_number() {
+            Some(number) => Value::Number(number),
+            None => Value::Null,
+        },
+        Kind::Receiver if words.skip("any") || words.skip("all") => Value::Null,
+        Kind::Receiver => Value::Text(words.word()),
     }
 }
 
@@ -154,11 +148,16 @@ fn put_fields_or_none<'a>(
     words: &mut Words<'a>,
     fields: &'static [Field],
 ) {
-    if !words.skip("none") {
-        return put_fields(object, words, fields);
+    if words.skip("none") {
+        put_nulls(object, fields);
+    } else {
+        put_fields(object, words, fields);
     }
-    for field in fields.iter() {
-        object.null(field.key());
+}
+
+fn put_nulls(object: &mut Object<'_>, fields: &'static [Field]) {
+    for Field(key, _, _) in fields.iter() {
+        object.null(key);
     }
 }
 
@@ -166,13 +165,11 @@ fn put_fields_or_none<'a>(
 fn checked<'a>(words: &mut Words<'a>) -> Object<'a> {
     words.expect("ok");
     let mut object = Object::new("ok");
-    let sources = words.optional_number();
-    if sources.is_some() {
-        words.expect("sources");
+    if words.peek().is_some() {
+        put_fields(&mut object, words, &RESTORED);
+    } else {
+        put_nulls(&mut object, &RESTORED);
     }
-    object.number_or_null("sources", sources);
-    object.number_or_null("seqno", words.number_after("seqno"));
-    object.number_or_null("raises", words.number_after("raises"));
     object
 }
 
@@ -181,23 +178,14 @@ fn replayed<'a>(words: &mut Words<'a>) -> Option<Object<'a>> {
     if words.skip("table") {
         return Some(selected(words, Object::new("table")));
     }
-    let time = words.number();
+    let head = Head::Time(words.number());
     if words.skip("select") {
-        return Some(selected(words, timed("select", time)));
+        return Some(selected(words, headed("select", head)));
     }
     if words.skip("out") {
-        return Some(sent(words, timed("out", time)));
+        return Some(filled(headed("out", head), words, &SENT));
     }
-    if words.skip("refused") {
-        return Some(refused(words, timed("refused", time)));
-    }
-    noted(words, time)
-}
-
-fn timed<'a>(kind: &'static str, time: u64) -> Object<'a> {
-    let mut object = Object::new(kind);
-    object.number("time", time);
-    object
+    shown(words, head)
 }
 
 /// A prefix and its selected route, after the head.
@@ -208,59 +196,11 @@ fn selected<'a>(words: &mut Words<'a>, head: Object<'a>) -> Object<'a> {
     object
 }
 
-/// The code of what is refused, and the offset after `P5`, after the head.
-fn refused<'a>(words: &mut Words<'a>, head: Object<'a>) -> Object<'a> {
-    let mut object = head;
-    object.text("code", words.word());
-    object.number_or_null("offset", words.optional_number());
-    object
-}
-
-/// The line of a datagram that is sent, after the head.
-fn sent<'a>(words: &mut Words<'a>, head: Object<'a>) -> Object<'a> {
-    let mut object = head;
-    object.number("iface", words.number());
-    if words.skip("all") {
-        object.null("to");
-    } else {
-        object.text("to", words.word());
-    }
-    object.number("messages", words.number());
-    object
-}
-
-/// The line of a TLV with what became of it.
-fn noted<'a>(words: &mut Words<'a>, time: u64) -> Option<Object<'a>> {
-    let offset = words.number();
-    let tlv = tlv_in(words)?;
-    let mut object: Object<'a> = timed(tlv.kind(), time);
-    object.number("offset", offset);
-    put_tlv(&mut object, words, tlv);
-    if let Tlv::Message(_) = tlv {
-        put_verdict(&mut object, words);
-    }
-    Some(object)
-}
-
-/// Appends the verdict, and the distance after `V2`.
-fn put_verdict<'a>(object: &mut Object<'a>, words: &mut Words<'a>) {
-    object.text("verdict", words.word());
-    object.number_or_null("source_seqno", words.optional_number());
-    object.number_or_null("source_metric", words.optional_number());
-}
-
 /// A line of `explain`.
 fn explained<'a>(words: &mut Words<'a>) -> Object<'a> {
-    let mut object = Object::new("route");
-    put_fields(&mut object, words, &EXPLAINED);
+    let mut object = filled(Object::new("route"), words, &EXPLAINED);
     words.expect("source");
-    if words.skip("none") {
-        object.null("source_seqno");
-        object.null("source_metric");
-    } else {
-        object.number("source_seqno", words.number());
-        object.number("source_metric", words.number());
-    }
+    put_fields_or_none(&mut object, words, &SOURCE);
     object.text("verdict", words.word());
     object
 }
@@ -268,43 +208,28 @@ fn explained<'a>(words: &mut Words<'a>) -> Object<'a> {
 /// A line of `net`.
 fn stepped<'a>(words: &mut Words<'a>) -> Option<Object<'a>> {
     if words.skip("end") {
-        return Some(ended(words));
+        return Some(filled(Object::new("end"), words, &ENDED));
     }
     let event = words.number();
     match words.word() {
-        "refused" => Some(refused_event(words, event)),
+        "refused" => Some(filled(of_event("refused", event), words, &REFUSED_EVENT)),
         "hop" => Some(hop(words, event)),
         "did" => Some(did(words, event)),
         _ => None,
     }
 }
 
-/// The words of what an event did, each before a number, if it has one. They are the keys too.
-static DATAGRAM: [&str; 4] = ["datagram", "octets", "from", "iface"];
-
-/// The line of what an event did.
-fn did<'a>(words: &mut Words<'a>, event: u64) -> Object<'a> {
-    let mut object = Object::new("event");
+fn of_event<'a>(kind: &'static str, event: u64) -> Object<'a> {
+    let mut object = Object::new(kind);
     object.number("event", event);
-    object.text("did", words.word());
-    object.number("node", words.number());
-    let _ = words.skip("nothing");
-    for key in DATAGRAM.iter() {
-        object.number_or_null(key, words.number_after(key));
-    }
-    if words.skip("to") && !words.skip("all") {
-        object.text("to", words.word());
-    } else {
-        object.null("to");
-    }
     object
 }
 
-/// The line of an event that is refused.
-fn refused_event<'a>(words: &mut Words<'a>, event: u64) -> Object<'a> {
-    let mut object = Object::new("refused");
-    object.number("event", event);
-    object.text("code", words.word());
+/// The line of what an event did.
+fn did<'a>(words: &mut Words<'a>, event: u64) -> Object<'a> {
+    let mut object = filled(of_event("event", event), words, &DONE);
+    let _ = words.skip("nothing");
+    put_fields(&mut object, words, &EVENT_DATAGRAM);
     object
 }
 
@@ -313,31 +238,15 @@ fn hop<'a>(words: &mut Words<'a>, event: u64) -> Object<'a> {
     let node = words.number();
     let prefix = words.word();
     words.expect("->");
-    if words.peek_number().is_some() || words.peek() == Some("none") {
-        let mut object = hop_head("hop", event, node, prefix);
-        put_fields_or_none(&mut object, words, &HOP);
-        return object;
-    }
-    let mut object = hop_head("foreign-hop", event, node, prefix);
-    put_fields(&mut object, words, &FOREIGN_HOP);
-    object.number_or_null("next", words.number_after("node"));
-    object
-}
-
-fn hop_head<'a>(kind: &'static str, event: u64, node: u64, prefix: &'a str) -> Object<'a> {
-    let mut object = Object::new(kind);
-    object.number("event", event);
+    let is_ours = words.peek_number().is_some() || words.peek() == Some("none");
+    let kind = if is_ours { "hop" } else { "foreign-hop" };
+    let mut object = of_event(kind, event);
     object.number("node", node);
     object.text("prefix", prefix);
-    object
-}
-
-/// The last line of `net`.
-fn ended<'a>(words: &mut Words<'a>) -> Object<'a> {
-    let mut object = Object::new("end");
-    object.number("events", words.number());
-    words.expect("events");
-    object.number("datagrams", words.number());
-    words.expect("datagrams");
+    if is_ours {
+        put_fields_or_none(&mut object, words, &HOP);
+    } else {
+        put_fields(&mut object, words, &FOREIGN_HOP);
+    }
     object
 }

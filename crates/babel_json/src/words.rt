@@ -71,14 +71,6 @@ impl<'a> Words<'a> {
         Some(number)
     }
 
-    /// Takes this word and the number after it, if the word is next.
-    pub(crate) fn number_after(&mut self, word: &str) -> Option<u64> {
-        if !self.skip(word) {
-            return None;
-        }
-        parse_u64(self.optional_word()?)
-    }
-
     /// The next word, which isn't taken, if it is a number.
     pub(crate) fn peek_number(&self) -> Option<u64> {
         parse_u64(self.peek()?)

@@ -7,8 +7,11 @@ use std::alloc::Global;
 use std::io::{self, ErrorKind, Write};
 use std::mem::swap;
 
+/// What a line with the source of a datagram begins with.
+const HEAD: &[u8] = b"# ";
+
 /// How IPv6 addresses are written.
-#[derive(Clone, Copy, Debug, PartialEq, Eq)]
+#[derive(Clone, Copy, PartialEq, Eq)]
 pub enum Addresses {
     /// In eight groups.
     Full,
@@ -17,7 +20,7 @@ pub enum Addresses {
 }
 
 /// The form of what is written.
-#[derive(Clone, Copy, Debug, PartialEq, Eq)]
+#[derive(Clone, Copy)]
 pub enum Form {
     /// The text as it is.
     AsWritten,
@@ -25,15 +28,6 @@ pub enum Form {
     Short,
     /// A JSON object for each line of the report.
     Json(Report, Addresses),
-}
-
-/// What `# <line> <source>` has, which comes before the lines of a datagram.
-#[derive(Drop)]
-struct Head {
-    /// The line of the input that the datagram is on.
-    number: Option<u64>,
-    /// Its source; empty if none came.
-    source: Vec<u8>,
 }
 
 /// A writer that takes text, and writes it in a form. A part of a line waits for the rest.
@@ -48,7 +42,8 @@ pub struct FormWriter<W: Write + Drop> {
     short: Vec<u8>,
     /// What is to be written of the text that came.
     made: Vec<u8>,
-    head: Head,
+    /// The line `# <line> <source>` before the lines of a datagram; empty if none came.
+    head: Vec<u8>,
     /// Why a call failed. Each later call fails too: a part of what came is lost.
     failure: Option<ErrorKind>,
 }
@@ -63,10 +58,7 @@ impl<W: Write + Drop> FormWriter<W> {
             line: Vec::new(alloc),
             short: Vec::new(alloc),
             made: Vec::new(alloc),
-            head: Head {
-                number: None,
-                source: Vec::new(alloc),
-            },
+            head: Vec::new(alloc),
             failure: None,
         }
     }
@@ -79,14 +71,13 @@ impl<W: Write + Drop> FormWriter<W> {
     /// Writes each whole line of the text in the form.
     fn convert(&mut self, text: &[u8]) -> io::Result<()> {
         self.made.clear();
-        let mut parts = text.split(|octet| *octet == b'\n');
-        if let Some(front) = parts.next() {
-            self.line.extend_from_slice(front)?;
-        }
-        for part in parts {
-            self.end_line()?;
-            self.line.clear();
-            self.line.extend_from_slice(part)?;
+        for octet in text {
+            if *octet == b'\n' {
+                self.end_line()?;
+                self.line.clear();
+            } else {
+                self.line.push(*octet)?;
+            }
         }
         self.inner.write_all(self.made.as_slice())
     }
@@ -120,12 +111,18 @@ impl<W: Write + Drop> FormWriter<W> {
         if self.line.is_empty() {
             return Ok(());
         }
-        let line = self.line.as_slice();
-        if line.starts_with(b"# ") {
-            take_head(text_in(line)?, &mut self.head)?;
-            return push_datagram(self.alloc, &self.head, &mut self.made);
+        let is_head = self.line.starts_with(HEAD);
+        if is_head {
+            swap(&mut self.line, &mut self.head);
         }
-        push_line(self.alloc, report, &self.head, line, &mut self.made)
+        let origin = origin_in(text_in(self.head.as_slice())?);
+        if is_head {
+            return datagram_object(origin).push_to(self.alloc, &mut self.made);
+        }
+        object_of(report, origin, text_in(self.line.as_slice())?).push_to(
+            self.alloc,
+            &mut self.made,
+        )
     }
 }
 
@@ -137,44 +134,19 @@ pub(crate) fn text_in(octets: &[u8]) -> io::Result<&str> {
     }
 }
 
-fn take_head(line: &str, head: &mut Head) -> io::Result<()> {
-    let mut words = Words::new(line);
+/// The line of the input and the source of a datagram, which `# <line> <source>` has.
+fn origin_in(head: &str) -> Origin<'_> {
+    let mut words = Words::new(head);
     words.expect("#");
-    head.number = words.optional_number();
-    let source = words.word();
-    head.source.clear();
-    Ok(head.source.extend_from_slice(source.as_bytes())?)
-}
-
-/// Appends the object of a datagram whose lines follow.
-fn push_datagram(alloc: Global, head: &Head, made: &mut Vec<u8>) -> io::Result<()> {
-    datagram_object(origin_of(head)).push_to(alloc, made)
-}
-
-/// Appends the object of a line.
-fn push_line<'x>(
-    alloc: Global,
-    report: Report,
-    head: &'x Head,
-    line: &'x [u8],
-    made: &mut Vec<u8>,
-) -> io::Result<()> {
-    object_of(report, origin_of(head), text_in(line)?).push_to(alloc, made)
-}
-
-fn origin_of(head: &Head) -> Origin<'_> {
     Origin {
-        line: head.number,
-        source: match str::from_utf8(head.source.as_slice()) {
-            Ok(source) if !source.is_empty() => Some(source),
-            _ => None,
-        },
+        line: words.optional_number(),
+        source: words.optional_word(),
     }
 }
 
 impl<W: Write + Drop> Write for FormWriter<W> {
     fn write(&mut self, buf: &[u8]) -> io::Result<usize> {
-        if self.form == Form::AsWritten {
+        if matches!(self.form, Form::AsWritten) {
             return self.inner.write(buf);
         }
         if let Some(kind) = self.failure {

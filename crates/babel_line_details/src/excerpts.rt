@@ -7,7 +7,7 @@ const MAX_SHOWN: usize = 40;
 
 /// A text in quotation marks. A long one is cut, and control characters are escaped, since a
 /// terminal would obey them.
-#[derive(Clone, Copy, Debug, PartialEq, Eq)]
+#[derive(Clone, Copy)]
 pub struct Excerpt<'a>(pub &'a str);
 
 impl fmt::Display for Excerpt<'_> {
@@ -15,8 +15,7 @@ impl fmt::Display for Excerpt<'_> {
         f.write_str("\"")?;
         for (index, letter) in self.0.chars().enumerate() {
             if index >= MAX_SHOWN {
-                f.write_str("..")?;
-                break;
+                return f.write_str("..\"");
             }
             write_letter(letter, f)?;
         }
@@ -26,8 +25,8 @@ impl fmt::Display for Excerpt<'_> {
 
 fn write_letter<W: fmt::Write>(letter: char, f: &mut fmt::Formatter<W>) -> fmt::Result {
     if letter.is_control() {
-        write!(f, "\\u{{{:x}}}", u32::from(letter))
+        f.write(letter.escape_unicode())
     } else {
-        write!(f, "{letter}")
+        f.write_char(letter)
     }
 }

@@ -4,7 +4,7 @@ use crate::Excerpt;
 use std::fmt;
 
 /// A field of a log's line that is a number.
-#[derive(Clone, Copy, Debug, PartialEq, Eq)]
+#[derive(Clone, Copy)]
 pub enum NumberField {
     /// The moment, in centiseconds.
     Time,
@@ -14,25 +14,8 @@ pub enum NumberField {
     Cost,
 }
 
-impl NumberField {
-    fn name(self) -> &'static str {
-        match self {
-            NumberField::Time => "time",
-            NumberField::Interface => "interface",
-            NumberField::Cost => "cost",
-        }
-    }
-
-    fn greatest(self) -> u64 {
-        match self {
-            NumberField::Time => u64::MAX,
-            NumberField::Interface | NumberField::Cost => 65535,
-        }
-    }
-}
-
 /// Why a text isn't octets in hexadecimal.
-#[derive(Clone, Copy, Debug, PartialEq, Eq)]
+#[derive(Clone, Copy)]
 pub enum HexProblem {
     /// There are no digits.
     Empty,
@@ -45,7 +28,7 @@ pub enum HexProblem {
 }
 
 /// What is wrong with a line.
-#[derive(Clone, Copy, Debug, PartialEq, Eq)]
+#[derive(Clone, Copy)]
 pub enum LineProblem<'a> {
     /// The line's last character is a carriage return.
     CarriageReturn,
@@ -73,25 +56,23 @@ pub enum LineProblem<'a> {
 
 impl fmt::Display for LineProblem<'_> {
     fn fmt<W: fmt::Write>(&self, f: &mut fmt::Formatter<W>) -> fmt::Result {
-        match *self {
-            LineProblem::CarriageReturn => f.write_str(
-                "the line ends in a carriage return; end each line with a line feed alone",
-            ),
-            LineProblem::NotText => f.write_str("the line is not UTF-8"),
-            LineProblem::Form(line) => write_form(line, f),
-            LineProblem::Number(field, text) => write_number(field, text, f),
-            LineProblem::Address(text) => write_address(text, f),
-            LineProblem::Hex(problem, text) => write_hex(problem, text, f),
-            LineProblem::TooLong => f.write_str("the line has more than 131200 octets"),
-            LineProblem::Read => f.write_str("the input can't be read any further"),
-            LineProblem::Write => f.write_str(
-                "the output can't be written; look for a full disk or a closed output",
-            ),
-            LineProblem::BrokenPipe => f.write_str(
-                "nobody reads the output any more (broken pipe)",
-            ),
-            LineProblem::Memory => { f.write_str("out of memory; give the process more of it") }
-        }
+        f.write_str(match *self {
+            LineProblem::Form(line) => return write_form(line, f),
+            LineProblem::Number(field, text) => return write_number(field, text, f),
+            LineProblem::Address(text) => return write_address(text, f),
+            LineProblem::Hex(problem, text) => return write_hex(problem, text, f),
+            LineProblem::CarriageReturn => {
+                "the line ends in a carriage return; end each line with a line feed alone"
+            }
+            LineProblem::NotText => "the line is not UTF-8",
+            LineProblem::TooLong => "the line has more than 131200 octets",
+            LineProblem::Read => "the input can't be read any further",
+            LineProblem::Write => {
+                "the output can't be written; look for a full disk or a closed output"
+            }
+            LineProblem::BrokenPipe => "nobody reads the output any more (broken pipe)",
+            LineProblem::Memory => "out of memory; give the process more of it",
+        })
     }
 }
 
@@ -108,25 +89,29 @@ fn write_number<W: fmt::Write>(
     text: &str,
     f: &mut fmt::Formatter<W>,
 ) -> fmt::Result {
+    let (name, greatest) = match field {
+        NumberField::Time => ("time", u64::MAX),
+        NumberField::Interface => ("interface", 65535),
+        NumberField::Cost => ("cost", 65535),
+    };
     write!(
         f,
-        "{} {} is not a number from 0 to {}, without sign or leading zeros",
-        field.name(),
-        Excerpt(text),
-        field.greatest()
+        "{name} {} is not a number from 0 to {greatest}, without sign or leading zeros",
+        Excerpt(text)
     )
 }
 
 fn write_address<W: fmt::Write>(text: &str, f: &mut fmt::Formatter<W>) -> fmt::Result {
+    let advice = if text.contains('%') {
+        "; leave the zone out"
+    } else {
+        ""
+    };
     write!(
         f,
-        "source {} is not an address, as 192.168.0.1 or fe80::1",
+        "source {} is not an address, as 192.168.0.1 or fe80::1{advice}",
         Excerpt(text)
-    )?;
-    if text.contains('%') {
-        f.write_str("; leave the zone out")?;
-    }
-    Ok(())
+    )
 }
 
 fn write_hex<W: fmt::Write>(
@@ -155,7 +140,7 @@ fn write_hex<W: fmt::Write>(
 }
 
 /// What is wrong with a line, and in which column.
-#[derive(Clone, Copy, Debug, PartialEq, Eq)]
+#[derive(Clone, Copy)]
 pub struct LineDetail<'a> {
     /// The column of the field, from 1 on, in characters. The whole line has none.
     pub column: Option<usize>,

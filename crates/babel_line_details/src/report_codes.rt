@@ -1,11 +1,10 @@
 //! The codes of a report, each with its sentence.
 
 use babel_message::{Reason, Refusal};
-use babel_text::parse_u16;
 use std::fmt;
 
 /// A code that `show` or `replay` prints in a line of its output. The variant has the code's name.
-#[derive(Clone, Copy, Debug, PartialEq, Eq)]
+#[derive(Clone, Copy)]
 pub enum ReportCode {
     /// No interface of this number.
     S1,
@@ -75,75 +74,56 @@ pub enum ReportCode {
     I13,
 }
 
+/// The codes with their names, in the order of the codes.
+static NAMED: [(ReportCode, &str); 33] = [
+    (ReportCode::S1, "S1"),
+    (ReportCode::S2, "S2"),
+    (ReportCode::S3, "S3"),
+    (ReportCode::P1, "P1"),
+    (ReportCode::P2, "P2"),
+    (ReportCode::P3, "P3"),
+    (ReportCode::P4, "P4"),
+    (ReportCode::P5, "P5"),
+    (ReportCode::P6, "P6"),
+    (ReportCode::E1, "E1"),
+    (ReportCode::E2, "E2"),
+    (ReportCode::V1, "V1"),
+    (ReportCode::V2, "V2"),
+    (ReportCode::V3, "V3"),
+    (ReportCode::V4, "V4"),
+    (ReportCode::V5, "V5"),
+    (ReportCode::V6, "V6"),
+    (ReportCode::V7, "V7"),
+    (ReportCode::V8, "V8"),
+    (ReportCode::V9, "V9"),
+    (ReportCode::I1, "I1"),
+    (ReportCode::I2, "I2"),
+    (ReportCode::I3, "I3"),
+    (ReportCode::I4, "I4"),
+    (ReportCode::I5, "I5"),
+    (ReportCode::I6, "I6"),
+    (ReportCode::I7, "I7"),
+    (ReportCode::I8, "I8"),
+    (ReportCode::I9, "I9"),
+    (ReportCode::I10, "I10"),
+    (ReportCode::I11, "I11"),
+    (ReportCode::I12, "I12"),
+    (ReportCode::I13, "I13"),
+];
+
 impl ReportCode {
     /// The code of this name, if there is one.
     pub fn from_name(name: &[u8]) -> Option<ReportCode> {
-        let (letter, digits) = name.split_first()?;
-        let number = parse_u16(str::from_utf8(digits).ok()?)?;
-        match *letter {
-            b'S' | b'E' => ReportCode::of_call(*letter, number),
-            b'P' => ReportCode::of_refusal(number),
-            b'V' => ReportCode::of_verdict(number),
-            b'I' => ReportCode::of_reason(number),
-            _ => None,
+        for (code, text) in NAMED.iter() {
+            if text.as_bytes() == name {
+                return Some(*code);
+            }
         }
+        None
     }
 
-    fn of_call(letter: u8, number: u16) -> Option<ReportCode> {
-        match (letter, number) {
-            (b'S', 1) => Some(ReportCode::S1),
-            (b'S', 2) => Some(ReportCode::S2),
-            (b'S', 3) => Some(ReportCode::S3),
-            (b'E', 1) => Some(ReportCode::E1),
-            (b'E', 2) => Some(ReportCode::E2),
-            _ => None,
-        }
-    }
-
-    fn of_refusal(number: u16) -> Option<ReportCode> {
-        match number {
-            1 => Some(ReportCode::P1),
-            2 => Some(ReportCode::P2),
-            3 => Some(ReportCode::P3),
-            4 => Some(ReportCode::P4),
-            5 => Some(ReportCode::P5),
-            6 => Some(ReportCode::P6),
-            _ => None,
-        }
-    }
-
-    fn of_verdict(number: u16) -> Option<ReportCode> {
-        match number {
-            1 => Some(ReportCode::V1),
-            2 => Some(ReportCode::V2),
-            3 => Some(ReportCode::V3),
-            4 => Some(ReportCode::V4),
-            5 => Some(ReportCode::V5),
-            6 => Some(ReportCode::V6),
-            7 => Some(ReportCode::V7),
-            8 => Some(ReportCode::V8),
-            9 => Some(ReportCode::V9),
-            _ => None,
-        }
-    }
-
-    fn of_reason(number: u16) -> Option<ReportCode> {
-        match number {
-            1 => Some(ReportCode::I1),
-            2 => Some(ReportCode::I2),
-            3 => Some(ReportCode::I3),
-            4 => Some(ReportCode::I4),
-            5 => Some(ReportCode::I5),
-            6 => Some(ReportCode::I6),
-            7 => Some(ReportCode::I7),
-            8 => Some(ReportCode::I8),
-            9 => Some(ReportCode::I9),
-            10 => Some(ReportCode::I10),
-            11 => Some(ReportCode::I11),
-            12 => Some(ReportCode::I12),
-            13 => Some(ReportCode::I13),
-            _ => None,
-        }
+    fn name(self) -> &'static str {
+        NAMED[self as usize].1
     }
 
     /// What the code means and, if something can be done, what to do.
@@ -233,7 +213,7 @@ impl ReportCode {
 /// The code and its sentence.
 impl fmt::Display for ReportCode {
     fn fmt<W: fmt::Write>(&self, f: &mut fmt::Formatter<W>) -> fmt::Result {
-        write!(f, "{self:?}: {}", self.sentence())
+        write!(f, "{}: {}", self.name(), self.sentence())
     }
 }
 

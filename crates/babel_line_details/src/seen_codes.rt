@@ -3,7 +3,7 @@
 use crate::ReportCode;
 
 /// A set of codes, a bit for each.
-#[derive(Clone, Copy, Debug, PartialEq, Eq)]
+#[derive(Clone, Copy)]
 pub struct SeenCodes(u64);
 
 impl SeenCodes {

@@ -1,8 +1,8 @@
 //! `babel check CONFIG --restore FILE`.
 
 use crate::faults::{Fault, end};
+use crate::reporting::config_in;
 use crate::showing::Status;
-use babel_config::{read_config, read_file};
 use babel_snapshot::SavedState;
 use babel_snapshot_file::read_snapshot;
 use babel_speaker::Speaker;
@@ -43,10 +43,11 @@ pub fn try_check<C: Read + Drop, S: Read + Drop, W: Write>(
 
 /// Reads a configuration of which a speaker can be made.
 fn checked_config<C: Read + Drop>(alloc: Global, config: C) -> Result<Config, Fault> {
-    let octets = read_file(alloc, config)?;
-    let config = read_config(alloc, octets.as_slice())?;
-    config.check()?;
-    Ok(config)
+    let config = config_in(alloc, config)?;
+    match config.check() {
+        Ok(()) => Ok(config),
+        Err(fault) => Err(Fault::Config(fault)),
+    }
 }
 
 fn check_snapshot<S: Read + Drop, W: Write>(

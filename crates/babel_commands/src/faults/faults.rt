@@ -12,7 +12,7 @@ use std::alloc::AllocError;
 use std::fmt;
 
 /// Why a command refuses. The text is the code, with the number that belongs to it.
-#[derive(Clone, Copy, Debug, PartialEq, Eq)]
+#[derive(Clone, Copy)]
 pub enum Fault {
     /// F1 to F6: a file has no configuration or scenario, or an argument isn't a prefix.
     File(FileFault),

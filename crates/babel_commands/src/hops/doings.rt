@@ -6,7 +6,7 @@ use babel_net::Emitted;
 use std::io::{self, Write};
 
 /// Whether what each event did is written.
-#[derive(Clone, Copy, Debug, PartialEq, Eq)]
+#[derive(Clone, Copy)]
 pub enum EventLines {
     /// It isn't.
     Hidden,

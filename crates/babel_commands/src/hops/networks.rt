@@ -3,11 +3,11 @@
 use babel_choice::Selection;
 use babel_config::{HeardDatagram, ScenarioEvent};
 use babel_machine::{Event, StepFault};
-use babel_net::{Emitted, HearFault, Heard, MixedNetwork, Network, node_of};
+use babel_net::{Emitted, HearFault, Heard, MixedNetwork, Network};
 use babel_value::{Addr, Memory, Prefix, RouterId};
 
 /// Why an event of a scenario is refused.
-#[derive(Clone, Copy, Debug, PartialEq, Eq)]
+#[derive(Clone, Copy)]
 pub enum EventFault {
     /// N1 to N7: an event of our nodes.
     Ours(StepFault),
@@ -43,17 +43,8 @@ pub(crate) enum Hop {
 
 /// A network that runs the events of a scenario.
 pub(crate) trait Runs {
-    /// One of its events.
-    type Event;
-
-    /// The node of the event.
-    fn node_of(event: &Self::Event) -> usize;
-
-    /// The event, if it is one of our nodes.
-    fn ours(event: &Self::Event) -> Option<&Event>;
-
     /// Makes the step of the event, or refuses it and changes nothing. Returns what it sent, if the network reports it.
-    fn step(&mut self, event: &Self::Event) -> Result<Option<Emitted>, EventFault>;
+    fn step(&mut self, event: &ScenarioEvent) -> Result<Option<Emitted>, EventFault>;
 
     /// Reserves the room for so many more datagrams.
     fn reserve(&mut self, datagrams: usize) -> Result<(), Memory>;
@@ -70,31 +61,23 @@ pub(crate) trait Runs {
     /// The router that announces the prefix of the node's selected route.
     fn router(&self, node: usize, prefix: &Prefix) -> Option<RouterId>;
 
-    /// Whether a datagram of this number was sent.
-    fn is_sent(&self, number: usize) -> bool;
-
-    /// The node that sent the datagram of this number, and how many octets it has.
+    /// The node that sent the datagram of this number, and how many octets it has, if there is one.
     fn sent_by(&self, number: usize) -> Option<(usize, usize)>;
 }
 
+/// A network of our nodes alone.
 impl Runs for Network {
-    type Event = Event;
-
-    fn node_of(event: &Event) -> usize {
-        node_of(event)
-    }
-
-    fn ours(event: &Event) -> Option<&Event> {
-        Some(event)
-    }
-
-    fn step(&mut self, event: &Event) -> Result<Option<Emitted>, EventFault> {
-        if let Event::Emit { node, now } = *event {
-            return self.emit(node, now).map_err(EventFault::Ours);
-        }
-        match self.step(event) {
-            Ok(()) => Ok(None),
-            Err(fault) => Err(EventFault::Ours(fault)),
+    fn step(&mut self, event: &ScenarioEvent) -> Result<Option<Emitted>, EventFault> {
+        match event {
+            ScenarioEvent::Ours(Event::Emit { node, now }) => {
+                self.emit(*node, *now).map_err(EventFault::Ours)
+            }
+            ScenarioEvent::Ours(event) => match self.step(event) {
+                Ok(()) => Ok(None),
+                Err(fault) => Err(EventFault::Ours(fault)),
+            },
+            // A scenario with such an event runs on a mixed network.
+            ScenarioEvent::Heard(_) => Ok(None),
         }
     }
 
@@ -118,33 +101,14 @@ impl Runs for Network {
         self.router(node, prefix)
     }
 
-    fn is_sent(&self, number: usize) -> bool {
-        self.sent(number).is_some()
-    }
-
     fn sent_by(&self, number: usize) -> Option<(usize, usize)> {
         let (node, _, octets) = self.sent(number)?;
         Some((node, octets.len()))
     }
 }
 
+/// A network of our nodes and routers of others.
 impl Runs for MixedNetwork {
-    type Event = ScenarioEvent;
-
-    fn node_of(event: &ScenarioEvent) -> usize {
-        match event {
-            ScenarioEvent::Ours(event) => node_of(event),
-            ScenarioEvent::Heard(heard) => heard.node,
-        }
-    }
-
-    fn ours(event: &ScenarioEvent) -> Option<&Event> {
-        match event {
-            ScenarioEvent::Ours(event) => Some(event),
-            ScenarioEvent::Heard(_) => None,
-        }
-    }
-
     fn step(&mut self, event: &ScenarioEvent) -> Result<Option<Emitted>, EventFault> {
         match event {
             ScenarioEvent::Ours(event) => self.step(event).map_err(EventFault::Ours)?,
@@ -181,13 +145,25 @@ impl Runs for MixedNetwork {
         self.router(node, prefix)
     }
 
-    fn is_sent(&self, number: usize) -> bool {
-        self.sent(number).is_some()
-    }
-
     fn sent_by(&self, number: usize) -> Option<(usize, usize)> {
         let (node, _, octets) = self.sent(number)?;
         Some((node, octets.len()))
+    }
+}
+
+/// The node of the event.
+pub(crate) fn node_of(event: &ScenarioEvent) -> usize {
+    match event {
+        ScenarioEvent::Ours(event) => babel_net::node_of(event),
+        ScenarioEvent::Heard(heard) => heard.node,
+    }
+}
+
+/// The event, if it is one of our nodes.
+pub(crate) fn ours(event: &ScenarioEvent) -> Option<&Event> {
+    match event {
+        ScenarioEvent::Ours(event) => Some(event),
+        ScenarioEvent::Heard(_) => None,
     }
 }
 

@@ -3,13 +3,13 @@
 use crate::faults::{Fault, end};
 use crate::hops::doings::{Doing, EventLines, write_event};
 use crate::hops::hops::Hops;
-use crate::hops::networks::{EventFault, Runs};
+use crate::hops::networks::{EventFault, Runs, node_of, ours};
 use crate::showing::Status;
 use babel_config::{FileFault, Scenario, ScenarioEvent, read_file, read_scenario};
 use babel_machine::Event;
 use babel_net::{MixedNetwork, Network};
 use babel_text::LineFault;
-use std::alloc::{AllocError, Global};
+use std::alloc::Global;
 use std::io::{Read, Write};
 
 /// Runs the network of the scenario in the file. After each event it writes the next hops that changed, and
@@ -33,15 +33,11 @@ pub fn try_net<R: Read + Drop, W: Write>(
 ) -> Result<(), Fault> {
     let Scenario { configs, events } = scenario_in(alloc, scenario)?;
     let hops = Hops::new(alloc, configs.as_slice())?;
-    match ours_alone(alloc, events.as_slice())? {
-        Some(ours) => {
-            let network = Network::new(alloc, configs)?;
-            run(network, ours.as_slice(), lines, hops, out)
-        }
-        None => {
-            let network = MixedNetwork::new(alloc, configs)?;
-            run(network, events.as_slice(), lines, hops, out)
-        }
+    let events = events.as_slice();
+    if is_ours_alone(events) {
+        run(Network::new(alloc, configs)?, events, lines, hops, out)
+    } else {
+        run(MixedNetwork::new(alloc, configs)?, events, lines, hops, out)
     }
 }
 
@@ -51,28 +47,26 @@ fn scenario_in<R: Read + Drop>(alloc: Global, scenario: R) -> Result<Scenario, F
     read_scenario(alloc, octets.as_slice())
 }
 
-/// The events, if each is one of our nodes.
-fn ours_alone(alloc: Global, events: &[ScenarioEvent]) -> Result<Option<Vec<Event>>, AllocError> {
-    let mut ours = Vec::with_capacity(alloc, events.len())?;
+/// Whether each event is one of our nodes.
+fn is_ours_alone(events: &[ScenarioEvent]) -> bool {
     for event in events {
-        match event {
-            ScenarioEvent::Ours(event) => ours.push(*event)?,
-            ScenarioEvent::Heard(_) => return Ok(None),
+        if ours(event).is_none() {
+            return false;
         }
     }
-    Ok(Some(ours))
+    true
 }
 
 /// Runs the events on a new network.
 fn run<N: Runs + Drop, W: Write>(
     mut network: N,
-    events: &[N::Event],
+    events: &[ScenarioEvent],
     lines: EventLines,
     mut hops: Hops,
     out: &mut W,
 ) -> Result<(), Fault> {
     // Without the room each datagram takes its own, and is refused if there is none.
-    let _ = network.reserve(count_emits::<N>(events));
+    let _ = network.reserve(count_emits(events));
     let outcome = write_events(events, lines, &mut network, &mut hops, out)?;
     out.flush().map_err(LineFault::of_writing)?;
     match outcome {
@@ -82,10 +76,10 @@ fn run<N: Runs + Drop, W: Write>(
 }
 
 /// How many datagrams the events may send.
-fn count_emits<N: Runs>(events: &[N::Event]) -> usize {
+fn count_emits(events: &[ScenarioEvent]) -> usize {
     let mut count = 0usize;
     for event in events {
-        if let Some(Event::Emit { .. }) = N::ours(event) {
+        if let ScenarioEvent::Ours(Event::Emit { .. }) = event {
             count = count.saturating_add(1);
         }
     }
@@ -103,7 +97,7 @@ enum Outcome {
 
 /// Runs the events, up to the first that is refused.
 fn write_events<N: Runs, W: Write>(
-    events: &[N::Event],
+    events: &[ScenarioEvent],
     lines: EventLines,
     network: &mut N,
     hops: &mut Hops,
@@ -111,7 +105,7 @@ fn write_events<N: Runs, W: Write>(
 ) -> Result<Outcome, LineFault> {
     let mut datagrams = 0;
     for (number, event) in events.iter().enumerate() {
-        let node = N::node_of(event);
+        let node = node_of(event);
         let version = network.routes_version(node);
         let emitted = match network.step(event) {
             Ok(emitted) => emitted,
@@ -121,18 +115,18 @@ fn write_events<N: Runs, W: Write>(
             }
         };
         let mut recorded = None;
-        if network.is_sent(datagrams) {
+        if network.sent_by(datagrams).is_some() {
             recorded = Some(datagrams);
             datagrams = datagrams.saturating_add(1);
         }
-        if lines == EventLines::Shown {
+        if matches!(lines, EventLines::Shown) {
             let doing = Doing {
                 number,
                 node,
                 recorded,
                 emitted,
             };
-            write_event(doing, N::ours(event), network, out).map_err(LineFault::of_writing)?;
+            write_event(doing, ours(event), network, out).map_err(LineFault::of_writing)?;
         }
         if may_differ(event, version, network) {
             hops.write_changes(number, node, network, out)?;
@@ -146,11 +140,11 @@ fn write_events<N: Runs, W: Write>(
 
 /// Whether the selected routes of the event's node may be others than when its count of their changes was this. A restart
 /// makes the count again, and at its greatest value it can't grow.
-fn may_differ<N: Runs>(event: &N::Event, version: Option<u64>, network: &N) -> bool {
-    if let Some(Event::Restart { .. }) = N::ours(event) {
+fn may_differ<N: Runs>(event: &ScenarioEvent, version: Option<u64>, network: &N) -> bool {
+    if let ScenarioEvent::Ours(Event::Restart { .. }) = event {
         return true;
     }
-    let now = network.routes_version(N::node_of(event));
+    let now = network.routes_version(node_of(event));
     now != version || now == Some(u64::MAX)
 }
 

@@ -11,7 +11,7 @@ use std::alloc::Global;
 use std::io::{BufRead, BufReader, Read};
 
 /// Why a prefix has no route after a log. Lines count from 1.
-#[derive(Clone, Copy, Debug, PartialEq, Eq)]
+#[derive(Clone, Copy)]
 pub enum Absence {
     /// No Update names it.
     NeverNamed,
@@ -96,7 +96,7 @@ fn record_of<L: BufRead>(
         }
         let event = parse_line(line.as_slice(), octets)?;
         if let Action::Receive { source, octets, .. } = event.action {
-            take_datagram(alloc, &mut record, (number, source, octets), prefix)?;
+            take_datagram(alloc, &mut record, (number, source, octets), prefix);
         }
     }
     Ok(record)
@@ -109,15 +109,13 @@ fn take_datagram(
     record: &mut Record,
     received: (u64, Addr, &[u8]),
     prefix: &Prefix,
-) -> Result<(), LineFault> {
+) {
     let (number, source, octets) = received;
-    let Ok(places) = decode(alloc, octets, source) else {
-        return Ok(());
-    };
-    for place in places.iter() {
-        if let Some(sighting) = sighting_in(place, octets, prefix) {
-            record.take(number, sighting);
+    if let Ok(places) = decode(alloc, octets, source) {
+        for place in places.iter() {
+            if let Some(sighting) = sighting_in(place, octets, prefix) {
+                record.take(number, sighting);
+            }
         }
     }
-    Ok(())
 }

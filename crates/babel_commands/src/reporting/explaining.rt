@@ -1,7 +1,7 @@
 //! `babel explain CONFIG LOG PREFIX`.
 
 use crate::faults::{Fault, end};
-use crate::reporting::replaying::config_in;
+use crate::reporting::config_in;
 use crate::showing::{READ_LEN, Status};
 use babel_config::FileFault;
 use babel_text::{LineFault, parse_prefix};

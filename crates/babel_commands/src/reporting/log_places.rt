@@ -1,5 +1,6 @@
 //! The line of a log that is being read.
 
+use memchr::memchr_iter;
 use std::alloc::Global;
 use std::cell::Cell;
 use std::io::{self, BufRead, BufReader, Read};
@@ -32,7 +33,7 @@ impl<'a, L: Read + Drop> CountingLog<'a, L> {
             return;
         };
         let is_inside = *last != b'\n';
-        let line_feeds = taken.iter().filter(|octet| **octet == b'\n').count();
+        let line_feeds = memchr_iter(b'\n', taken).count();
         self.line_feeds = self.line_feeds.saturating_add(line_feeds as u64);
         self.line
             .set(self.line_feeds.saturating_add(u64::from(is_inside)));

@@ -2,6 +2,7 @@
 
 use crate::showing::READ_LEN;
 use babel_text::parse_u64;
+use memchr::memchr;
 use std::alloc::Global;
 use std::io::{self, BufRead, BufReader, Read};
 
@@ -101,7 +102,7 @@ fn read_front<R: BufRead>(log: &mut R, part: &mut Vec<u8>) -> io::Result<()> {
 
 /// Whether the line's time is later.
 fn is_later(line: &[u8], until: u64) -> bool {
-    let Some(blank) = line.iter().position(|octet| *octet == b' ') else {
+    let Some(blank) = memchr(b' ', line) else {
         return false;
     };
     match str::from_utf8(&line[..blank]) {

@@ -71,10 +71,9 @@ fn names(datagram: &[u8], offset: usize, prefix: &Prefix) -> bool {
 /// Whether the written octets are those of an address from the omitted ones up to the length.
 fn has_octets(written: &[u8], omitted: u8, octets: &[u8], length: u8) -> bool {
     let count = usize::from(length).div_ceil(8);
-    let wanted = octets.iter().take(count).skip(usize::from(omitted));
-    let needed = count.saturating_sub(usize::from(omitted));
-    written.len() >= needed
-        && wanted
-            .zip(written.iter())
-            .all(|(one, other)| *one == *other)
+    match octets.get(usize::from(omitted)..count) {
+        Some(wanted) => written.starts_with(wanted),
+        // All octets are omitted.
+        None => true,
+    }
 }

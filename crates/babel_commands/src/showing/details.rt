@@ -1,7 +1,7 @@
 //! Whether people read what a command writes.
 
 /// Whether a line with a sentence follows the code of a fault.
-#[derive(Clone, Copy, Debug, PartialEq, Eq)]
+#[derive(Clone, Copy, PartialEq, Eq)]
 pub enum Details {
     /// The sentence follows.
     Shown,

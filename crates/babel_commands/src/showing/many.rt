@@ -13,7 +13,7 @@ use std::alloc::Global;
 use std::io::{BufReader, Read, Write};
 
 /// What becomes of a line that can't be read.
-#[derive(Clone, Copy, Debug, PartialEq, Eq)]
+#[derive(Clone, Copy)]
 pub enum BadLines {
     /// The command ends with its code.
     End,
@@ -22,7 +22,7 @@ pub enum BadLines {
 }
 
 /// How `show_lines` reads and writes.
-#[derive(Clone, Copy, Debug)]
+#[derive(Clone, Copy)]
 pub struct LineOptions<'a> {
     /// The source address of a line that has none.
     pub source: &'a str,
@@ -215,7 +215,7 @@ impl Shower {
             fault,
             LineFault::Read | LineFault::Write | LineFault::Memory
         );
-        self.bad_lines == BadLines::GoOn && is_of_input
+        matches!(self.bad_lines, BadLines::GoOn) && is_of_input
     }
 
     /// Shows the datagram of the line, if it has one.

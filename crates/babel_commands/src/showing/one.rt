@@ -49,8 +49,16 @@ pub fn try_show_explained<W: Write, E: Write>(
     err: &mut E,
 ) -> Result<Status, LineFault> {
     let meaning = read_meaning(alloc, source, hex)?;
-    let status = write_whole(&meaning, out)?;
-    explain_meaning(&meaning, Origin::Argument, &mut SeenCodes::new(), out, err)?;
+    write_explained(&meaning, out, err)
+}
+
+fn write_explained<W: Write, E: Write>(
+    meaning: &Result<Vec<Placed>, Refusal>,
+    out: &mut W,
+    err: &mut E,
+) -> Result<Status, LineFault> {
+    let status = write_whole(meaning, out)?;
+    explain_meaning(meaning, Origin::Argument, &mut SeenCodes::new(), out, err)?;
     Ok(status)
 }
 

@@ -91,16 +91,21 @@ fn read_part<R: BufRead>(input: &mut R, line: &mut Vec<u8>) -> Result<Part, Line
 
 /// Whether the line is blank or begins with `#`.
 pub(crate) fn is_skipped(line: &[u8]) -> bool {
-    match line.first() {
-        Some(b'#') => true,
-        _ => line.iter().all(|octet| matches!(*octet, b' ' | b'\t')),
+    if line.first() == Some(&b'#') {
+        return true;
     }
+    for octet in line {
+        if !matches!(*octet, b' ' | b'\t') {
+            return false;
+        }
+    }
+    true
 }
 
 /// The source and the hexadecimal text of a line, which the first blank separates. A line without a
 /// blank has the source that is given.
 pub(crate) fn parse_line(line: &[u8], source: Addr) -> Result<(Addr, &[u8]), LineFault> {
-    let Some(blank) = line.iter().position(|octet| *octet == b' ') else {
+    let Some(blank) = memchr(b' ', line) else {
         return Ok((source, line));
     };
     let Ok(text) = str::from_utf8(&line[..blank]) else {

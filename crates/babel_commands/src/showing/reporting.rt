@@ -17,7 +17,7 @@ pub fn report<E: Write>(fault: LineFault, err: &mut E) -> Status {
 }
 
 /// The code of a line's fault, with the number of the line, as `line 3 L4`.
-#[derive(Clone, Copy, Debug, PartialEq, Eq)]
+#[derive(Clone, Copy)]
 pub struct LineCode {
     /// The number of the line, from 1 on.
     pub number: u64,
