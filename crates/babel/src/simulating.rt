@@ -10,9 +10,9 @@ use babel_config::{FileFault, read_file};
 use babel_file_details::{FileText, explain_topology};
 use babel_line_details::Excerpt;
 use babel_machine::NetFault;
-use babel_simulate::report::{Shown, is_as_expected, write_objects, write_scenario, write_text};
+use babel_outcome::{Outcome, Shown, is_as_expected, write_objects, write_text};
 use babel_simulate::{
-    KeptEvents, Options, Outcome, Progress, Simulation, SimulationFault, configs,
+    KeptEvents, Options, Progress, Simulation, SimulationFault, configs, write_scenario,
 };
 use babel_snapshot_file::replace_file;
 use babel_text::parse_prefix;
@@ -295,7 +295,7 @@ fn refused_at(fault: SimulationFault, at: u64) -> Refused {
 
 fn run_to_end<F: Clock, E: Write + IsTerminal>(
     rt: &F,
-    simulation: &mut Simulation,
+    simulation: &mut Simulation<'_>,
     duration: u64,
     err: &mut E,
 ) -> Result<(), Refused> {
@@ -364,7 +364,7 @@ fn keep_scenario<F: AllocGlobal + Files>(
     rt: &F,
     path: &str,
     topology: &Topology,
-    simulation: &Simulation,
+    simulation: &Simulation<'_>,
 ) -> Result<(), Refused> {
     let Ok(configs) = configs(rt.alloc(), topology) else {
         return Err(Refused::Memory);

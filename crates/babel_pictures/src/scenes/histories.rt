@@ -1,7 +1,7 @@
 //! What each node did with packets to a prefix, from the beginning to the end.
 
 use crate::drawing::{Hop, Row, Span};
-use babel_simulate::report::Shown;
+use babel_outcome::Shown;
 use babel_topology::{Action, NextHop, Node};
 use babel_value::Prefix;
 use std::alloc::{AllocError, Global};

@@ -3,7 +3,7 @@
 use crate::drawing::{DrawnNode, Hop, Mark, Picture, Row, Timeline};
 use crate::scenes::histories::rows_of;
 use crate::scenes::states::links_at;
-use babel_simulate::report::Shown;
+use babel_outcome::Shown;
 use babel_value::Prefix;
 use std::alloc::{AllocError, Global};
 
