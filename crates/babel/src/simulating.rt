@@ -40,7 +40,7 @@ const PATIENCE: u64 = 2;
 const LOOK_AFTER: u64 = 1024;
 
 /// Why a simulation is refused.
-#[derive(Clone, Copy, Debug, PartialEq, Eq)]
+#[derive(Clone, Copy)]
 enum Refused {
     /// F3: the prefix can't be read.
     Prefix,
