@@ -81,16 +81,15 @@ pub fn first_problem(file: &Table) -> Option<Problem<'_>> {
 
 /// The first key that the table lacks.
 fn missing_problem(part: Part, table: &Table) -> Option<Problem<'static>> {
-    let (first, second) = match part {
-        Part::File => ("duration", "node"),
-        Part::Node(_) => ("name", "name"),
-        Part::Link(_) => ("a", "b"),
+    let keys: &[&'static str] = match part {
+        Part::File => &["duration", "node"],
+        Part::Node(_) => &["name"],
+        Part::Link(_) => &["a", "b"],
     };
-    if table.get(first).is_none() {
-        return Some(Problem::at(part, first, Cause::MissingKey));
-    }
-    if table.get(second).is_none() {
-        return Some(Problem::at(part, second, Cause::MissingKey));
+    for key in keys {
+        if table.get(*key).is_none() {
+            return Some(Problem::at(part, *key, Cause::MissingKey));
+        }
     }
     None
 }
