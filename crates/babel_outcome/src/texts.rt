@@ -1,7 +1,7 @@
 //! What people read of a run.
 
 use crate::outcome::{Counts, HopChange, HopKind, Phase, Quality, Route, RouteKind, Tested};
-use crate::shown::{Counted, HopText, Seconds, Shown};
+use crate::shown::{Counted, HopText, Seconds, Shown, StepText};
 use crate::tables::{Column, Side, Table};
 use babel_topology::{NextHop, Step};
 use std::alloc::{AllocError, Global};
@@ -113,11 +113,10 @@ fn push_timeline(shown: &Shown<'_>, table: &mut Table<'_>) -> Result<(), AllocEr
 
 fn push_steps(shown: &Shown<'_>, steps: &[Step], table: &mut Table<'_>) -> Result<(), AllocError> {
     for step in steps {
-        let text = shown.step(step.action);
         table.push(Seconds(step.at))?;
         table.push("")?;
         table.push("")?;
-        table.push(format_args!("-- {text}"))?;
+        table.push(Happened(shown.step(step.action)))?;
     }
     Ok(())
 }
@@ -131,15 +130,33 @@ fn push_change(
     let Some(prefix) = shown.prefix(change.prefix) else {
         return Ok(());
     };
-    let hop = shown.hop(change.hop);
-    let note = match change.kind {
-        HopKind::Onward => "",
-        HopKind::Loop => " (a loop)",
-    };
     table.push(Seconds(change.at))?;
     table.push(shown.name(change.node))?;
     table.push(prefix)?;
-    table.push(format_args!("{hop}{note}"))
+    table.push(Changed(shown.hop(change.hop), change.kind))
+}
+
+/// A step between the next hops that changed, as it is written.
+#[derive(Clone, Copy)]
+struct Happened<'a>(StepText<'a>);
+
+impl fmt::Display for Happened<'_> {
+    fn fmt<W: fmt::Write>(&self, f: &mut fmt::Formatter<W>) -> fmt::Result {
+        write!(f, "-- {}", self.0)
+    }
+}
+
+/// A next hop that changed, and whether it leads on, as it is written.
+#[derive(Clone, Copy)]
+struct Changed<'a>(&'a str, HopKind);
+
+impl fmt::Display for Changed<'_> {
+    fn fmt<W: fmt::Write>(&self, f: &mut fmt::Formatter<W>) -> fmt::Result {
+        match self.1 {
+            HopKind::Onward => f.write_str(self.0),
+            HopKind::Loop => write!(f, "{} (a loop)", self.0),
+        }
+    }
 }
 
 /// Writes how long next hops changed after each change of the plan.
@@ -162,7 +179,7 @@ fn push_phase(shown: &Shown<'_>, phase: &Phase, table: &mut Table<'_>) -> Result
     table.push(phase.octets)?;
     table.push(QualityText(phase.quality))?;
     table.push(BeginText {
-        shown: *shown,
+        shown,
         phase: *phase,
     })
 }
@@ -193,7 +210,7 @@ impl fmt::Display for QualityText {
 /// The steps with which a phase began, as they are written.
 #[derive(Clone, Copy)]
 struct BeginText<'a> {
-    shown: Shown<'a>,
+    shown: &'a Shown<'a>,
     phase: Phase,
 }
 
@@ -295,7 +312,7 @@ fn push_route(shown: &Shown<'_>, route: &Route, table: &mut Table<'_>) -> Result
     table.push(CostText(route.cost))?;
     table.push(CostText(route.shortest))?;
     table.push(WayText {
-        shown: *shown,
+        shown,
         route: *route,
     })
 }
@@ -316,7 +333,7 @@ impl fmt::Display for CostText {
 /// The names of the nodes along a way, and what is wrong with it.
 #[derive(Clone, Copy)]
 struct WayText<'a> {
-    shown: Shown<'a>,
+    shown: &'a Shown<'a>,
     route: Route,
 }
 
