@@ -5,7 +5,7 @@ use std::alloc::{AllocError, Global};
 use std::collections::BTreeMap;
 
 /// A datagram on a link.
-#[derive(Clone, Copy, Debug, PartialEq, Eq)]
+#[derive(Clone, Copy)]
 pub(crate) struct Arrival {
     /// The number of the datagram.
     pub(crate) datagram: usize,
@@ -16,7 +16,7 @@ pub(crate) struct Arrival {
 }
 
 /// Something that happens at a moment.
-#[derive(Clone, Copy, Debug, PartialEq, Eq)]
+#[derive(Clone, Copy)]
 pub(crate) enum Entry {
     /// The expectation of this number is tested.
     Expectation(usize),

@@ -1,9 +1,7 @@
-//! The configurations of a topology.
+//! The speakers of a topology, and their configurations.
 
-use crate::errors::SimulationFault;
-use crate::instances::Instances;
 use babel_state::{Config, Interface};
-use babel_topology::{Action, Node, Topology};
+use babel_topology::{Action, Node, Restarts, Topology};
 use babel_value::{Addr, Family, Prefix};
 use std::alloc::{AllocError, Global};
 
@@ -42,17 +40,17 @@ fn octet_of(number: usize) -> u8 {
 /// The prefixes of a topology, in ascending order.
 pub(crate) fn prefixes_of(alloc: Global, topology: &Topology) -> Result<Vec<Prefix>, AllocError> {
     let mut prefixes = Vec::new(alloc);
-    for node in topology.nodes.iter() {
-        for prefix in node.prefixes.iter() {
+    for node in &topology.nodes {
+        for prefix in &node.prefixes {
             add_prefix(&mut prefixes, *prefix)?;
         }
     }
-    for step in topology.steps.iter() {
+    for step in &topology.steps {
         if let Action::Announce { prefix, .. } = step.action {
             add_prefix(&mut prefixes, prefix)?;
         }
     }
-    for expectation in topology.expectations.iter() {
+    for expectation in &topology.expectations {
         add_prefix(&mut prefixes, expectation.prefix)?;
     }
     prefixes.sort_unstable();
@@ -60,33 +58,62 @@ pub(crate) fn prefixes_of(alloc: Global, topology: &Topology) -> Result<Vec<Pref
 }
 
 fn add_prefix(prefixes: &mut Vec<Prefix>, prefix: Prefix) -> Result<(), AllocError> {
-    if !prefixes.iter().any(|other| *other == prefix) {
-        prefixes.push(prefix)?;
+    for other in prefixes.iter() {
+        if *other == prefix {
+            return Ok(());
+        }
     }
+    prefixes.push(prefix)?;
     Ok(())
 }
 
-/// The configurations of the network that runs a topology: one for each node, and one for each time that a node begins again with
+/// The node that each speaker of the network runs: a speaker for each node, and one for each time that a node begins again with
 /// nothing.
+///
+/// A node that begins again with nothing isn't the router that it was: it has another router-id and other addresses, as RFC 8966,
+/// section 3.2.2, advises routers that keep no seqno. So it is another speaker of the network, which has run nothing until then.
+pub(crate) fn speakers_of(alloc: Global, topology: &Topology) -> Result<Vec<usize>, AllocError> {
+    let mut speakers = Vec::with_capacity(alloc, topology.nodes.len())?;
+    for node in 0..topology.nodes.len() {
+        speakers.push(node)?;
+    }
+    for step in &topology.steps {
+        if let Action::Restart { node } = step.action {
+            if begins_empty(topology, node) {
+                speakers.push(node)?;
+            }
+        }
+    }
+    Ok(speakers)
+}
+
+/// Whether the node begins again with nothing.
+pub(crate) fn begins_empty(topology: &Topology, node: usize) -> bool {
+    match topology.nodes.get(node) {
+        Some(node) => matches!(node.restarts, Restarts::Empty),
+        None => false,
+    }
+}
+
+/// The configurations of the network that runs a topology, one for each speaker.
 ///
 /// # Errors
 ///
-/// `Memory` if an allocation fails.
-pub fn configs(alloc: Global, topology: &Topology) -> Result<Vec<Config>, SimulationFault> {
-    let instances = Instances::new(alloc, topology)?;
-    Ok(configs_of(alloc, topology, &instances)?)
+/// `AllocError` if an allocation fails.
+pub fn configs(alloc: Global, topology: &Topology) -> Result<Vec<Config>, AllocError> {
+    let speakers = speakers_of(alloc, topology)?;
+    configs_of(alloc, topology, &speakers)
 }
 
-/// A configuration for each speaker.
-pub(crate) fn configs_of(
+fn configs_of(
     alloc: Global,
     topology: &Topology,
-    instances: &Instances,
+    speakers: &[usize],
 ) -> Result<Vec<Config>, AllocError> {
-    let mut configs = Vec::with_capacity(alloc, instances.count())?;
-    for speaker in 0..instances.count() {
-        if let Some(node) = instances.node_of(speaker) {
-            configs.push(config_of(alloc, topology, speaker, node)?)?;
+    let mut configs = Vec::with_capacity(alloc, speakers.len())?;
+    for (speaker, number) in speakers.iter().enumerate() {
+        if let Some(node) = topology.nodes.get(*number) {
+            configs.push(config_of(alloc, topology, speaker, (*number, node))?)?;
         }
     }
     Ok(configs)
@@ -96,51 +123,36 @@ fn config_of(
     alloc: Global,
     topology: &Topology,
     speaker: usize,
-    number: usize,
+    (number, node): (usize, &Node),
 ) -> Result<Config, AllocError> {
-    let mut prefixes = Vec::new(alloc);
-    let mut interfaces = Vec::new(alloc);
-    let mut router_id = [0xff; 8];
-    if let Some(node) = topology.nodes.get(number) {
-        add_prefixes(&mut prefixes, topology, number, node)?;
-        router_id = router_id_of(node, speaker, number);
-        if let Some(costs) = topology.interfaces.get(number) {
-            add_interfaces(
-                alloc,
-                &mut interfaces,
-                speaker,
-                node.hello,
-                costs.as_slice(),
-            )?;
-        }
-    }
     Ok(Config {
-        router_id,
+        router_id: router_id_of(node, speaker, number),
         seqno: 0,
         collect: false,
-        prefixes,
-        interfaces,
+        prefixes: prefixes_at(alloc, topology, number, node)?,
+        interfaces: interfaces_at(alloc, topology, speaker, (number, node))?,
     })
 }
 
 /// The prefixes that the node ever announces.
-fn add_prefixes(
-    prefixes: &mut Vec<Prefix>,
+fn prefixes_at(
+    alloc: Global,
     topology: &Topology,
     number: usize,
     node: &Node,
-) -> Result<(), AllocError> {
-    for prefix in node.prefixes.iter() {
-        add_prefix(prefixes, *prefix)?;
+) -> Result<Vec<Prefix>, AllocError> {
+    let mut prefixes = Vec::new(alloc);
+    for prefix in &node.prefixes {
+        add_prefix(&mut prefixes, *prefix)?;
     }
-    for step in topology.steps.iter() {
+    for step in &topology.steps {
         if let Action::Announce { node, prefix } = step.action {
             if node == number {
-                add_prefix(prefixes, prefix)?;
+                add_prefix(&mut prefixes, prefix)?;
             }
         }
     }
-    Ok(())
+    Ok(prefixes)
 }
 
 /// The node's router-id. A later speaker of the node has another one, which no node has by its number.
@@ -161,29 +173,27 @@ fn router_id_of(node: &Node, speaker: usize, number: usize) -> [u8; 8] {
     router_id
 }
 
-fn add_interfaces(
+/// The interfaces of a speaker of the node. A node without links has one too.
+fn interfaces_at(
     alloc: Global,
-    interfaces: &mut Vec<Interface>,
+    topology: &Topology,
     speaker: usize,
-    hello: u16,
-    costs: &[u16],
-) -> Result<(), AllocError> {
+    (number, node): (usize, &Node),
+) -> Result<Vec<Interface>, AllocError> {
+    let costs: &[u16] = match topology.interfaces.get(number) {
+        Some(costs) if !costs.is_empty() => costs,
+        _ => &[UNUSED_COST],
+    };
+    let mut interfaces = Vec::with_capacity(alloc, costs.len())?;
     for (iface, cost) in costs.iter().enumerate() {
-        interfaces.push(interface_of(alloc, speaker, iface, hello, *cost))?;
+        interfaces.push(Interface {
+            transport: Family::Ipv6,
+            ipv4: Some((ipv4_of(speaker, iface), 15)),
+            ipv6: Some(ipv6_of(speaker, iface)),
+            peers: Vec::new(alloc),
+            cost: *cost,
+            hello: node.hello,
+        })?;
     }
-    if costs.is_empty() {
-        interfaces.push(interface_of(alloc, speaker, 0, hello, UNUSED_COST))?;
-    }
-    Ok(())
-}
-
-fn interface_of(alloc: Global, speaker: usize, iface: usize, hello: u16, cost: u16) -> Interface {
-    Interface {
-        transport: Family::Ipv6,
-        ipv4: Some((ipv4_of(speaker, iface), 15)),
-        ipv6: Some(ipv6_of(speaker, iface)),
-        peers: Vec::new(alloc),
-        cost,
-        hello,
-    }
+    Ok(interfaces)
 }

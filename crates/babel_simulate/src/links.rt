@@ -1,11 +1,10 @@
 //! The links, as they are at a moment.
 
-use crate::outcome::Counts;
 use babel_topology::{End, Link, Topology};
 use std::alloc::{AllocError, Global};
 
 /// Whether something works.
-#[derive(Clone, Copy, Debug, PartialEq, Eq)]
+#[derive(Clone, Copy)]
 pub(crate) enum Condition {
     /// It works.
     Up,
@@ -13,8 +12,14 @@ pub(crate) enum Condition {
     Down,
 }
 
+impl Condition {
+    pub(crate) fn is_up(self) -> bool {
+        matches!(self, Condition::Up)
+    }
+}
+
 /// A link at a moment.
-#[derive(Clone, Copy, Debug, PartialEq, Eq)]
+#[derive(Clone, Copy)]
 pub(crate) struct LinkState {
     /// The link, with the loss and the cost that it has now.
     pub(crate) link: Link,
@@ -23,7 +28,7 @@ pub(crate) struct LinkState {
 }
 
 /// A way from a node to a neighbour.
-#[derive(Clone, Copy, Debug, PartialEq, Eq)]
+#[derive(Clone, Copy)]
 pub(crate) struct Way {
     /// The number of the link.
     pub(crate) link: usize,
@@ -41,20 +46,26 @@ pub(crate) struct Links {
 }
 
 impl Links {
-    /// The links of a topology, which all work.
-    pub(crate) fn new(alloc: Global, topology: &Topology) -> Result<Links, AllocError> {
-        let mut states = Vec::with_capacity(alloc, topology.links.len())?;
-        for link in topology.links.iter() {
-            states.push(LinkState {
+    /// No links.
+    pub(crate) fn new(alloc: Global) -> Links {
+        Links {
+            states: Vec::new(alloc),
+            ways: Vec::new(alloc),
+        }
+    }
+
+    /// Adds the links of a topology, which all work.
+    pub(crate) fn add_all(&mut self, alloc: Global, topology: &Topology) -> Result<(), AllocError> {
+        for link in &topology.links {
+            self.states.push(LinkState {
                 link: *link,
                 condition: Condition::Up,
             })?;
         }
-        let mut ways = Vec::with_capacity(alloc, topology.nodes.len())?;
         for node in 0..topology.nodes.len() {
-            ways.push(ways_of(alloc, topology, node)?)?;
+            self.ways.push(ways_of(alloc, topology, node)?)?;
         }
-        Ok(Links { states, ways })
+        Ok(())
     }
 
     /// The link of this number.
@@ -67,28 +78,23 @@ impl Links {
         self.states.as_slice()
     }
 
-    /// The way of this number from the node.
-    pub(crate) fn way(&self, node: usize, number: usize) -> Option<Way> {
-        self.ways.get(node)?.get(number).copied()
-    }
-
-    /// How many ways there are from the node.
-    pub(crate) fn way_count(&self, node: usize) -> usize {
+    /// The ways from the node.
+    pub(crate) fn ways(&self, node: usize) -> &[Way] {
         match self.ways.get(node) {
-            Some(ways) => ways.len(),
-            None => 0,
+            Some(ways) => ways,
+            None => &[],
         }
     }
 
     /// The link from a node to a neighbour, if it carries datagrams.
     pub(crate) fn between(&self, node: usize, next: usize) -> Option<Link> {
-        for number in 0..self.way_count(node) {
-            let way = self.way(node, number)?;
+        for way in self.ways(node) {
             if way.far.node == next {
                 let state = self.get(way.link)?;
-                return match state.condition {
-                    Condition::Up => Some(state.link),
-                    Condition::Down => None,
+                return if state.condition.is_up() {
+                    Some(state.link)
+                } else {
+                    None
                 };
             }
         }
@@ -137,17 +143,4 @@ fn way_over(link: usize, near: End, far: End) -> Way {
         iface: near.iface,
         far,
     }
-}
-
-/// A node at a moment.
-#[derive(Clone, Copy, Debug, PartialEq, Eq)]
-pub(crate) struct NodeState {
-    /// Whether it sends and receives. A node does from its first tick on, and not after a crash.
-    pub(crate) condition: Condition,
-    /// When it is due.
-    pub(crate) wake: u64,
-    /// The count of the changes of its routes when its next hops were looked at.
-    pub(crate) version: Option<u64>,
-    /// What happened at it.
-    pub(crate) counts: Counts,
 }

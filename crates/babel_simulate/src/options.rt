@@ -1,7 +1,7 @@
 //! What a run may be asked for.
 
 /// What a run may be asked for, in addition to the topology.
-#[derive(Clone, Copy, Debug, PartialEq, Eq)]
+#[derive(Clone, Copy)]
 pub struct Options {
     /// The seed of everything that is random.
     pub seed: u64,
@@ -18,7 +18,7 @@ pub struct Options {
 }
 
 /// Whether the events of a run are kept.
-#[derive(Clone, Copy, Debug, PartialEq, Eq)]
+#[derive(Clone, Copy)]
 pub enum KeptEvents {
     /// They are counted.
     Counted,

@@ -1,9 +1,9 @@
 //! How long next hops change after a change of the plan.
 
-use crate::outcome::{Phase, Quality};
+use babel_outcome::{Phase, Quality};
 
 /// How much was sent.
-#[derive(Clone, Copy, Debug, Default, PartialEq, Eq)]
+#[derive(Clone, Copy, Default)]
 pub(crate) struct Traffic {
     /// How many datagrams.
     pub(crate) datagrams: u64,
@@ -20,7 +20,7 @@ impl Traffic {
 }
 
 /// What is measured of the phase that runs.
-#[derive(Clone, Copy, Debug)]
+#[derive(Clone, Copy)]
 pub(crate) struct Measured {
     from: u64,
     first_step: usize,

@@ -13,7 +13,7 @@ use std::alloc::{AllocError, Global};
 pub(crate) const INFINITY: u64 = 65535;
 
 /// A link over which datagrams get, both ways.
-#[derive(Clone, Copy, Debug, PartialEq, Eq)]
+#[derive(Clone, Copy)]
 pub struct Edge {
     /// The number of the node at one end.
     pub a: usize,
@@ -24,7 +24,7 @@ pub struct Edge {
 }
 
 /// Whether a search for shorter ways found one.
-#[derive(Clone, Copy, Debug, PartialEq, Eq)]
+#[derive(Clone, Copy)]
 pub(crate) enum Search {
     /// It did, so that there may be shorter ones.
     GoesOn,

@@ -1,23 +1,23 @@
 //! The run of a network.
 
 use crate::agenda::{Agenda, Entry};
-use crate::building::{configs_of, prefixes_of};
+use crate::building::{begins_empty, configs, prefixes_of, speakers_of};
 use crate::chances::Chances;
 use crate::errors::SimulationFault;
-use crate::hops::Hops;
-use crate::instances::Instances;
-use crate::links::{Condition, Links, NodeState};
+use crate::hops::Origin;
+use crate::links::Condition;
+use crate::moments::{Moment, NodeState};
 use crate::options::Options;
-use crate::outcome::{Counts, HopChange, Phase, Route, Tested};
 use crate::phases::{Measured, Traffic};
 use babel_machine::Event;
 use babel_net::Network;
-use babel_topology::{Action, Expectation, Step, Topology};
+use babel_outcome::{Counts, Outcome};
+use babel_topology::{Action, Node, Topology};
 use babel_value::Prefix;
 use std::alloc::{AllocError, Global};
 
 /// How far a run is.
-#[derive(Clone, Copy, Debug, PartialEq, Eq)]
+#[derive(Clone, Copy)]
 pub enum Progress {
     /// It is at this moment, in centiseconds, and goes on.
     At(u64),
@@ -27,36 +27,26 @@ pub enum Progress {
 
 /// A network that runs.
 #[derive(Drop)]
-pub struct Simulation {
+pub struct Simulation<'a> {
     pub(crate) alloc: Global,
+    pub(crate) topology: &'a Topology,
     pub(crate) options: Options,
     pub(crate) network: Network,
-    pub(crate) instances: Instances,
-    pub(crate) links: Links,
-    pub(crate) nodes: Vec<NodeState>,
-    // of each node, the costs that its interfaces have, and those that they are configured with
-    pub(crate) costs: Vec<Vec<u16>>,
-    pub(crate) configured: Vec<Vec<u16>>,
-    pub(crate) steps: Vec<Step>,
-    pub(crate) empties: Vec<bool>,
-    pub(crate) expectations: Vec<Expectation>,
-    pub(crate) prefixes: Vec<Prefix>,
-    pub(crate) hops: Hops,
+    // the node that each speaker of the network runs
+    pub(crate) speakers: Vec<usize>,
+    pub(crate) moment: Moment,
     pub(crate) agenda: Agenda,
     pub(crate) chances: Chances,
     pub(crate) now: u64,
     pub(crate) sent: Traffic,
     pub(crate) measured: Measured,
     pub(crate) events: Vec<Event>,
-    pub(crate) event_count: u64,
-    pub(crate) changes: Vec<HopChange>,
-    pub(crate) phases: Vec<Phase>,
-    pub(crate) not_shortest: Vec<Vec<Route>>,
+    // what is known so far
+    pub(crate) outcome: Outcome,
     pub(crate) way_count: u64,
-    pub(crate) tested: Vec<Tested>,
 }
 
-impl Simulation {
+impl<'a> Simulation<'a> {
     /// A network of the topology. Each node begins within its first Hello interval, at a moment from the seed.
     ///
     /// # Errors
@@ -64,95 +54,97 @@ impl Simulation {
     /// `Net` if no network can be made of the nodes, `Memory` if an allocation fails.
     pub fn new(
         alloc: Global,
-        topology: &Topology,
+        topology: &'a Topology,
         options: Options,
-    ) -> Result<Simulation, SimulationFault> {
-        let instances = Instances::new(alloc, topology)?;
-        let configs = configs_of(alloc, topology, &instances)?;
-        let prefixes = prefixes_of(alloc, topology)?;
-        let hops = Hops::new(alloc, topology.nodes.len(), prefixes.len())?;
+    ) -> Result<Simulation<'a>, SimulationFault> {
+        let network = Network::new(alloc, configs(alloc, topology)?)?;
         let mut simulation = Simulation {
             alloc,
+            topology,
             options,
-            network: Network::new(alloc, configs)?,
-            instances,
-            links: Links::new(alloc, topology)?,
-            nodes: Vec::with_capacity(alloc, topology.nodes.len())?,
-            costs: costs_of(alloc, topology)?,
-            configured: costs_of(alloc, topology)?,
-            steps: Vec::with_capacity(alloc, topology.steps.len())?,
-            empties: Vec::with_capacity(alloc, topology.nodes.len())?,
-            expectations: Vec::with_capacity(alloc, topology.expectations.len())?,
-            prefixes,
-            hops,
+            network,
+            speakers: Vec::new(alloc),
+            moment: Moment::new(alloc),
             agenda: Agenda::new(alloc),
             chances: Chances::new(options.seed),
             now: 0,
             sent: Traffic::default(),
             measured: Measured::new(0, 0, Traffic::default()),
             events: Vec::new(alloc),
-            event_count: 0,
-            changes: Vec::new(alloc),
-            phases: Vec::new(alloc),
-            not_shortest: Vec::new(alloc),
+            outcome: Outcome::new(alloc),
             way_count: 0,
-            tested: Vec::new(alloc),
         };
-        simulation.add_plan(topology)?;
-        simulation.add_nodes(topology)?;
+        simulation.prepare()?;
         Ok(simulation)
     }
 
+    /// Makes the links and nodes, and plans what happens to them.
+    fn prepare(&mut self) -> Result<(), AllocError> {
+        self.speakers = speakers_of(self.alloc, self.topology)?;
+        self.outcome.prefixes = prefixes_of(self.alloc, self.topology)?;
+        self.moment
+            .prepare(self.alloc, self.topology, self.outcome.prefixes.len())?;
+        self.add_plan()?;
+        self.add_nodes()
+    }
+
     /// What the topology plans and expects happens at its moments: at one moment first the expectations, and then the steps.
-    fn add_plan(&mut self, topology: &Topology) -> Result<(), AllocError> {
+    fn add_plan(&mut self) -> Result<(), AllocError> {
+        let topology = self.topology;
         for (number, expectation) in topology.expectations.iter().enumerate() {
-            self.expectations.push(*expectation)?;
             self.agenda
                 .push(expectation.at, Entry::Expectation(number))?;
         }
         for (number, step) in topology.steps.iter().enumerate() {
-            self.steps.push(*step)?;
-            self.list(step.action);
             self.agenda.push(step.at, Entry::Step(number))?;
-        }
-        Ok(())
-    }
-
-    /// A node is configured with a prefix that it announces later.
-    fn list(&mut self, action: Action) {
-        if let Action::Announce { node, prefix } = action {
-            if let Some(index) = self.index_of(&prefix) {
-                self.hops.list(node, index);
+            // A node is configured with a prefix that it announces later.
+            if let Action::Announce { node, prefix } = step.action {
+                self.set_origin(node, &prefix, Origin::Withheld);
             }
         }
+        Ok(())
     }
 
     /// The nodes begin.
-    fn add_nodes(&mut self, topology: &Topology) -> Result<(), SimulationFault> {
+    fn add_nodes(&mut self) -> Result<(), AllocError> {
+        let topology = self.topology;
         for (number, node) in topology.nodes.iter().enumerate() {
-            let wake = self.chances.below(u64::from(node.hello));
-            self.nodes.push(NodeState {
-                condition: Condition::Down,
-                wake,
-                version: None,
-                counts: Counts::default(),
-            })?;
-            self.empties
-                .push(crate::instances::begins_empty(topology, number))?;
-            self.agenda.push(wake, Entry::Wake(number))?;
-            for prefix in node.prefixes.iter() {
-                if let Some(index) = self.index_of(prefix) {
-                    self.hops.list(number, index);
-                    self.hops.announce(number, index);
-                }
+            self.add_node(number, node)?;
+            for prefix in &node.prefixes {
+                self.set_origin(number, prefix, Origin::Announced);
             }
         }
         Ok(())
+    }
+
+    fn add_node(&mut self, number: usize, node: &Node) -> Result<(), AllocError> {
+        let wake = self.chances.below(u64::from(node.hello));
+        self.agenda.push(wake, Entry::Wake(number))?;
+        self.moment.nodes.push(NodeState {
+            speaker: number,
+            condition: Condition::Down,
+            wake,
+            version: None,
+            counts: Counts::default(),
+        })?;
+        Ok(())
+    }
+
+    /// From now on the node announces the prefix, or not.
+    fn set_origin(&mut self, node: usize, prefix: &Prefix, origin: Origin) {
+        if let Some(index) = self.index_of(prefix) {
+            self.moment.hops.set_origin(node, index, origin);
+        }
     }
 
     /// The index of the prefix.
     pub(crate) fn index_of(&self, prefix: &Prefix) -> Option<usize> {
-        self.prefixes.iter().position(|other| *other == *prefix)
+        for (index, other) in self.outcome.prefixes.iter().enumerate() {
+            if *other == *prefix {
+                return Some(index);
+            }
+        }
+        None
     }
 
     /// Makes what happens next.
@@ -181,30 +173,16 @@ impl Simulation {
         Ok(Progress::At(at))
     }
 
-    /// Makes all that happens.
-    ///
-    /// # Errors
-    ///
-    /// Those of [`Simulation::advance`].
-    pub fn run(&mut self) -> Result<(), SimulationFault> {
-        for _ in 0..u64::MAX {
-            if self.advance()? == Progress::Ended {
-                return Ok(());
-            }
-        }
-        Ok(())
-    }
-
     /// How many octets of memory the record of the datagrams and what else grows with the run take, at most. The network
     /// records each datagram, since the theorem speaks of all that were ever sent. A list that grows has twice its room.
-    pub fn memory(&self) -> u64 {
+    fn memory(&self) -> u64 {
         let recorded = self
             .sent
             .datagrams
             .saturating_mul(RECORDED_LEN)
             .saturating_add(self.sent.octets);
         let events = (self.events.len() as u64).saturating_mul(EVENT_LEN);
-        let changes = (self.changes.len() as u64).saturating_mul(CHANGE_LEN);
+        let changes = (self.outcome.changes.len() as u64).saturating_mul(CHANGE_LEN);
         let ways = self.way_count.saturating_mul(WAY_LEN);
         recorded
             .saturating_add(events)
@@ -220,7 +198,7 @@ impl Simulation {
 
     /// The events so far, if they are kept.
     pub fn events(&self) -> &[Event] {
-        self.events.as_slice()
+        &self.events
     }
 }
 
@@ -235,15 +213,3 @@ const CHANGE_LEN: u64 = 56;
 
 /// How many octets a way takes that is not shortest at the end of a phase.
 const WAY_LEN: u64 = 80;
-
-fn costs_of(alloc: Global, topology: &Topology) -> Result<Vec<Vec<u16>>, AllocError> {
-    let mut all = Vec::with_capacity(alloc, topology.interfaces.len())?;
-    for interfaces in topology.interfaces.iter() {
-        let mut costs = Vec::with_capacity(alloc, interfaces.len())?;
-        for cost in interfaces.iter() {
-            costs.push(*cost)?;
-        }
-        all.push(costs)?;
-    }
-    Ok(all)
-}

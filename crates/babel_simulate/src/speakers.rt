@@ -5,12 +5,12 @@ use crate::building::address_of;
 use crate::errors::SimulationFault;
 use crate::links::{Condition, Way};
 use crate::options::KeptEvents;
-use crate::outcome::HopChange;
-use crate::paths::Moment;
 use crate::simulation::Simulation;
 use babel_machine::Event;
 use babel_net::Emitted;
+use babel_outcome::HopChange;
 use babel_topology::NextHop;
+use std::alloc::AllocError;
 
 /// How many datagrams a speaker sends at one moment at most.
 const MAX_SENT: usize = 1 << 20;
@@ -18,39 +18,53 @@ const MAX_SENT: usize = 1 << 20;
 /// How late a datagram is that others overtake, at most, in centiseconds.
 const MAX_LATENESS: u64 = 100;
 
-impl Simulation {
+impl Simulation<'_> {
     /// Makes an event of the network.
     pub(crate) fn make(&mut self, event: Event) -> Result<(), SimulationFault> {
         self.network.step(&event)?;
-        self.note(event)
+        self.note(event)?;
+        Ok(())
     }
 
-    fn note(&mut self, event: Event) -> Result<(), SimulationFault> {
-        self.event_count = self.event_count.saturating_add(1);
-        if self.options.events == KeptEvents::Kept {
+    fn note(&mut self, event: Event) -> Result<(), AllocError> {
+        self.outcome.events = self.outcome.events.saturating_add(1);
+        if matches!(self.options.events, KeptEvents::Kept) {
             self.events.push(event)?;
         }
         Ok(())
     }
 
-    /// Whether the node sends and receives.
-    pub(crate) fn is_up(&self, node: usize) -> bool {
-        match self.nodes.get(node) {
-            Some(state) => state.condition == Condition::Up,
-            None => false,
+    /// The speaker that runs the node.
+    pub(crate) fn speaker_of(&self, node: usize) -> usize {
+        match self.moment.nodes.get(node) {
+            Some(state) => state.speaker,
+            None => usize::MAX,
+        }
+    }
+
+    /// The node is run by the next speaker that is there for it.
+    pub(crate) fn renew(&mut self, node: usize) {
+        let old = self.speaker_of(node);
+        for (speaker, run) in self.speakers.iter().enumerate() {
+            if *run == node && speaker > old {
+                if let Some(state) = self.moment.nodes.get_mut(node) {
+                    state.speaker = speaker;
+                }
+                return;
+            }
         }
     }
 
     /// The node is due, unless it was due otherwise meanwhile.
     pub(crate) fn wake(&mut self, node: usize) -> Result<(), SimulationFault> {
         let now = self.now;
-        let Some(state) = self.nodes.get_mut(node) else {
+        let Some(state) = self.moment.nodes.get_mut(node) else {
             return Ok(());
         };
         if state.wake != now {
             return Ok(());
         }
-        if state.condition == Condition::Down {
+        if !state.condition.is_up() {
             state.condition = Condition::Up;
             self.restore_settings(node)?;
         }
@@ -60,14 +74,14 @@ impl Simulation {
     /// The node's timers run if it is due, and it sends what it has to send. Then it waits.
     pub(crate) fn settle(&mut self, node: usize) -> Result<(), SimulationFault> {
         let now = self.now;
-        let speaker = self.instances.current(node);
+        let speaker = self.speaker_of(node);
         if self.due_at(speaker) <= now {
             self.make(Event::Tick { node: speaker, now })?;
             self.send_all(node, speaker)?;
         }
         self.see_hops(node, speaker)?;
         let wake = self.due_at(speaker).max(now.saturating_add(1));
-        if let Some(state) = self.nodes.get_mut(node) {
+        if let Some(state) = self.moment.nodes.get_mut(node) {
             if state.wake != wake {
                 state.wake = wake;
                 self.agenda.push(wake, Entry::Wake(node))?;
@@ -96,18 +110,18 @@ impl Simulation {
     }
 
     /// The datagram goes over each link that it is for.
-    fn carry(&mut self, node: usize, emitted: Emitted) -> Result<(), SimulationFault> {
+    fn carry(&mut self, node: usize, emitted: Emitted) -> Result<(), AllocError> {
         let octets = match self.network.sent(emitted.number) {
             Some((_, _, octets)) => octets.len(),
             None => 0,
         };
         self.sent.add(octets);
-        if let Some(state) = self.nodes.get_mut(node) {
+        if let Some(state) = self.moment.nodes.get_mut(node) {
             state.counts.datagrams = state.counts.datagrams.saturating_add(1);
             state.counts.octets = state.counts.octets.saturating_add(octets as u64);
         }
-        for number in 0..self.links.way_count(node) {
-            if let Some(way) = self.links.way(node, number) {
+        for number in 0..self.moment.links.ways(node).len() {
+            if let Some(way) = self.moment.links.ways(node).get(number).copied() {
                 if self.is_for(&emitted, &way) {
                     self.send_over(emitted.number, way)?;
                 }
@@ -122,17 +136,17 @@ impl Simulation {
             return false;
         }
         match emitted.target.to {
-            Some(to) => to == address_of(self.instances.current(way.far.node), way.far.iface),
+            Some(to) => to == address_of(self.speaker_of(way.far.node), way.far.iface),
             None => true,
         }
     }
 
     /// The datagram goes over a link, and is lost or not.
-    fn send_over(&mut self, datagram: usize, way: Way) -> Result<(), SimulationFault> {
-        let Some(state) = self.links.get(way.link) else {
+    fn send_over(&mut self, datagram: usize, way: Way) -> Result<(), AllocError> {
+        let Some(state) = self.moment.links.get(way.link) else {
             return Ok(());
         };
-        if state.condition == Condition::Down || self.chances.is_hit(state.link.loss) {
+        if !state.condition.is_up() || self.chances.is_hit(state.link.loss) {
             self.lose(way.far.node);
             return Ok(());
         }
@@ -150,17 +164,16 @@ impl Simulation {
     }
 
     /// The datagram arrives at the moment, or later if it is late.
-    fn add_arrival(&mut self, at: u64, arrival: Arrival) -> Result<(), SimulationFault> {
+    fn add_arrival(&mut self, at: u64, arrival: Arrival) -> Result<(), AllocError> {
         let mut at = at;
         if self.chances.is_hit(self.options.late) {
             at = at.saturating_add(self.chances.below(MAX_LATENESS).saturating_add(1));
         }
-        self.agenda.push(at, Entry::Arrival(arrival))?;
-        Ok(())
+        self.agenda.push(at, Entry::Arrival(arrival))
     }
 
     fn lose(&mut self, node: usize) {
-        if let Some(state) = self.nodes.get_mut(node) {
+        if let Some(state) = self.moment.nodes.get_mut(node) {
             state.counts.lost = state.counts.lost.saturating_add(1);
         }
     }
@@ -168,22 +181,22 @@ impl Simulation {
     /// A datagram arrives, if the link and the node are up.
     pub(crate) fn arrive(&mut self, arrival: Arrival) -> Result<(), SimulationFault> {
         let Arrival { datagram, link, to } = arrival;
-        let is_carried = match self.links.get(link) {
-            Some(state) => state.condition == Condition::Up,
+        let is_carried = match self.moment.links.get(link) {
+            Some(state) => state.condition.is_up(),
             None => false,
         };
-        if !is_carried || !self.is_up(to.node) {
+        if !is_carried || !self.moment.is_up(to.node) {
             self.lose(to.node);
             return Ok(());
         }
-        if let Some(state) = self.nodes.get_mut(to.node) {
+        if let Some(state) = self.moment.nodes.get_mut(to.node) {
             state.counts.received = state.counts.received.saturating_add(1);
         }
         let Ok(iface) = u8::try_from(to.iface) else {
             return Ok(());
         };
         let now = self.now;
-        let node = self.instances.current(to.node);
+        let node = self.speaker_of(to.node);
         self.make(Event::Deliver {
             datagram,
             node,
@@ -194,16 +207,16 @@ impl Simulation {
     }
 
     /// Looks at the next hops of the node, if they may have changed.
-    pub(crate) fn see_hops(&mut self, node: usize, speaker: usize) -> Result<(), SimulationFault> {
+    pub(crate) fn see_hops(&mut self, node: usize, speaker: usize) -> Result<(), AllocError> {
         let version = self.network.routes_version(speaker);
-        let Some(state) = self.nodes.get_mut(node) else {
+        let Some(state) = self.moment.nodes.get_mut(node) else {
             return Ok(());
         };
         if state.version == version && version != Some(u64::MAX) {
             return Ok(());
         }
         state.version = version;
-        for index in 0..self.prefixes.len() {
+        for index in 0..self.outcome.prefixes.len() {
             let hop = self.hop_of(speaker, index);
             self.see_hop(node, index, hop)?;
         }
@@ -212,14 +225,14 @@ impl Simulation {
 
     /// The next hop of the speaker.
     fn hop_of(&self, speaker: usize, index: usize) -> NextHop {
-        let Some(prefix) = self.prefixes.get(index).copied() else {
+        let Some(prefix) = self.outcome.prefixes.get(index).copied() else {
             return NextHop::Unreachable;
         };
         let Some(next) = self.network.next_hop(speaker, &prefix) else {
             return NextHop::Unreachable;
         };
-        match self.instances.node_of(next) {
-            Some(node) => NextHop::Via(node),
+        match self.speakers.get(next) {
+            Some(node) => NextHop::Via(*node),
             None => NextHop::Unreachable,
         }
     }
@@ -230,17 +243,17 @@ impl Simulation {
         node: usize,
         prefix: usize,
         hop: NextHop,
-    ) -> Result<(), SimulationFault> {
-        if self.hops.get(node, prefix) == hop {
+    ) -> Result<(), AllocError> {
+        if self.moment.hops.get(node, prefix) == hop {
             return Ok(());
         }
-        self.hops.set(node, prefix, hop);
-        let kind = self.moment().kind_of(node, prefix);
+        self.moment.hops.set(node, prefix, hop);
+        let kind = self.moment.kind_of(node, prefix);
         self.measured.add_change(self.now, self.sent);
-        if let Some(state) = self.nodes.get_mut(node) {
+        if let Some(state) = self.moment.nodes.get_mut(node) {
             state.counts.changes = state.counts.changes.saturating_add(1);
         }
-        self.changes.push(HopChange {
+        self.outcome.changes.push(HopChange {
             at: self.now,
             node,
             prefix,
@@ -248,14 +261,5 @@ impl Simulation {
             kind,
         })?;
         Ok(())
-    }
-
-    /// The network as it is now.
-    pub(crate) fn moment(&self) -> Moment<'_> {
-        Moment {
-            nodes: self.nodes.as_slice(),
-            links: &self.links,
-            hops: &self.hops,
-        }
     }
 }

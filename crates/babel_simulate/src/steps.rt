@@ -1,18 +1,21 @@
 //! The steps of the plan, and the tests of what is expected.
 
+use crate::building::begins_empty;
 use crate::errors::SimulationFault;
-use crate::links::Condition;
-use crate::outcome::Tested;
+use crate::hops::Origin;
+use crate::links::{Condition, Way};
 use crate::phases::Measured;
 use crate::simulation::Simulation;
 use babel_machine::Event;
+use babel_outcome::Tested;
 use babel_topology::{Action, End, NextHop};
 use babel_value::Prefix;
+use std::alloc::AllocError;
 
-impl Simulation {
+impl Simulation<'_> {
     /// Makes the step of this number. A phase begins, if none began at this moment.
     pub(crate) fn take_step(&mut self, number: usize) -> Result<(), SimulationFault> {
-        let Some(step) = self.steps.get(number).copied() else {
+        let Some(step) = self.topology.steps.get(number).copied() else {
             return Ok(());
         };
         self.begin_phase(number)?;
@@ -20,7 +23,7 @@ impl Simulation {
     }
 
     /// A phase begins with the step of this number, if none began at this moment.
-    fn begin_phase(&mut self, number: usize) -> Result<(), SimulationFault> {
+    fn begin_phase(&mut self, number: usize) -> Result<(), AllocError> {
         if !self.measured.began_at(self.now) {
             self.end_phase()?;
             self.measured = Measured::new(self.now, number, self.sent);
@@ -33,15 +36,15 @@ impl Simulation {
     fn act(&mut self, action: Action) -> Result<(), SimulationFault> {
         match action {
             Action::Cut { link } => {
-                self.links.set_condition(link, Condition::Down);
+                self.moment.links.set_condition(link, Condition::Down);
                 Ok(())
             }
             Action::Join { link } => {
-                self.links.set_condition(link, Condition::Up);
+                self.moment.links.set_condition(link, Condition::Up);
                 Ok(())
             }
             Action::SetLoss { link, loss } => {
-                self.links.set_loss(link, loss);
+                self.moment.links.set_loss(link, loss);
                 Ok(())
             }
             Action::SetCost { link, cost } => self.change_cost(link, cost),
@@ -53,15 +56,15 @@ impl Simulation {
     }
 
     /// Tests the expectation of this number.
-    pub(crate) fn test(&mut self, number: usize) -> Result<(), SimulationFault> {
-        let Some(expectation) = self.expectations.get(number).copied() else {
+    pub(crate) fn test(&mut self, number: usize) -> Result<(), AllocError> {
+        let Some(expectation) = self.topology.expectations.get(number).copied() else {
             return Ok(());
         };
         let found = match self.index_of(&expectation.prefix) {
-            Some(index) => self.hops.get(expectation.node, index),
+            Some(index) => self.moment.hops.get(expectation.node, index),
             None => NextHop::Unreachable,
         };
-        self.tested.push(Tested {
+        self.outcome.tested.push(Tested {
             expectation: number,
             found,
             is_met: found == expectation.hop,
@@ -70,34 +73,29 @@ impl Simulation {
     }
 
     /// The phase ends now.
-    pub(crate) fn end_phase(&mut self) -> Result<(), SimulationFault> {
-        let prefixes = self.prefixes.len();
+    pub(crate) fn end_phase(&mut self) -> Result<(), AllocError> {
+        let prefixes = self.outcome.prefixes.len();
         let mut ways = Vec::new(self.alloc);
-        let quality = self.moment().quality(self.alloc, prefixes, &mut ways)?;
+        let quality = self.moment.quality(self.alloc, prefixes, &mut ways)?;
         self.way_count = self.way_count.saturating_add(ways.len() as u64);
-        self.not_shortest.push(ways)?;
+        self.outcome.not_shortest.push(ways)?;
         let phase = self.measured.end(self.now, self.sent, quality);
-        self.phases.push(phase)?;
+        self.outcome.phases.push(phase)?;
         Ok(())
     }
 
+    /// The interfaces at both ends of the link have this cost from now on.
     fn change_cost(&mut self, link: usize, cost: u16) -> Result<(), SimulationFault> {
-        let Some(state) = self.links.get(link) else {
+        let Some(state) = self.moment.links.get(link) else {
             return Ok(());
         };
-        self.links.set_cost(link, cost);
+        self.moment.links.set_cost(link, cost);
         self.change_end(state.link.a, cost)?;
         self.change_end(state.link.b, cost)
     }
 
-    /// The interface at an end of a link has this cost from now on.
     fn change_end(&mut self, end: End, cost: u16) -> Result<(), SimulationFault> {
-        if let Some(costs) = self.costs.get_mut(end.node) {
-            if let Some(kept) = costs.get_mut(end.iface) {
-                *kept = cost;
-            }
-        }
-        if !self.is_up(end.node) {
+        if !self.moment.is_up(end.node) {
             return Ok(());
         }
         self.set_cost(end.node, end.iface, cost)?;
@@ -108,7 +106,7 @@ impl Simulation {
         let Ok(iface) = u8::try_from(iface) else {
             return Ok(());
         };
-        let node = self.instances.current(node);
+        let node = self.speaker_of(node);
         self.make(Event::SetCost { node, iface, cost })
     }
 
@@ -116,16 +114,15 @@ impl Simulation {
         let Some(index) = self.index_of(&prefix) else {
             return Ok(());
         };
-        self.hops.announce(node, index);
-        if !self.is_up(node) {
-            return Ok(());
-        }
-        let speaker = self.instances.current(node);
-        self.make(Event::Announce {
-            node: speaker,
-            prefix,
-        })?;
-        self.settle(node)
+        self.moment.hops.set_origin(node, index, Origin::Announced);
+        let speaker = self.speaker_of(node);
+        self.make_if_up(
+            node,
+            Event::Announce {
+                node: speaker,
+                prefix,
+            },
+        )
     }
 
     /// The node announces the prefix no longer, if it does.
@@ -133,31 +130,39 @@ impl Simulation {
         let Some(index) = self.index_of(&prefix) else {
             return Ok(());
         };
-        if !self.hops.announces(node, index) {
+        if !self.moment.hops.announces(node, index) {
             return Ok(());
         }
-        self.hops.withdraw(node, index);
-        if !self.is_up(node) {
+        self.moment.hops.set_origin(node, index, Origin::Withheld);
+        let speaker = self.speaker_of(node);
+        self.make_if_up(
+            node,
+            Event::Withdraw {
+                node: speaker,
+                prefix,
+            },
+        )
+    }
+
+    /// Makes an event of the node, if it is up.
+    fn make_if_up(&mut self, node: usize, event: Event) -> Result<(), SimulationFault> {
+        if !self.moment.is_up(node) {
             return Ok(());
         }
-        let speaker = self.instances.current(node);
-        self.make(Event::Withdraw {
-            node: speaker,
-            prefix,
-        })?;
+        self.make(event)?;
         self.settle(node)
     }
 
     /// The node begins again.
     fn restart(&mut self, node: usize) -> Result<(), SimulationFault> {
         let now = self.now;
-        if self.empties.get(node).copied() == Some(true) {
-            self.instances.renew(node);
+        if begins_empty(self.topology, node) {
+            self.renew(node);
         } else {
-            let speaker = self.instances.current(node);
+            let speaker = self.speaker_of(node);
             self.make(Event::Restart { node: speaker, now })?;
         }
-        if let Some(state) = self.nodes.get_mut(node) {
+        if let Some(state) = self.moment.nodes.get_mut(node) {
             state.condition = Condition::Up;
             state.version = None;
         }
@@ -167,13 +172,13 @@ impl Simulation {
 
     /// The node stops.
     fn crash(&mut self, node: usize) -> Result<(), SimulationFault> {
-        if let Some(state) = self.nodes.get_mut(node) {
+        if let Some(state) = self.moment.nodes.get_mut(node) {
             state.condition = Condition::Down;
             // No moment: a node that is down isn't due.
             state.wake = u64::MAX;
             state.version = None;
         }
-        for index in 0..self.prefixes.len() {
+        for index in 0..self.outcome.prefixes.len() {
             self.see_hop(node, index, NextHop::Unreachable)?;
         }
         Ok(())
@@ -187,10 +192,11 @@ impl Simulation {
     }
 
     fn restore_prefixes(&mut self, node: usize) -> Result<(), SimulationFault> {
-        let speaker = self.instances.current(node);
-        for index in 0..self.prefixes.len() {
-            let prefix = self.prefixes.get(index).copied();
-            if let (Some(prefix), true) = (prefix, self.hops.withholds(node, index)) {
+        let speaker = self.speaker_of(node);
+        for index in 0..self.outcome.prefixes.len() {
+            let prefix = self.outcome.prefixes.get(index).copied();
+            let origin = self.moment.hops.origin(node, index);
+            if let (Some(prefix), Origin::Withheld) = (prefix, origin) {
                 self.make(Event::Withdraw {
                     node: speaker,
                     prefix,
@@ -200,28 +206,22 @@ impl Simulation {
         Ok(())
     }
 
+    /// An interface whose cost changes has one link.
     fn restore_costs(&mut self, node: usize) -> Result<(), SimulationFault> {
-        for iface in 0..self.iface_count(node) {
-            let cost = cost_at(&self.costs, node, iface);
-            if cost != cost_at(&self.configured, node, iface) {
-                self.set_cost(node, iface, cost)?;
+        for number in 0..self.moment.links.ways(node).len() {
+            if let Some(way) = self.moment.links.ways(node).get(number).copied() {
+                if let Some(cost) = self.changed_cost(&way) {
+                    self.set_cost(node, way.iface, cost)?;
+                }
             }
         }
         Ok(())
     }
 
-    fn iface_count(&self, node: usize) -> usize {
-        match self.costs.get(node) {
-            Some(costs) => costs.len(),
-            None => 0,
-        }
-    }
-}
-
-/// The cost of an interface of a node.
-fn cost_at(costs: &[Vec<u16>], node: usize, iface: usize) -> u16 {
-    match costs.get(node) {
-        Some(costs) => costs.get(iface).copied().unwrap_or(0),
-        None => 0,
+    /// The cost of a way, if it isn't that of the topology.
+    fn changed_cost(&self, way: &Way) -> Option<u16> {
+        let cost = self.moment.links.get(way.link)?.link.cost;
+        let configured = self.topology.links.get(way.link)?.cost;
+        if cost == configured { None } else { Some(cost) }
     }
 }

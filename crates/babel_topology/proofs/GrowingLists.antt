@@ -1,11 +1,13 @@
 -- Lists of nodes and links with one more.
-use Rattle.std.proofs.Common.{◌≡◌, ◌<◌, ◌≤◌, ℕ, List, [], ◌∷◌, ◌++◌, Bool, false, Some, None, length, get_or, sym, subst, arith}
+use Rattle.std.proofs.Common.{◌≡◌, ◌<◌, ◌≤◌, ℕ, List, [], ◌∷◌, ◌++◌, Bool, false, Some, None, length, get_or, take, sym, subst, arith}
 use Rattle.std.specs.List.{position, position_or_len}
 use Rattle.std.specs.Prelude.{All}
 use Rattle.std.specs.String.{string_bytes}
 use Rattle.std.specs.Str.{bytes_eq}
 use Rattle.std.proofs.lemmas.Grind.{common_steps}
 use Rattle.std.proofs.Math.ListN.{set}
+use Rattle.std.proofs.lemmas.List.{take_at}
+use Rattle.std.proofs.lemmas.List.Elements.{All-push}
 use Rattle.std.proofs.lemmas.List.Quantifiers.{all_pairs_push}
 use Rattle.std.proofs.lemmas.List.Sums.{fails_before_first}
 use Rattle.babel_topology.specs.declared.topology.Node.{Node}
@@ -17,6 +19,10 @@ pub none_passes : {X : Type 0} → (p : X → Bool) (xs : List X) (k : ℕ) (d :
 none_passes p xs k d none low =
     let end : length xs ≤ position_or_len p xs = grind (arith, common_steps) in
     fails_before_first p xs k d (omega arith)
+
+-- All of a list pass, and so does one more.
+pub all_grows : {X : Type 0} → (P : X → Type 0) (old new : List X) (x : X) → new ≡ old ++ x ∷ [] → P x → All P old → All P new
+all_grows {X = X} P old new x is passes inv = let Q : List X → Type 0 = λ xs. All P xs in subst Q (sym is) (All-push P old x inv passes)
 
 -- A place at which an element passes is one of the list.
 pub position_below : {X : Type 0} → (p : X → Bool) (xs : List X) (i : ℕ) → position p xs ≡ Some i → i < length xs
@@ -57,3 +63,17 @@ pub same_set : (old links : List Link) (i : ℕ) (l e : Link) → HasSameNodes o
     → l.b.node ≡ (get_or links i e).b.node → HasSameNodes old (set links i l)
 same_set old links i l e same low a b =
     (grind (arith, common_steps, same.0), λ k d. (grind (arith, common_steps, same.1 k d, same.1 k e), grind (arith, common_steps, same.1 k d, same.1 k e)))
+
+-- All links that were written back are between the same nodes, and as distinct.
+pub ends_whole : (m count : ℕ) (read links others rest : List Link) (n : ℕ) → m ≡ count → links ≡ read → length others ≡ n → HasSameNodes links others
+    → All (IsBetween m) read → All (IsBetween count) (take n (others ++ rest))
+ends_whole m count read links others rest n is seen whole same all =
+    let A : ℕ → Type 0 = λ x. All (IsBetween x) read in
+    let P : List Link → Type 0 = λ xs. All (IsBetween count) xs in
+    subst P (sym (take_at others rest n whole)) (same_between count links others same (subst P (sym seen) (subst A is all)))
+
+pub once_whole : (read links others rest : List Link) (n : ℕ) → links ≡ read → length others ≡ n → HasSameNodes links others → HasDistinctLinks read
+    → HasDistinctLinks (take n (others ++ rest))
+once_whole read links others rest n seen whole same distinct =
+    let P : List Link → Type 0 = λ xs. HasDistinctLinks xs in
+    subst P (sym (take_at others rest n whole)) (same_distinct links others same (subst P (sym seen) distinct))

@@ -1,5 +1,6 @@
 -- Two parts of a text, numbers, times, and what has them.
 use Rattle.std.proofs.Common.{◌≡◌, ℕ, List, Option, Some, None, sym, subst, ◌∙◌, arith}
+use Rattle.std.specs.Option.{option_zip}
 use Rattle.std.proofs.lemmas.Fmt.{decimal_injective}
 use Rattle.babel_text.specs.Readings.{Reads}
 use Rattle.babel_text.specs.Numbers.{IsNumberText}
@@ -27,6 +28,13 @@ module _ {A B : Type 0} (IsWord : List ℕ → A → Type 0) (IsRest : List ℕ 
   pub no_rest : rest ≡ after_mark blank text → ((b : B) → ¬ (IsRest rest b)) → (p : A × B) → ¬ (IsPair IsWord IsRest text p)
   no_rest follows none p h = none p.1 (rw follows h.2)
 
+  -- What reads both parts reads the pair.
+  pub pair_reads : (a : Option A) (b : Option B) → HasMark blank text → word ≡ before_mark blank text → rest ≡ after_mark blank text
+      → Reads IsWord word a → Reads IsRest rest b → Reads (IsPair IsWord IsRest) text (option_zip a b)
+  pair_reads None b marked is follows none other = no_word is none
+  pair_reads (Some a) None marked is follows first none = no_rest follows none
+  pair_reads (Some a) (Some b) marked is follows first second = pair a b marked is follows first second
+
 -- A text is one number only.
 pub same_number : (text : List ℕ) (m n : ℕ) → IsNumberText 16 text m → IsNumberText 16 text n → m ≡ n
 same_number text m n (small, is) (low, same) = decimal_injective m n (omega arith) (omega arith) (sym is ∙ same)
@@ -36,6 +44,11 @@ pub timed : (text count later unit rest : List ℕ) (n : ℕ) (u : TimeUnit) (ti
     → IsNumberText 16 count n → IsUnitText unit u → time ≡ centiseconds n u → IsTimedText text time rest
 timed text count later unit rest n u time marked is follows again unit_is ends number unit_text same =
     (marked, rw (sym follows) again, rw (sym follows) ends, ((n, u), rw (sym is) number, rw (sym follows) (rw (sym unit_is) unit_text), same))
+
+-- What reads a node is what finds it.
+pub node_reads : (nodes : List Node) (text : List ℕ) (node : Option ℕ) → node ≡ node_named nodes text → Reads (IsNodeText nodes) text node
+node_reads nodes text None is = λ value h. let same : None ≡ Some value = is ∙ h in cc
+node_reads nodes text (Some node) is = sym is
 
 -- What reads a link is what finds it.
 pub link_reads : (nodes : List Node) (links : List Link) (text a b : List ℕ) (x y link : Option ℕ) → HasMark dash text → a ≡ before_mark dash text

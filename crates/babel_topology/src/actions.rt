@@ -45,7 +45,7 @@ fn parse_link_cost(nodes: &[Node], links: &[Link], text: &str) -> Option<(usize,
     ensures { Reads (IsPair (IsLinkText nodes.now links.now) IsCostText) text.now result }
 {
     let (link, cost) = split_word(text)?;
-    Some((find_link(nodes, links, link)?, parse_cost(cost)?))
+    find_link(nodes, links, link).zip(parse_cost(cost))
 }
 
 /// `A-B N %`: a link and what it loses.
@@ -53,7 +53,7 @@ fn parse_link_loss(nodes: &[Node], links: &[Link], text: &str) -> Option<(usize,
     ensures { Reads (IsPair (IsLinkText nodes.now links.now) IsPercentText) text.now result }
 {
     let (link, loss) = split_word(text)?;
-    Some((find_link(nodes, links, link)?, parse_percent(loss)?))
+    find_link(nodes, links, link).zip(parse_percent(loss))
 }
 
 /// `N P`: a node and a prefix.
@@ -61,7 +61,7 @@ fn parse_node_prefix(nodes: &[Node], text: &str) -> Option<(usize, Prefix)>
     ensures { Reads (IsPair (IsNodeText nodes.now) IsPrefixText) text.now result }
 {
     let (node, prefix) = split_word(text)?;
-    Some((find_node(nodes, node)?, parse_prefix(prefix)?))
+    find_node(nodes, node).zip(parse_prefix(prefix))
 }
 
 /// What follows a verb.
@@ -147,7 +147,7 @@ fn parse_route(nodes: &[Node], text: &str) -> Option<(Prefix, NextHop)>
     ensures { Reads (IsRouteText nodes.now) text.now result }
 {
     let (prefix, hop) = split_word(text)?;
-    Some((parse_prefix(prefix)?, parse_hop(nodes, hop)?))
+    parse_prefix(prefix).zip(parse_hop(nodes, hop))
 }
 
 /// `N P via N` or `N P none`: a node, and a prefix and the next hop to it.
@@ -155,7 +155,7 @@ fn parse_node_route(nodes: &[Node], text: &str) -> Option<(usize, (Prefix, NextH
     ensures { Reads (IsPair (IsNodeText nodes.now) (IsRouteText nodes.now)) text.now result }
 {
     let (node, route) = split_word(text)?;
-    Some((find_node(nodes, node)?, parse_route(nodes, route)?))
+    find_node(nodes, node).zip(parse_route(nodes, route))
 }
 
 /// An expectation, as `30 s b 10.0.0.0/8 via a`.

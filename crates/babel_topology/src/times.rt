@@ -8,7 +8,7 @@ use crate::words::split_word;
 use babel_text::parse_u16;
 
 /// A unit of time.
-#[derive(Clone, Copy, Debug, PartialEq, Eq)]
+#[derive(Clone, Copy)]
 pub(crate) enum TimeUnit {
     /// `ms`.
     Milliseconds,

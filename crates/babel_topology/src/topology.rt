@@ -9,7 +9,7 @@ pub const MAX_NODES: usize = 4096;
 pub const MAX_INTERFACES: usize = 8;
 
 /// How a node begins again after a restart or a crash.
-#[derive(Clone, Copy, Debug, PartialEq, Eq)]
+#[derive(Clone, Copy)]
 pub enum Restarts {
     /// With the source table and the own seqno that it had (RFC 8966, sections 3.2.5 and 3.2.2).
     Saved,
@@ -18,7 +18,7 @@ pub enum Restarts {
 }
 
 /// A node.
-#[derive(Debug, Drop)]
+#[derive(Drop)]
 pub struct Node {
     /// Its name. No other node has it.
     pub name: String,
@@ -33,7 +33,7 @@ pub struct Node {
 }
 
 /// Where a link ends: at an interface of a node.
-#[derive(Clone, Copy, Debug, PartialEq, Eq)]
+#[derive(Clone, Copy, PartialEq, Eq)]
 pub struct End {
     /// The number of the node.
     pub node: usize,
@@ -42,7 +42,7 @@ pub struct End {
 }
 
 /// A link between two nodes.
-#[derive(Clone, Copy, Debug, PartialEq, Eq)]
+#[derive(Clone, Copy)]
 pub struct Link {
     /// One end.
     pub a: End,
@@ -57,7 +57,7 @@ pub struct Link {
 }
 
 /// What happens to a link or to a node.
-#[derive(Clone, Copy, Debug, PartialEq, Eq)]
+#[derive(Clone, Copy)]
 pub enum Action {
     /// The link carries nothing any more.
     Cut { link: usize },
@@ -78,7 +78,7 @@ pub enum Action {
 }
 
 /// A step of the plan.
-#[derive(Clone, Copy, Debug, PartialEq, Eq)]
+#[derive(Clone, Copy)]
 pub struct Step {
     /// The moment, in centiseconds from the beginning.
     pub at: u64,
@@ -87,7 +87,7 @@ pub struct Step {
 }
 
 /// Over which node a node is to reach a prefix.
-#[derive(Clone, Copy, Debug, PartialEq, Eq)]
+#[derive(Clone, Copy, PartialEq, Eq)]
 pub enum NextHop {
     /// Over this one.
     Via(usize),
@@ -96,7 +96,7 @@ pub enum NextHop {
 }
 
 /// What is to hold at a moment.
-#[derive(Clone, Copy, Debug, PartialEq, Eq)]
+#[derive(Clone, Copy)]
 pub struct Expectation {
     /// The moment, in centiseconds from the beginning.
     pub at: u64,
@@ -109,7 +109,7 @@ pub struct Expectation {
 }
 
 /// A network, and what happens in it.
-#[derive(Debug, Drop)]
+#[derive(Drop)]
 pub struct Topology {
     /// The nodes, by their numbers from 0 on.
     pub nodes: Vec<Node>,

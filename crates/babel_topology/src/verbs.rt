@@ -4,7 +4,7 @@ ghost use Rattle.babel_text.specs.Readings.{Reads};
 ghost use Rattle.babel_topology.specs.Verbs.{IsVerbText};
 
 /// What happens to a link or to a node.
-#[derive(Clone, Copy, Debug, PartialEq, Eq)]
+#[derive(Clone, Copy)]
 pub(crate) enum Verb {
     /// `cut`.
     Cut,

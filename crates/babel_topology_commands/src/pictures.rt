@@ -1,8 +1,8 @@
 //! The pictures of `simulate`: which are asked for, and their files.
 
 use crate::refusals::Refused;
+use babel_outcome::Shown;
 use babel_pictures::{Picture, Scene, picture_of, write_dot, write_svg};
-use babel_simulate::report::Shown;
 use babel_snapshot_file::replace_file;
 use babel_topology::parse_time;
 use babel_value::Prefix;

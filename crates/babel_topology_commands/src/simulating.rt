@@ -6,8 +6,8 @@ use crate::refusals::{Refused, explain};
 use babel_arguments::{argument, wants_details};
 use babel_commands::{Status, refuse};
 use babel_config::{FileFault, read_file};
-use babel_simulate::report::{Shown, is_as_expected, write_objects, write_scenario, write_text};
-use babel_simulate::{KeptEvents, Options, Outcome, Progress, Simulation, configs};
+use babel_outcome::{Outcome, Shown, is_as_expected, write_objects, write_text};
+use babel_simulate::{KeptEvents, Options, Progress, Simulation, configs, write_scenario};
 use babel_snapshot_file::replace_file;
 use babel_text::parse_prefix;
 use babel_topology::file::read_topology;
@@ -165,7 +165,7 @@ fn run<F: AllocGlobal + Files + Clock, E: Write + IsTerminal>(
 
 fn run_to_end<F: Clock, E: Write + IsTerminal>(
     rt: &F,
-    simulation: &mut Simulation,
+    simulation: &mut Simulation<'_>,
     duration: u64,
     err: &mut E,
 ) -> Result<(), Refused> {
@@ -190,7 +190,7 @@ fn keep_scenario<F: AllocGlobal + Files>(
     rt: &F,
     path: &str,
     topology: &Topology,
-    simulation: &Simulation,
+    simulation: &Simulation<'_>,
 ) -> Result<(), Refused> {
     let mut octets = Vec::new(rt.alloc());
     write_events(rt.alloc(), topology, simulation, &mut octets)?;
@@ -203,7 +203,7 @@ fn keep_scenario<F: AllocGlobal + Files>(
 fn write_events(
     alloc: Global,
     topology: &Topology,
-    simulation: &Simulation,
+    simulation: &Simulation<'_>,
     octets: &mut Vec<u8>,
 ) -> Result<(), Refused> {
     let Ok(configs) = configs(alloc, topology) else {

@@ -125,7 +125,7 @@ fn steps_of<'a>(alloc: Global, problem: &Problem<'a>) -> Result<Vec<Step<'a>>, A
             steps.push(Step::Index(number))?;
         }
     }
-    if problem.cause != Cause::MissingKey {
+    if !matches!(problem.cause, Cause::MissingKey) {
         steps.push(Step::Key(problem.key))?;
     }
     if let Some(index) = problem.index {

@@ -118,7 +118,7 @@ const STEP_FORM: &str =
 'announce A PREFIX', 'withdraw A PREFIX', 'restart A' or 'crash A'";
 
 /// A problem, as it is written.
-#[derive(Clone, Copy, Debug)]
+#[derive(Clone, Copy)]
 struct Sentence<'a>(&'a Problem<'a>);
 
 impl fmt::Display for Sentence<'_> {
@@ -140,7 +140,7 @@ impl fmt::Display for Sentence<'_> {
 }
 
 /// The name of a table, as it is written.
-#[derive(Clone, Copy, Debug)]
+#[derive(Clone, Copy)]
 struct TableName(Part);
 
 impl fmt::Display for TableName {

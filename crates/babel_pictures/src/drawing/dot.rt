@@ -7,9 +7,12 @@ use std::io::{self, Write};
 /// Writes the network of a picture in DOT. A link has no direction, and a next hop has one.
 pub fn write_dot<W: Write>(picture: &Picture, out: &mut W) -> io::Result<()> {
     let title = Quoted(&picture.title);
-    writeln!(out, "digraph {title} {{")?;
-    writeln!(out, "  layout=neato; overlap=false; label={title};")?;
-    writeln!(out, "  node [shape=box, style=rounded];")?;
+    writeln!(
+        out,
+        "digraph {title} {{\n  \
+layout=neato; overlap=false; label={title};\n  \
+node [shape=box, style=rounded];"
+    )?;
     for (number, node) in picture.nodes.iter().enumerate() {
         write_node(number, node, out)?;
     }

@@ -24,15 +24,27 @@ pub fn form_of(alloc: Global, count: usize, links: &[DrawnLink]) -> Result<Form,
         return Ok(Form::Grid(width));
     }
     let degrees = degrees_of(alloc, count, links)?;
-    if let Some(center) = star_center(&degrees, links.len()) {
+    form_by(alloc, &degrees, links)
+}
+
+/// The shape of a network whose nodes have so many links, if it is no grid.
+fn form_by(alloc: Global, degrees: &[usize], links: &[DrawnLink]) -> Result<Form, AllocError> {
+    let count = degrees.len();
+    if let Some(center) = star_center(degrees, links.len()) {
         return Ok(Form::Star(center));
     }
-    if degrees.iter().any(|degree| *degree > 2) {
-        return Ok(Form::Free);
+    let mut end = None;
+    for (node, degree) in degrees.iter().enumerate() {
+        if *degree > 2 {
+            return Ok(Form::Free);
+        }
+        if *degree < 2 && end.is_none() {
+            end = Some(node);
+        }
     }
-    match degrees.iter().position(|degree| *degree < 2) {
-        Some(end) => Ok(line_from(alloc, end, count, links)?),
-        None => Ok(ring_of(alloc, count, links)?),
+    match end {
+        Some(end) => line_from(alloc, end, count, links),
+        None => ring_of(alloc, count, links),
     }
 }
 
@@ -55,7 +67,12 @@ fn star_center(degrees: &[usize], links: usize) -> Option<usize> {
     if others < 3 || links != others {
         return None;
     }
-    degrees.iter().position(|degree| *degree == others)
+    for (node, degree) in degrees.iter().enumerate() {
+        if *degree == others {
+            return Some(node);
+        }
+    }
+    None
 }
 
 fn line_from(
@@ -120,13 +137,15 @@ fn next_node(node: usize, before: usize, links: &[DrawnLink]) -> Option<usize> {
 
 /// The width of the grid that the links make: each goes to the right or down, and none is missing.
 fn grid_width(count: usize, links: &[DrawnLink]) -> Option<usize> {
-    let width = links
-        .iter()
-        .map(|link| link.a.abs_diff(link.b))
-        .find(|step| *step > 1)?;
+    let width = first_step(links)?;
     let rest = count.checked_sub(width)?;
-    if rest < 2 || !links.iter().all(|link| is_in_grid(link, count, width)) {
+    if rest < 2 {
         return None;
+    }
+    for link in links {
+        if !is_in_grid(link, count, width) {
+            return None;
+        }
     }
     // Each node but those of the first row has one above it, and each but the first of a row one on
     // its left.
@@ -137,6 +156,17 @@ fn grid_width(count: usize, links: &[DrawnLink]) -> Option<usize> {
     } else {
         None
     }
+}
+
+/// How far the first link goes that isn't between neighbours of a row.
+fn first_step(links: &[DrawnLink]) -> Option<usize> {
+    for link in links {
+        let step = link.a.abs_diff(link.b);
+        if step > 1 {
+            return Some(step);
+        }
+    }
+    None
 }
 
 fn is_in_grid(link: &DrawnLink, count: usize, width: usize) -> bool {

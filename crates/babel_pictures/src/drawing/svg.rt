@@ -3,7 +3,7 @@
 use crate::drawing::network::write_network;
 use crate::drawing::numbers::{greater, whole};
 use crate::drawing::pictures::Picture;
-use crate::drawing::places::place_nodes;
+use crate::drawing::places::{Layout, place_nodes};
 use crate::drawing::style::STYLE;
 use crate::drawing::texts::{Escaped, Seconds};
 use crate::drawing::timeline::{timeline_height, write_timeline};
@@ -22,6 +22,10 @@ const TOP: i64 = 78;
 /// Writes a picture as SVG.
 pub fn write_svg<W: Write>(alloc: Global, picture: &Picture, out: &mut W) -> io::Result<()> {
     let layout = place_nodes(alloc, picture)?;
+    write_drawing(picture, &layout, out)
+}
+
+fn write_drawing<W: Write>(picture: &Picture, layout: &Layout, out: &mut W) -> io::Result<()> {
     let inner = whole(greater(layout.size.x, 0.0)).clamp(MIN_WIDTH, i64::MAX / 8);
     let width = inner + 2 * MARGIN;
     let drawn = whole(layout.size.y).clamp(0, i64::MAX / 8);
@@ -30,7 +34,7 @@ pub fn write_svg<W: Write>(alloc: Global, picture: &Picture, out: &mut W) -> io:
     write_start(picture, width, height, out)?;
     let indent = MARGIN + (inner - whole(layout.size.x).clamp(0, inner)) / 2;
     writeln!(out, "<g transform=\"translate({indent} {TOP})\">")?;
-    write_network(picture, &layout, out)?;
+    write_network(picture, layout, out)?;
     writeln!(out, "</g>\n<g transform=\"translate({MARGIN} {below})\">")?;
     write_timeline(picture, inner, out)?;
     writeln!(out, "</g>\n</svg>")
@@ -43,34 +47,26 @@ fn write_start<W: Write>(
     height: i64,
     out: &mut W,
 ) -> io::Result<()> {
+    let title = Escaped(&picture.title);
     writeln!(
         out,
         "<svg xmlns=\"http://www.w3.org/2000/svg\" width=\"{width}\" height=\"{height}\" \
-viewBox=\"0 0 {width} {height}\" role=\"img\">"
+viewBox=\"0 0 {width} {height}\" role=\"img\">\n\
+<title>{title}</title>\n\
+{STYLE}\
+<rect class=\"ground\" width=\"{width}\" height=\"{height}\"/>\n\
+<text class=\"title\" x=\"{MARGIN}\" y=\"28\">{title}</text>"
     )?;
-    let title = Escaped(&picture.title);
-    writeln!(out, "<title>{title}</title>")?;
-    out.write_all(STYLE.as_bytes())?;
-    writeln!(
-        out,
-        "<rect class=\"ground\" width=\"{width}\" height=\"{height}\"/>"
-    )?;
-    let moment = Seconds(picture.timeline.moment);
-    writeln!(
-        out,
-        "<text class=\"title\" x=\"{MARGIN}\" y=\"28\">{title}</text>"
-    )?;
-    write_legend(moment, out)
+    write_legend(Seconds(picture.timeline.moment), out)
 }
 
 /// Writes what the lines and boxes mean.
 fn write_legend<W: Write>(moment: Seconds, out: &mut W) -> io::Result<()> {
-    writeln!(
+    write!(
         out,
         "<g transform=\"translate({MARGIN} 50)\">\n\
-<text class=\"quiet\" y=\"4\">after {moment} s:</text>"
-    )?;
-    out.write_all(LEGEND.as_bytes())
+<text class=\"quiet\" y=\"4\">after {moment} s:</text>\n{LEGEND}"
+    )
 }
 
 /// The legend after its first words.

@@ -30,6 +30,9 @@ const STEPS: [u64; 16] = [
     1, 2, 5, 10, 20, 50, 100, 200, 500, 1000, 2000, 3000, 6000, 12000, 30000, 60000,
 ];
 
+/// The classes of the colours of next hops, by their numbers.
+const COLORS: [&str; 8] = ["v0", "v1", "v2", "v3", "v4", "v5", "v6", "v7"];
+
 /// How many lanes there are for the texts of marks.
 fn lane_count(timeline: &Timeline) -> i64 {
     timeline.marks.len().clamp(1, MAX_LANES) as i64
@@ -122,10 +125,10 @@ fn write_axis<W: Write>(scale: &Scale, top: i64, bottom: i64, out: &mut W) -> io
         }
         let x = scale.at(moment);
         let seconds = Seconds(moment);
-        writeln!(out, "<path class=\"line\" d=\"M{x} {top}V{bottom}\"/>")?;
         writeln!(
             out,
-            "<text class=\"quiet\" text-anchor=\"middle\" x=\"{x}\" y=\"{low}\">{seconds} s</text>"
+            "<path class=\"line\" d=\"M{x} {top}V{bottom}\"/>\n\
+<text class=\"quiet\" text-anchor=\"middle\" x=\"{x}\" y=\"{low}\">{seconds} s</text>"
         )?;
     }
     Ok(())
@@ -177,16 +180,16 @@ fn write_bar<W: Write>(
 ) -> io::Result<()> {
     let (x, y) = at;
     let (width, height) = size;
-    let rest = format_args!("x=\"{x}\" y=\"{y}\" width=\"{width}\" height=\"{height}\"");
-    match span.hop {
-        Hop::Announces => writeln!(out, "<rect class=\"own\" {rest}/>"),
-        Hop::Via(next) => {
-            let color = next % 8;
-            writeln!(out, "<rect class=\"v{color}\" {rest}/>")
-        }
-        Hop::Unreachable => writeln!(out, "<rect class=\"none\" {rest}/>"),
-        Hop::Down => writeln!(out, "<rect class=\"down\" {rest}/>"),
-    }
+    let class = match span.hop {
+        Hop::Announces => "own",
+        Hop::Via(next) => COLORS[next % COLORS.len()],
+        Hop::Unreachable => "none",
+        Hop::Down => "down",
+    };
+    writeln!(
+        out,
+        "<rect class=\"{class}\" x=\"{x}\" y=\"{y}\" width=\"{width}\" height=\"{height}\"/>"
+    )
 }
 
 /// Writes what the node does, if there is room.
@@ -289,10 +292,10 @@ fn write_mark<W: Write>(
         Side::Left => ("end", x.saturating_sub(4)),
         Side::Right => ("start", x.saturating_add(4)),
     };
-    writeln!(out, "<path class=\"mark\" d=\"M{x} {y}V{bottom}\"/>")?;
     writeln!(
         out,
-        "<text class=\"quiet\" text-anchor=\"{anchor}\" x=\"{begin}\" y=\"{y}\">{text}</text>"
+        "<path class=\"mark\" d=\"M{x} {y}V{bottom}\"/>\n\
+<text class=\"quiet\" text-anchor=\"{anchor}\" x=\"{begin}\" y=\"{y}\">{text}</text>"
     )
 }
 
@@ -308,9 +311,9 @@ fn write_moment<W: Write>(
     let low = bottom.saturating_add(6);
     let text = bottom.saturating_add(32);
     let high = top.saturating_sub(2);
-    writeln!(out, "<path class=\"moment\" d=\"M{x} {high}V{low}\"/>")?;
     writeln!(
         out,
-        "<text class=\"quiet\" text-anchor=\"middle\" x=\"{x}\" y=\"{text}\">shown above</text>"
+        "<path class=\"moment\" d=\"M{x} {high}V{low}\"/>\n\
+<text class=\"quiet\" text-anchor=\"middle\" x=\"{x}\" y=\"{text}\">shown above</text>"
     )
 }

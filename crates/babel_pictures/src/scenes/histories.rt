@@ -1,8 +1,8 @@
 //! What each node did with packets to a prefix, from the beginning to the end.
 
 use crate::drawing::{Hop, Row, Span};
-use babel_simulate::report::Shown;
-use babel_topology::{Action, NextHop, Node};
+use babel_outcome::Shown;
+use babel_topology::{Action, NextHop, Node, Step};
 use babel_value::Prefix;
 use std::alloc::{AllocError, Global};
 
@@ -68,76 +68,70 @@ pub(crate) fn rows_of(
 ) -> Result<Vec<Row>, AllocError> {
     let mut rows = Vec::with_capacity(alloc, shown.topology.nodes.len())?;
     for (number, node) in shown.topology.nodes.iter().enumerate() {
-        rows.push(row_of(alloc, shown, (number, node), prefix)?)?;
+        let mut spans = Vec::new(alloc);
+        push_spans(shown, (number, node), prefix, &mut spans)?;
+        rows.push(Row { spans })?;
     }
     Ok(rows)
 }
 
-/// The row of a node.
-fn row_of(
-    alloc: Global,
+/// Adds what a node did.
+fn push_spans(
     shown: &Shown<'_>,
-    node: (usize, &Node),
+    (number, node): (usize, &Node),
     prefix: Prefix,
-) -> Result<Row, AllocError> {
-    let (number, node) = node;
-    let origin = if node.prefixes.iter().any(|own| *own == prefix) {
-        Origin::Own
-    } else {
-        Origin::Other
-    };
+    spans: &mut Vec<Span>,
+) -> Result<(), AllocError> {
     let mut state = State {
         power: Power::On,
-        origin,
+        origin: origin_of(node, prefix),
         hop: NextHop::Unreachable,
     };
-    let mut spans = Vec::new(alloc);
-    push_span(&mut spans, 0, state)?;
-    let index = shown
-        .outcome
-        .prefixes
-        .iter()
-        .position(|other| *other == prefix);
+    push_span(spans, 0, state)?;
     let mut next = 0usize;
     for change in &shown.outcome.changes {
-        if change.node != number || Some(change.prefix) != index {
-            continue;
+        if change.node == number && shown.outcome.prefixes.get(change.prefix) == Some(&prefix) {
+            let steps = shown.steps_until(next, change.at);
+            state = take_steps(steps, state, (number, prefix), spans)?;
+            next = next.saturating_add(steps.len());
+            state = state.after(Change::Hop(change.hop));
+            push_span(spans, change.at, state)?;
         }
-        (next, state) = take_steps(
-            shown,
-            (next, state),
-            (number, prefix, change.at),
-            &mut spans,
-        )?;
-        state = state.after(Change::Hop(change.hop));
-        push_span(&mut spans, change.at, state)?;
     }
-    let end = shown.outcome.ended;
-    let _ = take_steps(shown, (next, state), (number, prefix, end), &mut spans)?;
-    Ok(Row { spans })
+    take_steps(
+        shown.steps_until(next, u64::MAX),
+        state,
+        (number, prefix),
+        spans,
+    )?;
+    Ok(())
 }
 
-/// Takes the steps of the plan up to a moment. It returns the number of the next step, and the
-/// state then.
-fn take_steps(
-    shown: &Shown<'_>,
-    begin: (usize, State),
-    what: (usize, Prefix, u64),
-    spans: &mut Vec<Span>,
-) -> Result<(usize, State), AllocError> {
-    let (mut next, mut state) = begin;
-    let (node, prefix, until) = what;
-    for step in shown.topology.steps.iter().skip(next) {
-        if step.at > until {
-            break;
+/// Whether a node announces a prefix at first.
+fn origin_of(node: &Node, prefix: Prefix) -> Origin {
+    for own in &node.prefixes {
+        if *own == prefix {
+            return Origin::Own;
         }
-        next = next.saturating_add(1);
+    }
+    Origin::Other
+}
+
+/// Takes steps of the plan. It returns the state of the node after them.
+fn take_steps(
+    steps: &[Step],
+    begin: State,
+    (node, prefix): (usize, Prefix),
+    spans: &mut Vec<Span>,
+) -> Result<State, AllocError> {
+    let mut state = begin;
+    for step in steps {
         if let Some(change) = change_of(step.action, node, prefix) {
             state = state.after(change);
             push_span(spans, step.at, state)?;
         }
     }
-    Ok((next, state))
+    Ok(state)
 }
 
 /// What an action changes of a node, and of which: of the prefix alone, if there is one.

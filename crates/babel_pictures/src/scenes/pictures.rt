@@ -3,7 +3,7 @@
 use crate::drawing::{DrawnNode, Hop, Mark, Picture, Row, Timeline};
 use crate::scenes::histories::rows_of;
 use crate::scenes::states::links_at;
-use babel_simulate::report::Shown;
+use babel_outcome::Shown;
 use babel_value::Prefix;
 use std::alloc::{AllocError, Global};
 
@@ -22,21 +22,23 @@ pub struct Scene {
 ///
 /// `AllocError` if an allocation fails.
 pub fn picture_of(alloc: Global, shown: &Shown<'_>, scene: Scene) -> Result<Picture, AllocError> {
-    let prefix = scene.prefix;
-    let end = shown.outcome.ended;
-    let moment = scene.at.min(end);
-    let rows = rows_of(alloc, shown, prefix)?;
+    let timeline = timeline_of(alloc, shown, scene)?;
     Ok(Picture {
-        title: format!(in alloc; "Next hops to {prefix}")?,
-        nodes: nodes_at(alloc, shown, &rows, moment)?,
-        links: links_at(alloc, shown, moment)?,
-        timeline: Timeline {
-            begin: 0,
-            end,
-            moment,
-            marks: marks_of(alloc, shown)?,
-            rows,
-        },
+        title: format!(in alloc; "Next hops to {}", scene.prefix)?,
+        nodes: nodes_at(alloc, shown, &timeline.rows, timeline.moment)?,
+        links: links_at(alloc, shown, timeline.moment)?,
+        timeline,
+    })
+}
+
+fn timeline_of(alloc: Global, shown: &Shown<'_>, scene: Scene) -> Result<Timeline, AllocError> {
+    let end = shown.outcome.ended;
+    Ok(Timeline {
+        begin: 0,
+        end,
+        moment: scene.at.min(end),
+        marks: marks_of(alloc, shown)?,
+        rows: rows_of(alloc, shown, scene.prefix)?,
     })
 }
 

@@ -1,7 +1,7 @@
 //! The links as they are at a moment.
 
 use crate::drawing::{DrawnLink, LinkState};
-use babel_simulate::report::Shown;
+use babel_outcome::Shown;
 use babel_topology::{Action, Link};
 use std::alloc::{AllocError, Global};
 

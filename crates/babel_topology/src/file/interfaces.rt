@@ -7,7 +7,7 @@ use crate::MAX_INTERFACES;
 use std::alloc::AllocError;
 
 /// Whether the links of a node share interfaces.
-#[derive(Clone, Copy, Debug, PartialEq, Eq)]
+#[derive(Clone, Copy)]
 pub(crate) enum Sharing {
     /// Each link has an interface of its own.
     Own,
@@ -26,7 +26,7 @@ pub(crate) fn attach(
     ensures kept { Keeps costs.old.items costs.new.items }
     ensures cost { IfOk result (λ found. IfSome found (λ iface. slice_get costs.new.items iface ≡ Some cost)) }
 {
-    if sharing == Sharing::ByCost {
+    if matches!(sharing, Sharing::ByCost) {
         if let Some(iface) = find_cost(costs, cost) {
             return Ok(Some(iface));
         }

@@ -3,7 +3,7 @@
 use std::fmt;
 
 /// What the value at a key is.
-#[derive(Clone, Copy, Debug, PartialEq, Eq)]
+#[derive(Clone, Copy)]
 pub enum Kind {
     /// A name.
     Name,
@@ -34,20 +34,22 @@ pub enum Kind {
 /// What the value must be, after `is not` or `must be`.
 impl fmt::Display for Kind {
     fn fmt<W: fmt::Write>(&self, f: &mut fmt::Formatter<W>) -> fmt::Result {
-        match *self {
-            Kind::Name => f.write_str("the name of a node, without blanks and dashes"),
-            Kind::RouterId => f.write_str("a router-id of 16 hexadecimal digits"),
-            Kind::Prefix => f.write_str("a prefix, as 10.0.0.0/8 or 2001:db8::/32"),
-            Kind::Prefixes => f.write_str("a list of prefixes, as [\"10.0.0.0/8\"]"),
-            Kind::Restarts => f.write_str("\"saved\" or \"empty\""),
-            Kind::Time => f.write_str("a time up to 65535 of a unit, as 20 s, 150 ms or 2 min"),
-            Kind::HelloInterval => f.write_str("a time from 10 ms to 40 s, as 4 s"),
-            Kind::Number(least, greatest) => { write!(f, "a number from {least} to {greatest}") }
-            Kind::Text => f.write_str("a text"),
-            Kind::Texts => f.write_str("a list of texts"),
-            Kind::Tables => f.write_str("tables, as [[node]] or [[link]]"),
-            Kind::Table => f.write_str("a table, as [[node]] or [[link]]"),
-        }
+        f.write_str(match *self {
+            Kind::Name => "the name of a node, without blanks and dashes",
+            Kind::RouterId => "a router-id of 16 hexadecimal digits",
+            Kind::Prefix => "a prefix, as 10.0.0.0/8 or 2001:db8::/32",
+            Kind::Prefixes => "a list of prefixes, as [\"10.0.0.0/8\"]",
+            Kind::Restarts => "\"saved\" or \"empty\"",
+            Kind::Time => "a time up to 65535 of a unit, as 20 s, 150 ms or 2 min",
+            Kind::HelloInterval => "a time from 10 ms to 40 s, as 4 s",
+            Kind::Number(least, greatest) => {
+                return write!(f, "a number from {least} to {greatest}");
+            }
+            Kind::Text => "a text",
+            Kind::Texts => "a list of texts",
+            Kind::Tables => "tables, as [[node]] or [[link]]",
+            Kind::Table => "a table, as [[node]] or [[link]]",
+        })
     }
 }
 

@@ -40,14 +40,21 @@ fn read_node(alloc: Global, number: usize, table: &Table) -> Result<Node, Topolo
     if !is_name(name) {
         return Err(TopologyFault::BadName(number));
     }
-    let hello = time_at(table, "hello").and_then(|time| u16::try_from(time).ok());
     Ok(Node {
         name: name.to_string(alloc)?,
         router_id: router_id_at(table, "router-id").unwrap_or(made_router_id(number)),
         prefixes: read_prefixes(alloc, list_at(table, "prefixes"))?,
-        hello: hello.unwrap_or(DEFAULT_HELLO_INTERVAL),
+        hello: hello_at(table),
         restarts: restarts_at(table, "restarts"),
     })
+}
+
+/// The Hello interval of a node, in centiseconds.
+fn hello_at(table: &Table) -> u16 {
+    match time_at(table, "hello") {
+        Some(time) => u16::try_from(time).unwrap_or(DEFAULT_HELLO_INTERVAL),
+        None => DEFAULT_HELLO_INTERVAL,
+    }
 }
 
 /// Whether the text can be a name: it isn't empty, and has neither a blank nor a dash.

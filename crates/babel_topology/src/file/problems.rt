@@ -6,7 +6,7 @@ use babel_text::{parse_prefix, parse_router_id};
 use toml::{Table, Value};
 
 /// The table that a key is in.
-#[derive(Clone, Copy, Debug, PartialEq, Eq)]
+#[derive(Clone, Copy)]
 pub enum Part {
     /// The file itself.
     File,
@@ -17,7 +17,7 @@ pub enum Part {
 }
 
 /// What is wrong with a key or its value.
-#[derive(Clone, Copy, Debug, PartialEq, Eq)]
+#[derive(Clone, Copy)]
 pub enum Cause<'a> {
     /// The table has no such key.
     UnknownKey,
@@ -32,7 +32,7 @@ pub enum Cause<'a> {
 }
 
 /// What is wrong with a file's tables, and where.
-#[derive(Clone, Copy, Debug, PartialEq, Eq)]
+#[derive(Clone, Copy)]
 pub struct Problem<'a> {
     /// The table in which the key is.
     pub part: Part,
@@ -81,16 +81,15 @@ pub fn first_problem(file: &Table) -> Option<Problem<'_>> {
 
 /// The first key that the table lacks.
 fn missing_problem(part: Part, table: &Table) -> Option<Problem<'static>> {
-    let (first, second) = match part {
-        Part::File => ("duration", "node"),
-        Part::Node(_) => ("name", "name"),
-        Part::Link(_) => ("a", "b"),
+    let keys: &[&'static str] = match part {
+        Part::File => &["duration", "node"],
+        Part::Node(_) => &["name"],
+        Part::Link(_) => &["a", "b"],
     };
-    if table.get(first).is_none() {
-        return Some(Problem::at(part, first, Cause::MissingKey));
-    }
-    if table.get(second).is_none() {
-        return Some(Problem::at(part, second, Cause::MissingKey));
+    for key in keys {
+        if table.get(*key).is_none() {
+            return Some(Problem::at(part, *key, Cause::MissingKey));
+        }
     }
     None
 }
@@ -139,23 +138,24 @@ fn kind_in(part: Part, key: &str) -> Option<Kind> {
 
 fn kind_problem<'a>(part: Part, key: &'a str, kind: Kind, value: &'a Value) -> Option<Problem<'a>> {
     match kind {
-        Kind::Prefixes => list_problem(part, key, Kind::Prefix, value),
-        Kind::Texts => list_problem(part, key, Kind::Text, value),
+        Kind::Prefixes => list_problem(part, key, (kind, Kind::Prefix), value),
+        Kind::Texts => list_problem(part, key, (kind, Kind::Text), value),
         _ => value_problem(part, key, kind, value),
     }
 }
 
-fn list_problem<'a>(part: Part, key: &'a str, kind: Kind, value: &'a Value) -> Option<Problem<'a>> {
+/// The first problem of a list. The kinds are that of the list and that of its items.
+fn list_problem<'a>(
+    part: Part,
+    key: &'a str,
+    (list, item_kind): (Kind, Kind),
+    value: &'a Value,
+) -> Option<Problem<'a>> {
     let Value::Array(items) = value else {
-        let list = if kind == Kind::Prefix {
-            Kind::Prefixes
-        } else {
-            Kind::Texts
-        };
         return Some(Problem::at(part, key, Cause::WrongKind(list)));
     };
     for (index, item) in items.iter().enumerate() {
-        if let Some(problem) = value_problem(part, key, kind, item) {
+        if let Some(problem) = value_problem(part, key, item_kind, item) {
             return Some(Problem {
                 index: Some(index),
                 ..problem

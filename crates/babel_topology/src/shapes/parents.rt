@@ -8,7 +8,7 @@ ghost use Rattle.std.specs.Prelude.{◌≡◌, ◌≢◌, ◌<◌, ℕ, Some, Is
 use crate::MAX_NODES;
 
 /// The shape of a network.
-#[derive(Clone, Copy, Debug, PartialEq, Eq)]
+#[derive(Clone, Copy)]
 pub enum Shape {
     /// Each node is linked to the next, and the last one to the first.
     Ring,
@@ -23,7 +23,7 @@ pub enum Shape {
 }
 
 /// The nodes before a node that it is linked to.
-#[derive(Clone, Copy, Debug, PartialEq, Eq)]
+#[derive(Clone, Copy)]
 pub struct Parents {
     /// One of them.
     pub first: Option<usize>,
@@ -32,7 +32,7 @@ pub struct Parents {
 }
 
 /// A network of so many nodes.
-#[derive(Clone, Copy, Debug, PartialEq, Eq)]
+#[derive(Clone, Copy)]
 pub(crate) struct Layout {
     /// Its shape.
     pub(crate) shape: Shape,

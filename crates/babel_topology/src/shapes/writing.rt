@@ -17,15 +17,12 @@ pub fn write_topology<W: Write>(
     nodes: usize,
     seed: u64,
 ) -> io::Result<()> {
-    writeln!(out, "duration = \"120 s\"")?;
     let written = seed.min(MAX_SEED);
-    writeln!(out, "seed = {written}")?;
-    writeln!(out, "node = [")?;
+    writeln!(out, "duration = \"120 s\"\nseed = {written}\nnode = [")?;
     for node in 0..nodes {
         write_node(out, node)?;
     }
-    writeln!(out, "]")?;
-    writeln!(out, "link = [")?;
+    writeln!(out, "]\nlink = [")?;
     write_links(out, Layout::new(shape, nodes), seed)?;
     writeln!(out, "]")
 }

@@ -1,10 +1,11 @@
 //! Tables whose columns are aligned.
 
 use std::alloc::{AllocError, Global};
+use std::fmt;
 use std::io::{self, Write};
 
 /// On which side of its column a text is.
-#[derive(Clone, Copy, Debug, PartialEq, Eq)]
+#[derive(Clone, Copy)]
 pub(crate) enum Side {
     /// On the left, as names.
     Left,
@@ -33,8 +34,9 @@ impl<'a> Table<'a> {
         }
     }
 
-    /// Adds the next text of the row; after the last one the next row begins.
-    pub(crate) fn push(&mut self, text: String) -> Result<(), AllocError> {
+    /// Adds the next cell of the row; after the last one the next row begins.
+    pub(crate) fn push<T: fmt::Display + Drop>(&mut self, cell: T) -> Result<(), AllocError> {
+        let text = cell.to_string(self.alloc)?;
         self.cells.push(text)?;
         Ok(())
     }
@@ -47,11 +49,11 @@ impl<'a> Table<'a> {
     /// How wide each column is.
     fn widths(&self) -> Result<Vec<usize>, AllocError> {
         let mut widths = Vec::with_capacity(self.alloc, self.columns.len())?;
-        for (_, head) in self.columns.iter() {
+        for (_, head) in self.columns {
             widths.push(head.len())?;
         }
         let mut place = 0;
-        for cell in self.cells.iter() {
+        for cell in &self.cells {
             if let Some(width) = widths.get_mut(place) {
                 *width = (*width).max(cell.chars().count());
             }
@@ -66,16 +68,21 @@ impl<'a> Table<'a> {
         if next < self.columns.len() { next } else { 0 }
     }
 
-    /// Writes the heads and the rows.
-    pub(crate) fn write<W: Write>(&self, out: &mut W) -> io::Result<()> {
+    /// Writes the heads and the rows, with a title above them.
+    pub(crate) fn write<W: Write>(&self, title: &str, out: &mut W) -> io::Result<()> {
+        writeln!(out, "\n{title}:")?;
         let widths = self.widths()?;
+        self.write_cells(&widths, out)
+    }
+
+    fn write_cells<W: Write>(&self, widths: &[usize], out: &mut W) -> io::Result<()> {
         let mut place = 0;
-        for (_, head) in self.columns.iter() {
-            self.write_cell(place, head, widths.as_slice(), out)?;
+        for (_, head) in self.columns {
+            self.write_cell(place, head, widths, out)?;
             place = self.after(place);
         }
-        for cell in self.cells.iter() {
-            self.write_cell(place, cell.as_str(), widths.as_slice(), out)?;
+        for cell in &self.cells {
+            self.write_cell(place, cell, widths, out)?;
             place = self.after(place);
         }
         Ok(())
@@ -92,30 +99,26 @@ impl<'a> Table<'a> {
         let width = widths.get(place).copied().unwrap_or(0);
         let spaces = width.saturating_sub(text.chars().count());
         let is_last = self.after(place) == 0;
-        let side = match self.columns.get(place) {
-            Some((side, _)) => *side,
-            None => Side::Left,
+        let (left, right) = match self.columns.get(place) {
+            Some((Side::Right, _)) => (spaces, 0),
+            _ if is_last => (0, 0),
+            _ => (0, spaces),
         };
-        if place > 0 {
-            out.write_all(b"  ")?;
-        }
-        if side == Side::Right {
-            write_spaces(spaces, out)?;
-        }
-        out.write_all(text.as_bytes())?;
-        if is_last {
-            return out.write_all(b"\n");
-        }
-        if side == Side::Left {
-            write_spaces(spaces, out)?;
-        }
-        Ok(())
+        let between = if place > 0 { "  " } else { "" };
+        let end = if is_last { "\n" } else { "" };
+        write!(out, "{between}{}{text}{}{end}", Spaces(left), Spaces(right))
     }
 }
 
-fn write_spaces<W: Write>(count: usize, out: &mut W) -> io::Result<()> {
-    for _ in 0..count {
-        out.write_all(b" ")?;
+/// So many spaces.
+#[derive(Clone, Copy)]
+struct Spaces(usize);
+
+impl fmt::Display for Spaces {
+    fn fmt<W: fmt::Write>(&self, f: &mut fmt::Formatter<W>) -> fmt::Result {
+        for _ in 0..self.0 {
+            f.write_char(' ')?;
+        }
+        Ok(())
     }
-    Ok(())
 }

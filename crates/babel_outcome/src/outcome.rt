@@ -2,9 +2,10 @@
 
 use babel_topology::NextHop;
 use babel_value::Prefix;
+use std::alloc::Global;
 
 /// Whether a next hop leads on.
-#[derive(Clone, Copy, Debug, PartialEq, Eq)]
+#[derive(Clone, Copy)]
 pub enum HopKind {
     /// The way over it doesn't come back.
     Onward,
@@ -13,7 +14,7 @@ pub enum HopKind {
 }
 
 /// A next hop of a node that changed.
-#[derive(Clone, Copy, Debug, PartialEq, Eq)]
+#[derive(Clone, Copy)]
 pub struct HopChange {
     /// The moment.
     pub at: u64,
@@ -28,7 +29,7 @@ pub struct HopChange {
 }
 
 /// What a node's way to a prefix is worth.
-#[derive(Clone, Copy, Debug, PartialEq, Eq)]
+#[derive(Clone, Copy)]
 pub enum RouteKind {
     /// The node announces the prefix.
     Own,
@@ -48,8 +49,24 @@ pub enum RouteKind {
     Down,
 }
 
+impl RouteKind {
+    /// The word for it.
+    pub(crate) fn word(self) -> &'static str {
+        match self {
+            RouteKind::Own => "own",
+            RouteKind::Shortest => "shortest",
+            RouteKind::Longer => "longer",
+            RouteKind::Missing => "missing",
+            RouteKind::Unreachable => "unreachable",
+            RouteKind::Broken => "broken",
+            RouteKind::Loop => "loop",
+            RouteKind::Down => "down",
+        }
+    }
+}
+
 /// A node's way to a prefix.
-#[derive(Clone, Copy, Debug, PartialEq, Eq)]
+#[derive(Clone, Copy)]
 pub struct Route {
     /// The node.
     pub node: usize,
@@ -66,7 +83,7 @@ pub struct Route {
 }
 
 /// How many ways of nodes to prefixes there are of each kind.
-#[derive(Clone, Copy, Debug, Default, PartialEq, Eq)]
+#[derive(Clone, Copy, Default)]
 pub struct Quality {
     /// Shortest ways.
     pub shortest: usize,
@@ -83,7 +100,7 @@ pub struct Quality {
 }
 
 /// The time from a change of the plan to the next one. The first phase begins with the run.
-#[derive(Clone, Copy, Debug, PartialEq, Eq)]
+#[derive(Clone, Copy)]
 pub struct Phase {
     /// When it began.
     pub from: u64,
@@ -110,7 +127,7 @@ pub struct Phase {
 }
 
 /// What was there when an expectation was tested.
-#[derive(Clone, Copy, Debug, PartialEq, Eq)]
+#[derive(Clone, Copy)]
 pub struct Tested {
     /// The number of the expectation.
     pub expectation: usize,
@@ -121,7 +138,7 @@ pub struct Tested {
 }
 
 /// What happened at a node.
-#[derive(Clone, Copy, Debug, Default, PartialEq, Eq)]
+#[derive(Clone, Copy, Default)]
 pub struct Counts {
     /// How many datagrams it sent.
     pub datagrams: u64,
@@ -138,7 +155,7 @@ pub struct Counts {
 }
 
 /// What is known of a run.
-#[derive(Debug, Drop)]
+#[derive(Drop)]
 pub struct Outcome {
     /// The moment at which it ended.
     pub ended: u64,
@@ -163,4 +180,23 @@ pub struct Outcome {
     pub octets: u64,
     /// How many events the network made.
     pub events: u64,
+}
+
+impl Outcome {
+    /// Nothing is known.
+    pub fn new(alloc: Global) -> Outcome {
+        Outcome {
+            ended: 0,
+            prefixes: Vec::new(alloc),
+            changes: Vec::new(alloc),
+            phases: Vec::new(alloc),
+            not_shortest: Vec::new(alloc),
+            routes: Vec::new(alloc),
+            counts: Vec::new(alloc),
+            tested: Vec::new(alloc),
+            datagrams: 0,
+            octets: 0,
+            events: 0,
+        }
+    }
 }

@@ -29,7 +29,7 @@ pub fn write_scenario<W: Write>(
 }
 
 /// An event, as it is written.
-#[derive(Clone, Copy, Debug)]
+#[derive(Clone, Copy)]
 struct EventText(Event);
 
 impl fmt::Display for EventText {

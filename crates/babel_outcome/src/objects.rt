@@ -1,7 +1,7 @@
 //! What machines read of a run: a JSON object a line. Moments and times are in centiseconds.
 
-use crate::report::shown::Shown;
-use crate::{Counts, HopChange, HopKind, Phase, Route, RouteKind, Tested};
+use crate::outcome::{Counts, HopChange, HopKind, Phase, Route, Tested};
+use crate::shown::Shown;
 use babel_topology::Step;
 use babel_value::Prefix;
 use std::alloc::Global;
@@ -19,15 +19,13 @@ pub fn write_objects<W: Write>(alloc: Global, shown: &Shown<'_>, out: &mut W) ->
         write_phase(phase, out)?;
         write_not_shortest(shown, shown.not_shortest(number), out)?;
     }
-    for route in shown.outcome.routes.iter() {
-        if let Some(prefix) = shown.prefix(route.prefix) {
-            write_route(shown, route, prefix, out)?;
-        }
+    for way in &shown.outcome.routes {
+        write_route(shown, way, out)?;
     }
     for (node, counts) in shown.outcome.counts.iter().enumerate() {
         write_counts(shown, node, counts, out)?;
     }
-    for tested in shown.outcome.tested.iter() {
+    for tested in &shown.outcome.tested {
         write_tested(shown, tested, out)?;
     }
     write_end(shown, out)
@@ -35,43 +33,32 @@ pub fn write_objects<W: Write>(alloc: Global, shown: &Shown<'_>, out: &mut W) ->
 
 /// Writes the next hops that changed, and the steps between them.
 fn write_changes<W: Write>(alloc: Global, shown: &Shown<'_>, out: &mut W) -> io::Result<()> {
-    let mut step = 0;
-    for change in shown.outcome.changes.iter() {
-        step = write_steps(alloc, shown, (step, change.at), out)?;
-        if let Some(prefix) = shown.prefix(change.prefix) {
-            write_change(shown, change, prefix, out)?;
-        }
+    let mut next = 0usize;
+    for change in &shown.outcome.changes {
+        let steps = shown.steps_until(next, change.at);
+        write_steps(alloc, shown, steps, out)?;
+        next = next.saturating_add(steps.len());
+        write_change(shown, change, out)?;
     }
-    write_steps(alloc, shown, (step, u64::MAX), out)?;
-    Ok(())
+    write_steps(alloc, shown, shown.steps_until(next, u64::MAX), out)
 }
 
-/// Writes the steps from this one on that are made by the moment. Returns the number of the next one.
 fn write_steps<W: Write>(
     alloc: Global,
     shown: &Shown<'_>,
-    range: (usize, u64),
+    steps: &[Step],
     out: &mut W,
-) -> io::Result<usize> {
-    let (first, until) = range;
-    let mut next = first;
-    for number in first..shown.topology.steps.len() {
-        let Some(step) = shown.topology.steps.get(number).copied() else {
-            return Ok(next);
-        };
-        if step.at > until || step.at > shown.outcome.ended {
-            return Ok(next);
-        }
+) -> io::Result<()> {
+    for step in steps {
         write_step(alloc, shown, step, out)?;
-        next = number.saturating_add(1);
     }
-    Ok(next)
+    Ok(())
 }
 
 fn write_step<W: Write>(
     alloc: Global,
     shown: &Shown<'_>,
-    step: Step,
+    step: &Step,
     out: &mut W,
 ) -> io::Result<()> {
     let text = format!(in alloc; "{}", shown.step(step.action))?;
@@ -83,13 +70,12 @@ fn write_step<W: Write>(
     )
 }
 
-fn write_change<W: Write>(
-    shown: &Shown<'_>,
-    change: &HopChange,
-    prefix: Prefix,
-    out: &mut W,
-) -> io::Result<()> {
-    let is_loop = change.kind == HopKind::Loop;
+/// Writes a next hop that changed, if its prefix is shown.
+fn write_change<W: Write>(shown: &Shown<'_>, change: &HopChange, out: &mut W) -> io::Result<()> {
+    let Some(prefix) = shown.prefix(change.prefix) else {
+        return Ok(());
+    };
+    let is_loop = matches!(change.kind, HopKind::Loop);
     writeln!(
         out,
         "{{\"type\":\"hop\",\"time\":{},\"node\":\"{}\",\"prefix\":\"{prefix}\",\"via\":{},\"loop\":{is_loop}}}",
@@ -129,60 +115,58 @@ fn write_not_shortest<W: Write>(shown: &Shown<'_>, ways: &[Route], out: &mut W) 
     out.write_all(b",\"not_shortest\":[")?;
     let mut separator = "";
     for way in ways {
-        if let Some(prefix) = shown.prefix(way.prefix) {
-            write!(out, "{separator}{{")?;
-            write_way(shown, way, prefix, out)?;
-            out.write_all(b"}")?;
+        if let Some(keys) = keys_of(shown, way) {
+            write!(out, "{separator}{{{keys}}}")?;
             separator = ",";
         }
     }
     out.write_all(b"]}\n")
 }
 
-fn write_route<W: Write>(
-    shown: &Shown<'_>,
-    route: &Route,
-    prefix: Prefix,
-    out: &mut W,
-) -> io::Result<()> {
-    out.write_all(b"{\"type\":\"route\",")?;
-    write_way(shown, route, prefix, out)?;
-    out.write_all(b"}\n")
+/// Writes a way at the end, if its prefix is shown.
+fn write_route<W: Write>(shown: &Shown<'_>, way: &Route, out: &mut W) -> io::Result<()> {
+    match keys_of(shown, way) {
+        Some(keys) => writeln!(out, "{{\"type\":\"route\",{keys}}}"),
+        None => Ok(()),
+    }
 }
 
-/// Writes the keys of a way.
-fn write_way<W: Write>(
-    shown: &Shown<'_>,
-    route: &Route,
-    prefix: Prefix,
-    out: &mut W,
-) -> io::Result<()> {
-    write!(
-        out,
-        "\"node\":\"{}\",\"prefix\":\"{prefix}\",\"via\":{}",
-        Escaped(shown.name(route.node)),
-        Via(shown.via(route.hop))
-    )?;
-    write!(
-        out,
-        ",\"cost\":{},\"shortest\":{},\"kind\":\"{}\"",
-        Maybe(route.cost),
-        Maybe(route.shortest),
-        kind_of(route.kind)
-    )
+/// The keys of a way as JSON, if its prefix is shown.
+fn keys_of<'a>(shown: &Shown<'a>, way: &Route) -> Option<WayKeys<'a>> {
+    let prefix = shown.prefix(way.prefix)?;
+    Some(WayKeys {
+        name: shown.name(way.node),
+        prefix,
+        via: shown.via(way.hop),
+        way: *way,
+    })
 }
 
-/// The word for what a way is worth.
-pub(crate) fn kind_of(kind: RouteKind) -> &'static str {
-    match kind {
-        RouteKind::Own => "own",
-        RouteKind::Shortest => "shortest",
-        RouteKind::Longer => "longer",
-        RouteKind::Missing => "missing",
-        RouteKind::Unreachable => "unreachable",
-        RouteKind::Broken => "broken",
-        RouteKind::Loop => "loop",
-        RouteKind::Down => "down",
+/// The keys of a way as JSON.
+#[derive(Clone, Copy)]
+struct WayKeys<'a> {
+    name: &'a str,
+    prefix: Prefix,
+    via: Option<&'a str>,
+    way: Route,
+}
+
+impl fmt::Display for WayKeys<'_> {
+    fn fmt<W: fmt::Write>(&self, f: &mut fmt::Formatter<W>) -> fmt::Result {
+        write!(
+            f,
+            "\"node\":\"{}\",\"prefix\":\"{}\",\"via\":{}",
+            Escaped(self.name),
+            self.prefix,
+            Via(self.via)
+        )?;
+        write!(
+            f,
+            ",\"cost\":{},\"shortest\":{},\"kind\":\"{}\"",
+            Maybe(self.way.cost),
+            Maybe(self.way.shortest),
+            self.way.kind.word()
+        )
     }
 }
 
@@ -246,7 +230,7 @@ impl fmt::Display for Via<'_> {
 }
 
 /// A number as JSON, or no value.
-#[derive(Clone, Copy, Debug)]
+#[derive(Clone, Copy)]
 struct Maybe(Option<u64>);
 
 impl fmt::Display for Maybe {
@@ -259,7 +243,7 @@ impl fmt::Display for Maybe {
 }
 
 /// A text within the quotes of JSON.
-#[derive(Clone, Copy, Debug)]
+#[derive(Clone, Copy)]
 struct Escaped<'a>(&'a str);
 
 impl fmt::Display for Escaped<'_> {

@@ -1,25 +1,41 @@
-//! The ways that the next hops lead, and the shortest ways, which a plain search finds.
+//! A network at a moment: the ways that the next hops lead, and the shortest ways, which a plain
+//! search finds.
 
 use crate::hops::Hops;
-use crate::links::{Condition, LinkState, Links, NodeState};
-use crate::outcome::{HopKind, Quality, Route, RouteKind};
+use crate::links::{Condition, LinkState, Links};
 use crate::shortest::{Edge, INFINITY, shortest_ways};
-use babel_topology::{Link, NextHop};
+use babel_outcome::{Counts, HopKind, Quality, Route, RouteKind};
+use babel_topology::{Link, NextHop, Topology};
 use std::alloc::{AllocError, Global};
 
-/// A network at a moment.
+/// A node at a moment.
 #[derive(Clone, Copy)]
-pub(crate) struct Moment<'a> {
+pub(crate) struct NodeState {
+    /// The speaker of the network that runs it.
+    pub(crate) speaker: usize,
+    /// Whether it sends and receives. A node does from its first tick on, and not after a crash.
+    pub(crate) condition: Condition,
+    /// When it is due.
+    pub(crate) wake: u64,
+    /// The count of the changes of its routes when its next hops were looked at.
+    pub(crate) version: Option<u64>,
+    /// What happened at it.
+    pub(crate) counts: Counts,
+}
+
+/// A network at a moment.
+#[derive(Drop)]
+pub(crate) struct Moment {
     /// The nodes.
-    pub(crate) nodes: &'a [NodeState],
+    pub(crate) nodes: Vec<NodeState>,
     /// The links.
-    pub(crate) links: &'a Links,
+    pub(crate) links: Links,
     /// The next hops.
-    pub(crate) hops: &'a Hops,
+    pub(crate) hops: Hops,
 }
 
 /// Where the way over the next hops leads.
-#[derive(Clone, Copy, Debug, PartialEq, Eq)]
+#[derive(Clone, Copy)]
 pub(crate) enum Walk {
     /// To a node that announces the prefix, at this cost.
     Arrives(u64),
@@ -29,10 +45,31 @@ pub(crate) enum Walk {
     ComesBack,
 }
 
-impl Moment<'_> {
-    fn is_up(&self, node: usize) -> bool {
+impl Moment {
+    /// No nodes, links or next hops.
+    pub(crate) fn new(alloc: Global) -> Moment {
+        Moment {
+            nodes: Vec::new(alloc),
+            links: Links::new(alloc),
+            hops: Hops::new(alloc),
+        }
+    }
+
+    /// Makes the links of a topology, and the room for next hops to so many prefixes.
+    pub(crate) fn prepare(
+        &mut self,
+        alloc: Global,
+        topology: &Topology,
+        prefixes: usize,
+    ) -> Result<(), AllocError> {
+        self.hops = Hops::of(alloc, topology.nodes.len(), prefixes)?;
+        self.links.add_all(alloc, topology)
+    }
+
+    /// Whether the node sends and receives.
+    pub(crate) fn is_up(&self, node: usize) -> bool {
         match self.nodes.get(node) {
-            Some(state) => state.condition == Condition::Up,
+            Some(state) => state.condition.is_up(),
             None => false,
         }
     }
@@ -76,7 +113,7 @@ impl Moment<'_> {
     pub(crate) fn distances(&self, alloc: Global, prefix: usize) -> Result<Vec<u64>, AllocError> {
         let origins = self.origins(alloc, prefix)?;
         let edges = self.edges(alloc)?;
-        shortest_ways(alloc, origins.as_slice(), edges.as_slice())
+        shortest_ways(alloc, &origins, &edges)
     }
 
     /// For each node whether it announces the prefix.
@@ -101,7 +138,7 @@ impl Moment<'_> {
 
     /// Whether datagrams get over the link.
     fn carries(&self, state: &LinkState) -> bool {
-        state.condition == Condition::Up
+        state.condition.is_up()
             && state.link.loss < 100
             && self.is_up(state.link.a.node)
             && self.is_up(state.link.b.node)
@@ -140,13 +177,11 @@ impl Moment<'_> {
         if self.hops.announces(node, prefix) {
             return RouteKind::Own;
         }
-        if self.hops.get(node, prefix) == NextHop::Unreachable {
-            return match shortest {
+        match walk {
+            _ if matches!(self.hops.get(node, prefix), NextHop::Unreachable) => match shortest {
                 Some(_) => RouteKind::Missing,
                 None => RouteKind::Unreachable,
-            };
-        }
-        match walk {
+            },
             Walk::Arrives(cost) if Some(cost) == shortest => RouteKind::Shortest,
             Walk::Arrives(_) => RouteKind::Longer,
             Walk::Ends => RouteKind::Broken,
@@ -154,16 +189,28 @@ impl Moment<'_> {
         }
     }
 
-    /// Adds the ways of all nodes to the prefix.
-    pub(crate) fn add_routes(
+    /// For each of so many prefixes the costs of the shortest ways.
+    pub(crate) fn all_distances(
         &self,
         alloc: Global,
-        prefix: usize,
+        prefixes: usize,
+    ) -> Result<Vec<Vec<u64>>, AllocError> {
+        let mut all = Vec::with_capacity(alloc, prefixes)?;
+        for prefix in 0..prefixes {
+            all.push(self.distances(alloc, prefix)?)?;
+        }
+        Ok(all)
+    }
+
+    /// Adds the ways of the node to each prefix.
+    pub(crate) fn add_routes(
+        &self,
+        node: usize,
+        distances: &[Vec<u64>],
         routes: &mut Vec<Route>,
     ) -> Result<(), AllocError> {
-        let distances = self.distances(alloc, prefix)?;
-        for node in 0..self.nodes.len() {
-            routes.push(self.route(node, prefix, distances.as_slice()))?;
+        for (prefix, distances) in distances.iter().enumerate() {
+            routes.push(self.route(node, prefix, distances))?;
         }
         Ok(())
     }
@@ -178,15 +225,27 @@ impl Moment<'_> {
         let mut quality = Quality::default();
         for prefix in 0..prefixes {
             let distances = self.distances(alloc, prefix)?;
-            for node in 0..self.nodes.len() {
-                let route = self.route(node, prefix, distances.as_slice());
-                add_kind(&mut quality, route.kind);
-                if is_not_shortest(route.kind) {
-                    not_shortest.push(route)?;
-                }
-            }
+            self.add_qualities(prefix, &distances, &mut quality, not_shortest)?;
         }
         Ok(quality)
+    }
+
+    /// Adds what the ways of all nodes to the prefix are worth.
+    fn add_qualities(
+        &self,
+        prefix: usize,
+        distances: &[u64],
+        quality: &mut Quality,
+        not_shortest: &mut Vec<Route>,
+    ) -> Result<(), AllocError> {
+        for node in 0..self.nodes.len() {
+            let route = self.route(node, prefix, distances);
+            add_kind(quality, route.kind);
+            if is_not_shortest(route.kind) {
+                not_shortest.push(route)?;
+            }
+        }
+        Ok(())
     }
 }
 

@@ -1,7 +1,7 @@
 //! What is shown of a run, and the texts of its parts.
 
-use crate::{Outcome, Route};
-use babel_topology::{Action, Expectation, NextHop, Topology};
+use crate::outcome::{Outcome, Phase, Route};
+use babel_topology::{Action, Expectation, NextHop, Step, Topology};
 use babel_value::Prefix;
 use std::fmt;
 
@@ -20,8 +20,12 @@ pub struct Shown<'a> {
 
 /// Whether each expectation was met, and none is missing.
 pub fn is_as_expected(shown: &Shown<'_>) -> bool {
-    shown.outcome.tested.iter().all(|tested| tested.is_met)
-        && shown.outcome.tested.len() == shown.topology.expectations.len()
+    for tested in &shown.outcome.tested {
+        if !tested.is_met {
+            return false;
+        }
+    }
+    shown.outcome.tested.len() == shown.topology.expectations.len()
 }
 
 impl<'a> Shown<'a> {
@@ -42,12 +46,12 @@ impl<'a> Shown<'a> {
         }
     }
 
-    /// The way of the node to the prefix at the end.
-    pub(crate) fn route(&self, node: usize, prefix: usize) -> Option<Route> {
+    /// The next hop of the node to the prefix at the end.
+    pub(crate) fn hop_at(&self, node: usize, prefix: usize) -> Option<NextHop> {
         let index = node
             .saturating_mul(self.outcome.prefixes.len())
             .saturating_add(prefix);
-        self.outcome.routes.get(index).copied()
+        Some(self.outcome.routes.get(index)?.hop)
     }
 
     /// The ways that are not shortest at the end of the phase of this number.
@@ -56,6 +60,28 @@ impl<'a> Shown<'a> {
             Some(ways) => ways.as_slice(),
             None => &[],
         }
+    }
+
+    /// The steps of the plan from this one on that are made by the moment.
+    pub fn steps_until(&self, first: usize, until: u64) -> &'a [Step] {
+        let until = until.min(self.outcome.ended);
+        let mut end = first;
+        for step in self.topology.steps.iter().skip(first) {
+            if step.at > until {
+                break;
+            }
+            end = end.saturating_add(1);
+        }
+        self.topology.steps.get(first..end).unwrap_or(&[])
+    }
+
+    /// The steps of the plan with which a phase began.
+    pub(crate) fn steps_of(&self, phase: &Phase) -> &'a [Step] {
+        let end = phase.first_step.saturating_add(phase.steps);
+        self.topology
+            .steps
+            .get(phase.first_step..end)
+            .unwrap_or(&[])
     }
 
     /// The name of a next hop.
@@ -82,14 +108,14 @@ impl<'a> Shown<'a> {
     /// A step, as it is written.
     pub fn step(&self, action: Action) -> StepText<'a> {
         let names = match action {
-            Action::Cut { link } => self.ends(link),
-            Action::Join { link } => self.ends(link),
-            Action::SetCost { link, .. } => self.ends(link),
-            Action::SetLoss { link, .. } => self.ends(link),
-            Action::Announce { node, .. } => (self.name(node), ""),
-            Action::Withdraw { node, .. } => (self.name(node), ""),
-            Action::Restart { node } => (self.name(node), ""),
-            Action::Crash { node } => (self.name(node), ""),
+            Action::Cut { link }
+            | Action::Join { link }
+            | Action::SetCost { link, .. }
+            | Action::SetLoss { link, .. } => self.ends(link),
+            Action::Announce { node, .. }
+            | Action::Withdraw { node, .. }
+            | Action::Restart { node }
+            | Action::Crash { node } => (self.name(node), ""),
         };
         StepText { action, names }
     }
@@ -106,7 +132,7 @@ impl<'a> Shown<'a> {
 }
 
 /// A time in seconds, as it is written.
-#[derive(Clone, Copy, Debug)]
+#[derive(Clone, Copy)]
 pub(crate) struct Seconds(pub(crate) u64);
 
 impl fmt::Display for Seconds {
@@ -118,7 +144,7 @@ impl fmt::Display for Seconds {
 }
 
 /// A number and what is counted: one of it, or several.
-#[derive(Clone, Copy, Debug)]
+#[derive(Clone, Copy)]
 pub(crate) struct Counted(
     pub(crate) usize,
     pub(crate) &'static str,
