@@ -132,7 +132,7 @@ fn ask<F: AllocGlobal + Net, W: Write>(
     let Ok(request) = question.request(rt.alloc()) else {
         return Err(Refused::Memory);
     };
-    if *question == Question::Log {
+    if matches!(question, Question::Log) {
         return follow(rt, place, &request, form, out);
     }
     let answer = exchange(rt, place, &request)?;
