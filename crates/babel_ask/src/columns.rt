@@ -26,57 +26,106 @@ pub(crate) struct Column {
     pub(crate) kind: ColumnKind,
 }
 
-fn text(head: &'static str, key: &'static str, field: &'static str) -> Column {
+/// The columns of neighbours.
+pub(crate) static NEIGHBOUR_COLUMNS: [Column; COLUMNS] = [
     Column {
-        head,
-        key,
-        field,
+        head: "NEIGHBOUR",
+        key: "neighbour",
+        field: "address",
         kind: ColumnKind::Text,
-    }
-}
-
-fn number(head: &'static str, key: &'static str, field: &'static str) -> Column {
+    },
     Column {
-        head,
-        key,
-        field,
+        head: "DEVICE",
+        key: "device",
+        field: "if",
+        kind: ColumnKind::Text,
+    },
+    Column {
+        head: "HELLOS",
+        key: "reach",
+        field: "reach",
+        kind: ColumnKind::Text,
+    },
+    Column {
+        head: "UNICAST",
+        key: "ureach",
+        field: "ureach",
+        kind: ColumnKind::Text,
+    },
+    Column {
+        head: "RXCOST",
+        key: "rxcost",
+        field: "rxcost",
         kind: ColumnKind::Number,
-    }
-}
-
-fn expiry() -> Column {
+    },
+    Column {
+        head: "TXCOST",
+        key: "txcost",
+        field: "txcost",
+        kind: ColumnKind::Number,
+    },
+    Column {
+        head: "COST",
+        key: "cost",
+        field: "cost",
+        kind: ColumnKind::Number,
+    },
     Column {
         head: "EXPIRES",
         key: "expires",
         field: "in",
         kind: ColumnKind::Expiry,
-    }
-}
-
-/// The columns of neighbours.
-pub(crate) fn neighbour_columns() -> [Column; COLUMNS] {
-    [
-        text("NEIGHBOUR", "neighbour", "address"),
-        text("DEVICE", "device", "if"),
-        text("HELLOS", "reach", "reach"),
-        text("UNICAST", "ureach", "ureach"),
-        number("RXCOST", "rxcost", "rxcost"),
-        number("TXCOST", "txcost", "txcost"),
-        number("COST", "cost", "cost"),
-        expiry(),
-    ]
-}
+    },
+];
 
 /// The columns of routes.
-pub(crate) fn route_columns() -> [Column; COLUMNS] {
-    [
-        text("PREFIX", "prefix", "prefix"),
-        text("VIA", "via", "via"),
-        text("DEVICE", "device", "if"),
-        number("METRIC", "metric", "metric"),
-        number("ADVERTISED", "advertised", "refmetric"),
-        text("SELECTED", "selected", "installed"),
-        expiry(),
-        text("ROUTER", "router", "id"),
-    ]
-}
+pub(crate) static ROUTE_COLUMNS: [Column; COLUMNS] = [
+    Column {
+        head: "PREFIX",
+        key: "prefix",
+        field: "prefix",
+        kind: ColumnKind::Text,
+    },
+    Column {
+        head: "VIA",
+        key: "via",
+        field: "via",
+        kind: ColumnKind::Text,
+    },
+    Column {
+        head: "DEVICE",
+        key: "device",
+        field: "if",
+        kind: ColumnKind::Text,
+    },
+    Column {
+        head: "METRIC",
+        key: "metric",
+        field: "metric",
+        kind: ColumnKind::Number,
+    },
+    Column {
+        head: "ADVERTISED",
+        key: "advertised",
+        field: "refmetric",
+        kind: ColumnKind::Number,
+    },
+    Column {
+        head: "SELECTED",
+        key: "selected",
+        field: "installed",
+        kind: ColumnKind::Text,
+    },
+    Column {
+        head: "EXPIRES",
+        key: "expires",
+        field: "in",
+        kind: ColumnKind::Expiry,
+    },
+    Column {
+        head: "ROUTER",
+        key: "router",
+        field: "id",
+        kind: ColumnKind::Text,
+    },
+];

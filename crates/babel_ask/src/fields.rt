@@ -2,9 +2,14 @@
 
 /// The word after the first word of this name.
 pub(crate) fn field<'l>(line: &'l str, name: &str) -> Option<&'l str> {
-    let mut words = line.split_ascii_whitespace();
-    words.find(|word| *word == name)?;
-    words.next()
+    let mut is_next = false;
+    for word in line.split_ascii_whitespace() {
+        if is_next {
+            return Some(word);
+        }
+        is_next = word == name;
+    }
+    None
 }
 
 /// The word with this number, from 0 on.

@@ -54,31 +54,50 @@ fn write_object<W: Write>(
     let mut mark = "{";
     for column in columns.iter() {
         let key = column.key;
-        write!(out, "{mark}\"{key}\":")?;
-        match column.kind {
-            ColumnKind::Expiry => write_expiry(expiry_of(answer, line), out)?,
-            kind => write_value(field(line, column.field).unwrap_or(""), kind, out)?,
-        }
+        let value = value_of(answer, line, column);
+        write!(out, "{mark}\"{key}\":{value}")?;
         mark = ",";
     }
     writeln!(out, "}}")
 }
 
-/// Writes centiseconds, or `null`.
-fn write_expiry<W: Write>(rest: Option<u64>, out: &mut W) -> io::Result<()> {
-    match rest {
-        Some(rest) => write!(out, "{rest}"),
-        None => write!(out, "null"),
+/// A value of a member.
+#[derive(Clone, Copy)]
+pub(crate) enum Value<'l> {
+    Text(&'l str),
+    Number(u64),
+    Null,
+}
+
+impl<'l> Value<'l> {
+    /// A number. What should be one and isn't is a string.
+    pub(crate) fn number(text: &'l str) -> Value<'l> {
+        match text.parse::<u64>() {
+            Ok(number) => Value::Number(number),
+            Err(_) => Value::Text(text),
+        }
     }
 }
 
-/// Writes a value. What should be a number and isn't is a string.
-pub(crate) fn write_value<W: Write>(text: &str, kind: ColumnKind, out: &mut W) -> io::Result<()> {
-    if kind == ColumnKind::Number {
-        if let Ok(number) = text.parse::<u64>() {
-            return write!(out, "{number}");
+impl fmt::Display for Value<'_> {
+    fn fmt<W: fmt::Write>(&self, f: &mut fmt::Formatter<W>) -> fmt::Result {
+        match *self {
+            Value::Text(text) => Quoted(text).fmt(f),
+            Value::Number(number) => number.fmt(f),
+            Value::Null => f.write_str("null"),
         }
     }
-    let text = Quoted(text);
-    write!(out, "{text}")
+}
+
+/// The value of a line in a column. A time is in centiseconds.
+fn value_of<'l>(answer: &'l str, line: &'l str, column: &Column) -> Value<'l> {
+    let text = field(line, column.field).unwrap_or("");
+    match column.kind {
+        ColumnKind::Text => Value::Text(text),
+        ColumnKind::Number => Value::number(text),
+        ColumnKind::Expiry => match expiry_of(answer, line) {
+            Some(rest) => Value::Number(rest),
+            None => Value::Null,
+        },
+    }
 }

@@ -7,7 +7,7 @@ ghost use Rattle.babel_ask.specs.Questions.{request_text, IsQuestionOf};
 use std::alloc::{AllocError, Global};
 
 /// What an operator asks.
-#[derive(Clone, Copy, Debug, PartialEq, Eq)]
+#[derive(Clone, Copy)]
 pub enum Question<'q> {
     /// The neighbours.
     Neighbours,

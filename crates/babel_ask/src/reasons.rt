@@ -57,12 +57,11 @@ fn route_of<'l>(answer: &'l str, line: &'l str) -> Option<Route<'l>> {
 
 /// The metric after `source SEQNO METRIC`; none after `source none`.
 fn source_of(line: &str) -> Option<&str> {
-    let mut words = line.split_ascii_whitespace();
-    words.find(|word| *word == "source")?;
-    if words.next()? == "none" {
-        return None;
+    let (_, rest) = line.split_once(" source ")?;
+    match word(rest, 0) {
+        Some("none") => None,
+        _ => word(rest, 1),
     }
-    words.next()
 }
 
 /// Writes a sentence for each route of the prefix, and for each neighbour without one whose Updates
@@ -93,7 +92,12 @@ fn is_announced(answer: &str, prefix: &str) -> bool {
     let Some(asked) = parse_prefix(prefix) else {
         return false;
     };
-    answer.lines().any(|line| is_of(line, "xroute") && prefix_in(line) == Some(asked))
+    for line in answer.lines() {
+        if is_of(line, "xroute") && prefix_in(line) == Some(asked) {
+            return true;
+        }
+    }
+    false
 }
 
 /// The prefix of a line of the dump.
@@ -118,11 +122,15 @@ fn write_ignored<W: Write>(answer: &str, out: &mut W) -> io::Result<bool> {
 /// Whether the neighbour has a route of the prefix now: then what was ignored before it matters no
 /// more.
 fn has_route_of(answer: &str, ignored: &Ignored<'_>) -> bool {
-    answer.lines().any(|line| {
-        word(line, 1) == Some("via")
+    for line in answer.lines() {
+        if word(line, 1) == Some("via")
             && word(line, 2) == Some(ignored.interface)
             && word(line, 3) == Some(ignored.address)
-    })
+        {
+            return true;
+        }
+    }
+    false
 }
 
 fn write_ignored_by<W: Write>(ignored: &Ignored<'_>, out: &mut W) -> io::Result<()> {
@@ -136,20 +144,22 @@ fn write_ignored_by<W: Write>(ignored: &Ignored<'_>, out: &mut W) -> io::Result<
     } = *ignored;
     let from = ShortAddress(address);
     let ago = Cell::Centiseconds(ignored.ago.parse::<u64>().unwrap_or(0));
-    write!(out, "{prefix}: {from} on {device} advertised it ")?;
-    match count {
-        "1" => write!(out, "once, {ago} ago")?,
-        _ => write!(out, "{count} times, the last time {ago} ago")?,
-    }
+    let (number, times) = match count {
+        "1" => ("", "once, "),
+        count => (count, " times, the last time "),
+    };
+    write!(
+        out,
+        "{prefix}: {from} on {device} advertised it {number}{times}{ago} ago, and that was ignored: "
+    )?;
     match ignored.kind {
         Some(kind) => writeln!(
             out,
-            ", and that was ignored: it has a sub-TLV of type {kind}, which must be understood \
-            ({code})"
+            "it has a sub-TLV of type {kind}, which must be understood ({code})"
         ),
         None => {
             let reason = reason_of(code);
-            writeln!(out, ", and that was ignored: {reason} ({code})")
+            writeln!(out, "{reason} ({code})")
         }
     }
 }
@@ -301,11 +311,8 @@ fn write_ignored_object<W: Write>(ignored: &Ignored<'_>, out: &mut W) -> io::Res
     let code = Quoted(ignored.code);
     write!(
         out,
-        "{{\"prefix\":{prefix},\"via\":\"{via}\",\"device\":{device}"
-    )?;
-    write!(
-        out,
-        ",\"status\":\"ignored\",\"count\":{count},\"ago\":{ago},\"code\":{code}"
+        "{{\"prefix\":{prefix},\"via\":\"{via}\",\"device\":{device},\"status\":\"ignored\",\
+        \"count\":{count},\"ago\":{ago},\"code\":{code}"
     )?;
     match ignored.kind {
         Some(kind) => writeln!(out, ",\"kind\":{kind}}}"),
@@ -324,10 +331,9 @@ fn write_reason_object<W: Write>(route: &Route<'_>, out: &mut W) -> io::Result<(
     let via = ShortAddress(route.address);
     let device = Quoted(route.device);
     let status = Quoted(route.status);
-    write!(
+    writeln!(
         out,
-        "{{\"prefix\":{prefix},\"via\":\"{via}\",\"device\":{device}"
-    )?;
-    write!(out, ",\"advertised\":{advertised},\"cost\":{cost}")?;
-    writeln!(out, ",\"metric\":{metric},\"status\":{status}}}")
+        "{{\"prefix\":{prefix},\"via\":\"{via}\",\"device\":{device},\"advertised\":{advertised},\
+        \"cost\":{cost},\"metric\":{metric},\"status\":{status}}}"
+    )
 }

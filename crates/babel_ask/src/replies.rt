@@ -4,16 +4,16 @@ ghost use Rattle.std.specs.Prelude.{◌≡◌, ◌↔◌, Err, true, false};
 ghost use Rattle.babel_ask.specs.Replies.{is_greeting, has_refusal};
 
 use crate::Question;
-use crate::columns::{ColumnKind, neighbour_columns, route_columns};
+use crate::columns::{NEIGHBOUR_COLUMNS, ROUTE_COLUMNS};
 use crate::logs::write_log;
-use crate::objects::{write_objects, write_value};
+use crate::objects::{Value, write_objects};
 use crate::reasons::{write_reason_objects, write_reasons};
 use crate::tables::{Colours, write_table};
 use std::io::{self, Write};
 use thiserror::Error;
 
 /// In which form a reply is shown.
-#[derive(Clone, Copy, Debug, PartialEq, Eq)]
+#[derive(Clone, Copy)]
 pub enum AnswerForm {
     /// For people.
     Text,
@@ -101,9 +101,9 @@ fn write_text<W: Write>(
 ) -> io::Result<()> {
     match *question {
         Question::Neighbours => {
-            write_table(answer, "neighbour", &neighbour_columns(), colours, out)
+            write_table(answer, "neighbour", &NEIGHBOUR_COLUMNS, colours, out)
         }
-        Question::Routes => write_table(answer, "route", &route_columns(), colours, out),
+        Question::Routes => write_table(answer, "route", &ROUTE_COLUMNS, colours, out),
         Question::Why(prefix) => write_reasons(answer, prefix, out),
         Question::Log => write_log(AnswerForm::Text, answer, out),
         Question::Counts => write_counts(answer, out),
@@ -112,8 +112,8 @@ fn write_text<W: Write>(
 
 fn write_json<W: Write>(question: &Question<'_>, answer: &str, out: &mut W) -> io::Result<()> {
     match *question {
-        Question::Neighbours => write_objects(answer, "neighbour", &neighbour_columns(), out),
-        Question::Routes => write_objects(answer, "route", &route_columns(), out),
+        Question::Neighbours => write_objects(answer, "neighbour", &NEIGHBOUR_COLUMNS, out),
+        Question::Routes => write_objects(answer, "route", &ROUTE_COLUMNS, out),
         Question::Why(prefix) => write_reason_objects(answer, prefix, out),
         Question::Log => write_log(AnswerForm::Json, answer, out),
         Question::Counts => write_counts_object(answer, out),
@@ -149,8 +149,8 @@ fn write_counts_object<W: Write>(answer: &str, out: &mut W) -> io::Result<()> {
             break;
         };
         let mark = if number == 0 { "" } else { "," };
-        write!(out, "{mark}\"{name}\":")?;
-        write_value(count, ColumnKind::Number, out)?;
+        let count = Value::number(count);
+        write!(out, "{mark}\"{name}\":{count}")?;
     }
     writeln!(out, "}}")
 }

@@ -32,6 +32,15 @@ struct Table<'t> {
     colours: Colours,
 }
 
+/// A row of a table.
+#[derive(Clone, Copy)]
+enum Row<'t> {
+    /// The heads of the columns.
+    Head,
+    /// A line of the reply.
+    Line(&'t str),
+}
+
 /// Writes a table of the lines of this kind: its head, and a row for each.
 pub(crate) fn write_table<W: Write>(
     answer: &str,
@@ -47,10 +56,10 @@ pub(crate) fn write_table<W: Write>(
         widths,
         colours,
     };
-    write_head(&table, out)?;
+    write_row(&table, Row::Head, out)?;
     for line in answer.lines() {
         if is_of(line, kind) {
-            write_row(&table, line, out)?;
+            write_row(&table, Row::Line(line), out)?;
         }
     }
     Ok(())
@@ -75,37 +84,30 @@ fn width_of(answer: &str, kind: &str, column: &Column) -> usize {
     width
 }
 
-fn write_head<W: Write>(table: &Table<'_>, out: &mut W) -> io::Result<()> {
-    begin_colour(table.colours, BOLD, out)?;
-    let columns = table.columns;
-    let mut gap = 0;
-    for (column, width) in columns.iter().zip(table.widths.iter()) {
-        write_blanks(gap, out)?;
-        gap = write_cell(Cell::Text(column.head), *width, column.kind, out)?;
-    }
-    end_colour(table.colours, out)
-}
-
-fn write_row<'t, W: Write>(table: &Table<'t>, line: &'t str, out: &mut W) -> io::Result<()> {
-    let colours = match colour_of(line) {
-        Some(colour) => {
-            begin_colour(table.colours, colour, out)?;
-            table.colours
-        }
-        None => Colours::Hidden,
+fn write_row<'t, W: Write>(table: &Table<'t>, row: Row<'t>, out: &mut W) -> io::Result<()> {
+    let (begin, end) = match (table.colours, colour_of(row)) {
+        (Colours::Shown, Some(colour)) => (colour, PLAIN),
+        _ => ("", ""),
     };
+    write!(out, "{begin}")?;
     let answer = table.answer;
     let columns = table.columns;
     let mut gap = 0;
     for (column, width) in columns.iter().zip(table.widths.iter()) {
-        write_blanks(gap, out)?;
-        gap = write_cell(cell_of(answer, line, column), *width, column.kind, out)?;
+        let cell = match row {
+            Row::Head => Cell::Text(column.head),
+            Row::Line(line) => cell_of(answer, line, column),
+        };
+        gap = write_cell(cell, column.kind, *width, gap, out)?;
     }
-    end_colour(colours, out)
+    writeln!(out, "{end}")
 }
 
-/// The colour of a row: that of the selected route, or of a thing that can't be used.
-fn colour_of(line: &str) -> Option<&'static str> {
+/// The colour of a row: that of the head, of the selected route, or of a thing that can't be used.
+fn colour_of(row: Row<'_>) -> Option<&'static str> {
+    let Row::Line(line) = row else {
+        return Some(BOLD);
+    };
     if field(line, "installed") == Some("yes") {
         return Some(GREEN);
     }
@@ -115,41 +117,19 @@ fn colour_of(line: &str) -> Option<&'static str> {
     None
 }
 
-fn begin_colour<W: Write>(colours: Colours, colour: &str, out: &mut W) -> io::Result<()> {
-    match colours {
-        Colours::Shown => write!(out, "{colour}"),
-        Colours::Hidden => Ok(()),
-    }
-}
-
-/// Ends the line.
-fn end_colour<W: Write>(colours: Colours, out: &mut W) -> io::Result<()> {
-    match colours {
-        Colours::Shown => writeln!(out, "{PLAIN}"),
-        Colours::Hidden => writeln!(out, ""),
-    }
-}
-
-/// Writes a cell, and returns how many blanks come before the next one. Numbers and times are at the right of it.
+/// Writes a cell after the gap, and returns how many blanks come before the next one. Numbers and times are at the right of it.
 fn write_cell<W: Write>(
     cell: Cell<'_>,
-    width: usize,
     kind: ColumnKind,
+    width: usize,
+    gap: usize,
     out: &mut W,
 ) -> io::Result<usize> {
     let blanks = width.saturating_sub(cell.width());
-    if kind != ColumnKind::Text {
-        write_blanks(blanks, out)?;
-        write!(out, "{cell}")?;
-        return Ok(2);
-    }
-    write!(out, "{cell}")?;
-    Ok(blanks.saturating_add(2))
-}
-
-fn write_blanks<W: Write>(count: usize, out: &mut W) -> io::Result<()> {
-    for _ in 0..count {
-        write!(out, " ")?;
-    }
-    Ok(())
+    let (before, after) = match kind {
+        ColumnKind::Text => (gap, blanks.saturating_add(2)),
+        _ => (gap.saturating_add(blanks), 2),
+    };
+    write!(out, "{:before$}{cell}", "")?;
+    Ok(after)
 }

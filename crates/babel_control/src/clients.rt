@@ -6,16 +6,15 @@ ghost use Rattle.babel_control.specs.Commands.{shows_tables_by, monitoring_by, l
 ghost use Rattle.babel_control.specs.Lines.{greeting, line_end};
 ghost use Rattle.babel_control.specs.Replies.{IsReply};
 
-use crate::replies::{logging_after, monitoring_after, push_answer, push_welcome, shows_tables};
+use crate::replies::{logging_over, monitoring_after, push_answer, push_welcome, shows_tables};
 use crate::{
-    Changes, Command, InputLine, LogSource, Logging, Output, Tables, TakenOctet, View,
-    parse_command,
+    Changes, Command, InputLine, Logging, Output, Tables, TakenOctet, View, parse_command,
 };
 use std::alloc::{AllocError, Global};
 use std::marker::Model;
 
 /// Whether a client is sent each change.
-#[derive(Clone, Copy, Debug, PartialEq, Eq)]
+#[derive(Clone, Copy, PartialEq, Eq)]
 pub enum Monitoring {
     /// It is.
     Yes,
@@ -24,7 +23,7 @@ pub enum Monitoring {
 }
 
 /// What a client may ask for.
-#[derive(Clone, Copy, Debug, PartialEq, Eq)]
+#[derive(Clone, Copy)]
 pub enum Access {
     /// All commands.
     All,
@@ -33,7 +32,7 @@ pub enum Access {
 }
 
 /// What becomes of the connection.
-#[derive(Clone, Copy, Debug, PartialEq, Eq)]
+#[derive(Clone, Copy, PartialEq, Eq)]
 pub enum Stage {
     /// It goes on.
     Open,
@@ -44,7 +43,7 @@ pub enum Stage {
 }
 
 /// What a client wants of the speaker.
-#[derive(Clone, Copy, Debug, PartialEq, Eq)]
+#[derive(Clone, Copy, PartialEq, Eq)]
 pub enum Wish {
     /// Nothing.
     Nothing,
@@ -294,9 +293,7 @@ impl Client {
         let written = push_answer(&mut text, command, view, changes);
         self.push(written, &text);
         self.monitoring = monitoring_after(command, self.monitoring);
-        if view.log == LogSource::Speaker {
-            self.logging = logging_after(command, self.logging);
-        }
+        self.logging = logging_over(view.log, command, self.logging);
         match command {
             Command::Quit => {
                 self.note_end();

@@ -9,7 +9,7 @@ use babel_text::parse_prefix;
 use babel_value::Prefix;
 
 /// Whether a client is sent the log: what becomes of each datagram, as it happens.
-#[derive(Clone, Copy, Debug, PartialEq, Eq)]
+#[derive(Clone, Copy, PartialEq, Eq)]
 pub enum Logging {
     /// It is.
     On,
@@ -18,7 +18,7 @@ pub enum Logging {
 }
 
 /// What a client asks for.
-#[derive(Clone, Copy, Debug, PartialEq, Eq)]
+#[derive(Clone, Copy)]
 pub enum Command {
     /// Nothing: a line without a word, or a comment.
     Nothing,

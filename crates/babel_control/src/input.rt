@@ -10,7 +10,7 @@ use std::marker::Model;
 pub const MAX_LINE: usize = 1024;
 
 /// What an octet of a client did.
-#[derive(Clone, Copy, Debug, PartialEq, Eq)]
+#[derive(Clone, Copy)]
 pub enum TakenOctet {
     /// The line goes on.
     More,

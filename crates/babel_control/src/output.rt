@@ -11,7 +11,7 @@ use thiserror::Error;
 pub const MAX_OUTPUT: usize = 1 << 20;
 
 /// There is no room for more, or an allocation failed.
-#[derive(Clone, Copy, Debug, PartialEq, Eq, Error)]
+#[derive(Clone, Copy, Debug, Error)]
 pub enum OutputFull {
     /// More than `MAX_OUTPUT` octets would wait.
     #[error("the client doesn't read")]

@@ -6,7 +6,7 @@ ghost use Rattle.babel_control.specs.Places.{IsPlaceOf};
 use babel_text::parse_u16;
 
 /// Where a control socket is.
-#[derive(Clone, Copy, Debug, PartialEq, Eq)]
+#[derive(Clone, Copy)]
 pub enum ControlPlace<'p> {
     /// A Unix socket at this path.
     Path(&'p str),
@@ -28,5 +28,10 @@ pub fn parse_place(text: &str) -> Option<ControlPlace<'_>>
 }
 
 fn is_of_digits(text: &str) -> bool {
-    text.bytes().all(|octet| octet.is_ascii_digit())
+    for octet in text.bytes() {
+        if !octet.is_ascii_digit() {
+            return false;
+        }
+    }
+    true
 }

@@ -2,7 +2,7 @@
 
 ghost use Rattle.std.specs.Prelude.{◌≡◌, ◌++◌, ℕ, List, [], OnOk};
 ghost use Rattle.std.specs.String.{string_bytes};
-ghost use Rattle.babel_control.specs.Commands.{monitoring_by, logging_by, shows_tables_by};
+ghost use Rattle.babel_control.specs.Commands.{monitoring_by, logging_by, logging_with, shows_tables_by};
 ghost use Rattle.babel_control.specs.Lines.{greeting};
 ghost use Rattle.babel_control.specs.declared.clients.Access.TheVariants.{All};
 ghost use Rattle.babel_control.specs.Replies.{counts_reply, keeping_reply, logging_reply, ok_line, IsReply};
@@ -143,11 +143,21 @@ pub(crate) fn monitoring_after(command: &Command, before: Monitoring) -> Monitor
 }
 
 /// Whether a client is sent the log after a command.
-pub(crate) fn logging_after(command: &Command, before: Logging) -> Logging
+fn logging_after(command: &Command, before: Logging) -> Logging
     ensures { result ≡ logging_by command.now before }
 {
     match command {
         Command::Log(logging) => *logging,
         _ => before,
+    }
+}
+
+/// The same, if there may be no log to send.
+pub(crate) fn logging_over(log: LogSource, command: &Command, before: Logging) -> Logging
+    ensures { result ≡ logging_with log command.now before }
+{
+    match log {
+        LogSource::Speaker => logging_after(command, before),
+        LogSource::Nothing => before,
     }
 }

@@ -66,7 +66,7 @@ pub(crate) trait Row: Copy + PartialEq {
 }
 
 /// A neighbour.
-#[derive(Clone, Copy, Debug, PartialEq, Eq)]
+#[derive(Clone, Copy, PartialEq, Eq)]
 pub struct NeighbourRow {
     /// Its interface and address.
     pub peer: Peer,
@@ -101,7 +101,7 @@ impl Row for NeighbourRow {
 }
 
 /// Whether a route is the selected one.
-#[derive(Clone, Copy, Debug, PartialEq, Eq)]
+#[derive(Clone, Copy, PartialEq, Eq)]
 pub enum Installed {
     /// It is.
     Yes,
@@ -121,7 +121,7 @@ impl fmt::Display for Installed {
 }
 
 /// A route.
-#[derive(Clone, Copy, Debug, PartialEq, Eq)]
+#[derive(Clone, Copy, PartialEq, Eq)]
 pub struct RouteRow {
     /// Its prefix.
     pub prefix: Prefix,

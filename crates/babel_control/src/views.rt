@@ -4,7 +4,7 @@ use crate::Tables;
 use babel_value::RouterId;
 
 /// The addresses of a device that is up.
-#[derive(Clone, Copy, Debug, PartialEq, Eq)]
+#[derive(Clone, Copy, PartialEq, Eq)]
 pub struct DeviceAddresses {
     /// Its link-local address.
     pub ipv6: Option<[u8; 16]>,
@@ -13,7 +13,7 @@ pub struct DeviceAddresses {
 }
 
 /// A device of the speaker.
-#[derive(Clone, Copy, Debug)]
+#[derive(Clone, Copy)]
 pub struct DeviceView<'v> {
     /// Its name, as `eth0`.
     pub name: &'v str,
@@ -22,7 +22,7 @@ pub struct DeviceView<'v> {
 }
 
 /// What was counted in the turns of a speaker.
-#[derive(Clone, Copy, Debug, Default)]
+#[derive(Clone, Copy, Default)]
 pub struct TurnCounts {
     /// The turns.
     pub turns: u64,
@@ -37,7 +37,7 @@ pub struct TurnCounts {
 }
 
 /// Whether the speaker's snapshot is kept over a restart.
-#[derive(Clone, Copy, Debug, PartialEq, Eq)]
+#[derive(Clone, Copy)]
 pub enum Keeping {
     /// It is: what is on the disk is the snapshot of now.
     Kept,
@@ -48,7 +48,7 @@ pub enum Keeping {
 }
 
 /// Whether the speaker has a log that a client can be sent.
-#[derive(Clone, Copy, Debug, PartialEq, Eq)]
+#[derive(Clone, Copy)]
 pub enum LogSource {
     /// It has.
     Speaker,
@@ -57,7 +57,7 @@ pub enum LogSource {
 }
 
 /// What the control socket shows.
-#[derive(Clone, Copy)]
+#[derive(Drop)]
 pub struct View<'v, T: Tables> {
     /// The speaker.
     pub tables: &'v T,

@@ -77,10 +77,14 @@ impl ControlSocket {
 
     /// Whether a client is sent the log.
     pub fn has_log_reader(&self) -> bool {
-        self.clients.iter().any(|slot| match slot {
-            Some(connection) => connection.client.logging() == Logging::On,
-            None => false,
-        })
+        for slot in &self.clients {
+            if let Some(connection) = slot {
+                if connection.client.logging() == Logging::On {
+                    return true;
+                }
+            }
+        }
+        false
     }
 
     /// Adds lines of the log for each client that is sent it. `None`: there was no room for them, and no client can go on with
@@ -169,14 +173,23 @@ fn read_all(
 }
 
 fn has_monitor(clients: &[Option<Connection>]) -> bool {
-    clients.iter().any(|slot| match slot {
-        Some(connection) => connection.client.monitoring() == Monitoring::Yes,
-        None => false,
-    })
+    for slot in clients {
+        if let Some(connection) = slot {
+            if connection.client.monitoring() == Monitoring::Yes {
+                return true;
+            }
+        }
+    }
+    false
 }
 
 fn wants_tables(asked: &[Asked]) -> bool {
-    asked.iter().any(|(_, command)| needs_tables(command))
+    for (_, command) in asked {
+        if needs_tables(command) {
+            return true;
+        }
+    }
+    false
 }
 
 /// Adds the changes for each client that monitors. If they could not be written its connection is closed.
@@ -197,7 +210,12 @@ fn push_changes(
 
 /// The number of a client that there isn't.
 fn free_slot(clients: &[Option<Connection>]) -> Option<usize> {
-    clients.iter().position(|slot| slot.is_none())
+    for (number, slot) in clients.iter().enumerate() {
+        if slot.is_none() {
+            return Some(number);
+        }
+    }
+    None
 }
 
 /// Sends what waits for a client, and closes its connection if that has ended.

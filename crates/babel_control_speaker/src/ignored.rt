@@ -117,9 +117,12 @@ impl IgnoredUpdates {
     }
 
     fn index_of(&self, peer: &Peer, prefix: &Prefix) -> Option<usize> {
-        self.ignored
-            .iter()
-            .position(|it| it.peer == *peer && it.prefix == *prefix)
+        for (index, it) in self.ignored.iter().enumerate() {
+            if it.peer == *peer && it.prefix == *prefix {
+                return Some(index);
+            }
+        }
+        None
     }
 
     /// Adds a line for each neighbour whose Updates of the prefix were not stored.
@@ -169,5 +172,10 @@ fn updated_prefix(place: &Placed) -> Option<Prefix> {
 
 /// Whether an Update of the notes was not stored.
 pub(crate) fn has_ignored(notes: &[Note]) -> bool {
-    notes.iter().any(|note| Cause::of(&note.verdict).is_some())
+    for note in notes {
+        if Cause::of(&note.verdict).is_some() {
+            return true;
+        }
+    }
+    false
 }

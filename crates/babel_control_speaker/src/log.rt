@@ -3,7 +3,7 @@
 use crate::IgnoredUpdates;
 use crate::ignored::{Received, has_ignored};
 use crate::reasons::push_line;
-use crate::retractions::{is_readable, with_retractions};
+use crate::retractions::{has_readable, with_retractions};
 use babel_choice::Selection;
 use babel_control::Logging;
 use babel_message::Placed;
@@ -187,7 +187,7 @@ impl LiveLog {
 
     /// What the datagram means if each ignored Update is a retraction.
     fn decode_retractions(&self, peer: Peer, octets: &[u8], placed: &[Placed]) -> Option<Decoded> {
-        if !placed.iter().any(is_readable) {
+        if !has_readable(placed) {
             return None;
         }
         let octets = with_retractions(self.alloc, octets, placed).ok()?;

@@ -27,11 +27,21 @@ pub(crate) fn has_prefix(reason: &Reason) -> bool {
 }
 
 /// Whether a TLV is ignored for such a reason.
-pub(crate) fn is_readable(place: &Placed) -> bool {
+fn is_readable(place: &Placed) -> bool {
     match &place.content {
         Content::Ignored(reason) => has_prefix(reason),
         _ => false,
     }
+}
+
+/// Whether one of the TLVs is.
+pub(crate) fn has_readable(placed: &[Placed]) -> bool {
+    for place in placed {
+        if is_readable(place) {
+            return true;
+        }
+    }
+    false
 }
 
 /// The prefix of a retraction.
@@ -52,35 +62,36 @@ pub(crate) fn with_retractions(
     let mut copy = Vec::from_slice(alloc, octets)?;
     for place in placed {
         if is_readable(place) {
-            // What is no Update stays as it is.
-            let _ = retract(&mut copy, place.offset);
+            retract(&mut copy, place.offset);
         }
     }
     Ok(copy)
 }
 
-/// Turns the Update at the offset into a retraction without sub-TLVs. `None`: it is another TLV, or
-/// has no prefix.
-fn retract(octets: &mut Vec<u8>, offset: usize) -> Option<()> {
-    let payload = offset.checked_add(TLV_HEAD)?;
-    let kind = octet_at(octets, offset, 0)?;
-    let len = octet_at(octets, offset, 1)?;
-    let encoding = octet_at(octets, payload, update::AE)?;
+/// Turns the Update at the offset into a retraction without sub-TLVs. Another TLV, and one that has
+/// no prefix, stays as it is.
+fn retract(octets: &mut [u8], offset: usize) {
+    let payload = offset.saturating_add(TLV_HEAD);
+    let kind = octet_at(octets, offset, 0);
+    let len = octet_at(octets, offset, 1);
+    let encoding = octet_at(octets, payload, update::AE);
     if kind != UPDATE || encoding == AE_WILDCARD {
-        return None;
+        return;
     }
-    let bits = octet_at(octets, payload, update::PLEN)?;
-    let omitted = octet_at(octets, payload, update::OMITTED)?;
+    let bits = octet_at(octets, payload, update::PLEN);
+    let omitted = octet_at(octets, payload, update::OMITTED);
     let written = usize::from(bits.div_ceil(8).saturating_sub(omitted));
     set_octets(octets, payload, update::METRIC..update::METRIC + 2, 0xff);
     // Each octet of 0 is a sub-TLV without meaning, a Pad1.
     set_octets(octets, payload, update::LEN + written..usize::from(len), 0);
-    Some(())
 }
 
-/// The octet at the index from the place on.
-fn octet_at(octets: &[u8], place: usize, index: usize) -> Option<u8> {
-    octets.get(place.checked_add(index)?).copied()
+/// The octet at the index from the place on, or 0 if there is none.
+fn octet_at(octets: &[u8], place: usize, index: usize) -> u8 {
+    match octets.get(place.saturating_add(index)) {
+        Some(octet) => *octet,
+        None => 0,
+    }
 }
 
 /// Sets the octets of the range from the place on.

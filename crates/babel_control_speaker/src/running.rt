@@ -119,9 +119,9 @@ fn read_host<F: Files>(alloc: Global, files: &F) -> io::Result<String> {
     Ok(text)
 }
 
-/// Takes the socket's file away, if it is one.
-pub fn remove_socket<F: Files>(files: &F, place: ControlPlace<'_>) {
-    if let ControlPlace::Path(path) = place {
+/// Takes the socket's file away, if there is a socket and it is one of a file.
+pub fn remove_socket<F: Files>(files: &F, place: Option<ControlPlace<'_>>) {
+    if let Some(ControlPlace::Path(path)) = place {
         // If it stays, the next run replaces it.
         let _ = fs::remove_file(files, path);
     }

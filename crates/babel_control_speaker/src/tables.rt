@@ -24,20 +24,23 @@ pub struct SpeakerTables<'s> {
 
 impl Tables for SpeakerTables<'_> {
     fn rows(&self, alloc: Global) -> Result<Rows, AllocError> {
-        let neighbours = neighbours_of(alloc, self.speaker)?;
-        let prefixes = prefixes_of(alloc, self.speaker)?;
-        let routes = routes_of(alloc, self.speaker)?;
-        Ok(Rows {
-            neighbours,
-            prefixes,
-            routes,
-        })
+        let mut rows = Rows {
+            neighbours: Vec::new(alloc),
+            prefixes: Vec::new(alloc),
+            routes: Vec::new(alloc),
+        };
+        push_rows(&mut rows, self.speaker)?;
+        Ok(rows)
     }
 
     fn expiries(&self, alloc: Global) -> Result<Expiries, AllocError> {
-        let neighbours = neighbour_expiries(alloc, self.speaker)?;
-        let routes = route_expiries(alloc, self.speaker)?;
-        Ok(Expiries { neighbours, routes })
+        let mut expiries = Expiries {
+            neighbours: Vec::new(alloc),
+            routes: Vec::new(alloc),
+        };
+        push_neighbour_expiries(&mut expiries.neighbours, self.speaker)?;
+        push_route_expiries(&mut expiries.routes, self.speaker)?;
+        Ok(expiries)
     }
 
     fn push_why(&self, prefix: &Prefix, out: &mut String) -> Result<(), AllocError> {
@@ -65,36 +68,39 @@ fn neighbour_row(neighbour: &Neighbour) -> NeighbourRow {
     }
 }
 
-fn neighbours_of(alloc: Global, speaker: &Speaker) -> Result<Vec<NeighbourRow>, AllocError> {
-    let mut rows = Vec::new(alloc);
+fn push_rows(rows: &mut Rows, speaker: &Speaker) -> Result<(), AllocError> {
+    push_neighbours(&mut rows.neighbours, speaker)?;
+    push_prefixes(&mut rows.prefixes, speaker)?;
+    push_all_routes(&mut rows.routes, speaker)
+}
+
+fn push_neighbours(rows: &mut Vec<NeighbourRow>, speaker: &Speaker) -> Result<(), AllocError> {
     for place in 0..speaker.neighbour_count() {
         if let Some(neighbour) = speaker.neighbour(place) {
             rows.push(neighbour_row(&neighbour))?;
         }
     }
-    Ok(rows)
+    Ok(())
 }
 
-fn prefixes_of(alloc: Global, speaker: &Speaker) -> Result<Vec<Prefix>, AllocError> {
-    let mut prefixes = Vec::new(alloc);
+fn push_prefixes(prefixes: &mut Vec<Prefix>, speaker: &Speaker) -> Result<(), AllocError> {
     for prefix in speaker.prefixes() {
         prefixes.push(prefix)?;
     }
-    Ok(prefixes)
+    Ok(())
 }
 
-/// The routes, ascending by prefix, then neighbour.
-fn routes_of(alloc: Global, speaker: &Speaker) -> Result<Vec<RouteRow>, AllocError> {
-    let mut rows = Vec::new(alloc);
+/// Adds the routes, ascending by prefix, then neighbour.
+fn push_all_routes(rows: &mut Vec<RouteRow>, speaker: &Speaker) -> Result<(), AllocError> {
     let mut after: Option<Prefix> = None;
     for _ in 0..MAX_STEPS {
         let Some(prefix) = speaker.next_prefix(after.as_ref()) else {
-            return Ok(rows);
+            return Ok(());
         };
-        push_routes_to(&mut rows, speaker, &prefix)?;
+        push_routes_to(rows, speaker, &prefix)?;
         after = Some(prefix);
     }
-    Ok(rows)
+    Ok(())
 }
 
 /// Adds the routes of a prefix.
@@ -125,18 +131,33 @@ fn push_routes_to(
     Ok(())
 }
 
-/// When the next Hello of each neighbour is missed.
-fn neighbour_expiries(
-    alloc: Global,
+/// Adds when the next Hello of each neighbour is missed.
+fn push_neighbour_expiries(
+    expiries: &mut Vec<(Peer, Option<u64>)>,
     speaker: &Speaker,
-) -> Result<Vec<(Peer, Option<u64>)>, AllocError> {
-    let mut expiries = Vec::new(alloc);
+) -> Result<(), AllocError> {
     for place in 0..speaker.neighbour_count() {
         if let Some(neighbour) = speaker.neighbour(place) {
             expiries.push((neighbour.peer, due_of(&neighbour)))?;
         }
     }
-    Ok(expiries)
+    Ok(())
+}
+
+/// Adds when each route is too old, ascending by prefix, then neighbour.
+fn push_route_expiries(
+    expiries: &mut Vec<(Prefix, Peer, u64)>,
+    speaker: &Speaker,
+) -> Result<(), AllocError> {
+    let mut after: Option<Prefix> = None;
+    for _ in 0..MAX_STEPS {
+        let Some(prefix) = speaker.next_prefix(after.as_ref()) else {
+            return Ok(());
+        };
+        push_expiries_of(expiries, speaker, &prefix)?;
+        after = Some(prefix);
+    }
+    Ok(())
 }
 
 /// When a multicast Hello of the neighbour is missed, or else a unicast one.
@@ -148,26 +169,8 @@ fn due_of(neighbour: &Neighbour) -> Option<u64> {
 }
 
 fn due_in(history: &Option<History>) -> Option<u64> {
-    let history = history.as_ref()?;
-    let timer = history.timer?;
+    let timer = history.as_ref()?.timer?;
     Some(timer.due)
-}
-
-/// When each route is too old, ascending by prefix, then neighbour.
-fn route_expiries(
-    alloc: Global,
-    speaker: &Speaker,
-) -> Result<Vec<(Prefix, Peer, u64)>, AllocError> {
-    let mut expiries = Vec::new(alloc);
-    let mut after: Option<Prefix> = None;
-    for _ in 0..MAX_STEPS {
-        let Some(prefix) = speaker.next_prefix(after.as_ref()) else {
-            return Ok(expiries);
-        };
-        push_expiries_of(&mut expiries, speaker, &prefix)?;
-        after = Some(prefix);
-    }
-    Ok(expiries)
 }
 
 fn push_expiries_of(

@@ -33,66 +33,46 @@ const TURNS: u64 = 200;
 const LAST_WHOLE: u64 = 100;
 
 fn main(rt: HostRuntime) -> io::Result<()> {
-    let Some(prefix) = parse_prefix("10.1.0.0/16") else {
-        return Err(io::Error::from(ErrorKind::InvalidInput));
-    };
     let mut out = rt.stdout();
-    run(rt.alloc(), &prefix, &mut out)
-}
-
-/// A speaker of a configuration.
-fn speaker(alloc: Global, text: &str) -> io::Result<Speaker> {
-    let config = match read_config(alloc, text.as_bytes()) {
-        Ok(config) => config,
-        Err(_) => return Err(io::Error::from(ErrorKind::InvalidInput)),
-    };
-    match Speaker::new(alloc, config) {
-        Ok(speaker) => Ok(speaker),
-        Err(_) => Err(io::Error::from(ErrorKind::InvalidInput)),
-    }
+    run(rt.alloc(), &mut out)
 }
 
 /// Makes both speakers, and gives them their turns.
-fn run<W: Write>(alloc: Global, prefix: &Prefix, out: &mut W) -> io::Result<()> {
-    let mut a = speaker(alloc, A)?;
-    match speaker(alloc, B) {
-        Ok(mut b) => talk(alloc, &mut a, &mut b, prefix, out),
-        Err(error) => Err(error),
-    }
+fn run<W: Write>(alloc: Global, out: &mut W) -> io::Result<()> {
+    let Some(prefix) = parse_prefix("10.1.0.0/16") else {
+        return Err(io::Error::from(ErrorKind::InvalidInput));
+    };
+    let mut a = End::new(alloc, A, Addr::V4([192, 168, 0, 2]))?;
+    let mut b = End::new(alloc, B, Addr::V4([192, 168, 0, 1]))?;
+    take_turns(&mut a, &mut b, &prefix, out)
 }
 
 /// A speaker, and its end of the wire.
 #[derive(Drop)]
-struct End<'a> {
-    speaker: &'a mut Speaker,
+struct End {
+    speaker: Speaker,
     wire: MemoryWire,
 }
 
-fn talk<W: Write>(
-    alloc: Global,
-    a: &mut Speaker,
-    b: &mut Speaker,
-    prefix: &Prefix,
-    out: &mut W,
-) -> io::Result<()> {
-    let mut a = End {
-        speaker: a,
-        wire: MemoryWire::new(alloc, Addr::V4([192, 168, 0, 2])),
-    };
-    let mut b = End {
-        speaker: b,
-        wire: MemoryWire::new(alloc, Addr::V4([192, 168, 0, 1])),
-    };
-    take_turns(&mut a, &mut b, prefix, out)
+impl End {
+    /// A speaker of a configuration, over a wire whose other end has this address.
+    fn new(alloc: Global, text: &str, peer: Addr) -> io::Result<End> {
+        let config = match read_config(alloc, text.as_bytes()) {
+            Ok(config) => config,
+            Err(_) => return Err(io::Error::from(ErrorKind::InvalidInput)),
+        };
+        match Speaker::new(alloc, config) {
+            Ok(speaker) => Ok(End {
+                speaker,
+                wire: MemoryWire::new(alloc, peer),
+            }),
+            Err(_) => Err(io::Error::from(ErrorKind::InvalidInput)),
+        }
+    }
 }
 
 /// Gives both speakers their turns. A line is written whenever the selected route of B changes.
-fn take_turns<W: Write>(
-    a: &mut End<'_>,
-    b: &mut End<'_>,
-    prefix: &Prefix,
-    out: &mut W,
-) -> io::Result<()> {
+fn take_turns<W: Write>(a: &mut End, b: &mut End, prefix: &Prefix, out: &mut W) -> io::Result<()> {
     let mut buf = [0u8; 1500];
     let mut last = None;
     for turn in 0..TURNS {
@@ -112,11 +92,11 @@ fn take_turns<W: Write>(
 }
 
 /// A turn of one speaker. The wire counts its failures from 0, and there is at most one in a turn.
-fn take_turn(end: &mut End<'_>, buf: &mut [u8]) {
+fn take_turn(end: &mut End, buf: &mut [u8]) {
     if end.wire.has_failed() {
         return;
     }
-    let _report = drive(end.speaker, &mut end.wire, buf, 1);
+    let _report = drive(&mut end.speaker, &mut end.wire, buf, 1);
 }
 
 fn write_selected<W: Write>(

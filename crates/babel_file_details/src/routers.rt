@@ -68,11 +68,11 @@ fn steps_of<'a>(alloc: Global, problem: &Problem<'a>) -> Result<Vec<Step<'a>>, A
 
 /// Whether the key is the name of a device.
 fn is_device(cause: Cause<'_>) -> bool {
-    cause == Cause::WrongKind(Kind::Device)
+    matches!(cause, Cause::WrongKind(Kind::Device))
 }
 
 /// A problem, as it is written.
-#[derive(Clone, Copy, Debug)]
+#[derive(Clone, Copy)]
 struct Sentence<'a>(&'a Problem<'a>);
 
 impl fmt::Display for Sentence<'_> {

@@ -25,7 +25,7 @@ const TENTATIVE: u32 = 0x40;
 const MAX_LIST_LEN: u64 = 1 << 20;
 
 /// A device as it is now.
-#[derive(Clone, Copy, Debug, PartialEq, Eq)]
+#[derive(Clone, Copy, PartialEq, Eq)]
 pub(crate) struct Device {
     /// Its number, which is the scope of its link-local addresses.
     pub(crate) scope: u32,
@@ -34,7 +34,7 @@ pub(crate) struct Device {
 }
 
 /// The lists of addresses and groups, as they were read together.
-#[derive(Debug, Drop)]
+#[derive(Drop)]
 pub(crate) struct Lists {
     addresses: String,
     groups: String,
@@ -83,7 +83,12 @@ impl Lists {
     }
 
     fn is_member(&self, name: &str) -> bool {
-        self.groups.lines().any(|line| is_member_in(line, name))
+        for line in self.groups.lines() {
+            if is_member_in(line, name) {
+                return true;
+            }
+        }
+        false
     }
 }
 
@@ -99,11 +104,12 @@ fn read_list<F: Files>(alloc: Global, files: &F, path: &str) -> io::Result<Strin
 /// name.
 fn address_in(line: &str, name: &str) -> Option<(Device, bool)> {
     let mut fields = line.split_ascii_whitespace();
-    let address = fields.next()?;
-    let scope = u32::from_str_radix(fields.next()?, 16).ok()?;
-    let reach = fields.nth(1)?;
-    let flags = u32::from_str_radix(fields.next()?, 16).ok()?;
-    if fields.next()? != name || reach != LINK_SCOPE || !address.starts_with("fe80") {
+    // A field that is missing is empty, and so no number.
+    let address = fields.next().unwrap_or("");
+    let scope = u32::from_str_radix(fields.next().unwrap_or(""), 16).ok()?;
+    let reach = fields.nth(1).unwrap_or("");
+    let flags = u32::from_str_radix(fields.next().unwrap_or(""), 16).ok()?;
+    if fields.next() != Some(name) || reach != LINK_SCOPE || !address.starts_with("fe80") {
         return None;
     }
     let address = u128::from_str_radix(address, 16).ok()?.to_be_bytes();

@@ -27,7 +27,7 @@ pub enum DeviceFault {
 }
 
 /// Why the command `run` refuses, or ends early.
-#[derive(Clone, Copy, Debug, PartialEq, Eq, Error)]
+#[derive(Clone, Copy, Debug, Error)]
 pub enum RunFault {
     /// C1 to C7: no speaker can be made of the settings.
     #[error("{0}")]
@@ -53,7 +53,7 @@ pub enum RunFault {
 }
 
 /// Why what the command line and the file of `--config` ask for isn't run.
-#[derive(Clone, Copy, Debug, PartialEq, Eq)]
+#[derive(Clone, Copy)]
 pub enum WordsFault<'a> {
     /// F3: a prefix can't be read.
     Prefix(&'a str),
@@ -91,7 +91,7 @@ impl RunFault {
 }
 
 /// The code of a fault as text, with the number of the record after `K6` and `K7`.
-#[derive(Clone, Copy, Debug, PartialEq, Eq)]
+#[derive(Clone, Copy)]
 pub struct RunCode {
     /// The fault.
     pub fault: RunFault,

@@ -83,8 +83,12 @@ impl<'a, R: AllocGlobal + Clock + Net, I: Read + AsRawFd> LinkWire<'a, R, I> {
         ensures { IfOk result (λ wire. wire.faults ≡ 0) }
     {
         let alloc = rt.alloc();
-        let start = Instant::now(rt).map_err(|_| RunFault::System)?;
-        let poll = Poll::new(rt).map_err(|_| RunFault::System)?;
+        let Ok(start) = Instant::now(rt) else {
+            return Err(RunFault::System);
+        };
+        let Ok(poll) = Poll::new(rt) else {
+            return Err(RunFault::System);
+        };
         let links = no_links(alloc, count)?;
         let events = Events::with_capacity(alloc, MAX_EVENTS)?;
         // A file and /dev/null can't be waited for, and have no end that comes later.
@@ -196,12 +200,22 @@ impl<'a, R: Clock, I: Read + AsRawFd> LinkWire<'a, R, I> {
         self.is_disturbed = false;
         // A line that isn't whole yet is lost. The launcher writes each by one call, so there is none.
         self.heard.clear();
-        let pause = if self.links.iter().all(|link| link.is_some()) {
+        let pause = if self.are_open() {
             LOOK_AGAIN
         } else {
             LOOK_SOON
         };
         self.next_look = self.moment.saturating_add(pause);
+    }
+
+    /// Whether each device has sockets.
+    fn are_open(&self) -> bool {
+        for link in &self.links {
+            if link.is_none() {
+                return false;
+            }
+        }
+        true
     }
 
     /// The next turn waits for a datagram until this moment, or until the devices are looked at.
@@ -230,10 +244,14 @@ impl<'a, R: Clock, I: Read + AsRawFd> LinkWire<'a, R, I> {
 
     /// Whether a datagram may wait at a socket.
     fn is_ready(&self) -> bool {
-        self.links.iter().any(|link| match link {
-            Some(sockets) => sockets.is_ready(),
-            None => false,
-        })
+        for link in &self.links {
+            if let Some(sockets) = link {
+                if sockets.is_ready() {
+                    return true;
+                }
+            }
+        }
+        false
     }
 
     /// Looks which sources are ready, and waits for one if none is.

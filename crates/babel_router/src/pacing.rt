@@ -14,7 +14,7 @@ const PAUSE: u64 = 4;
 const MAX_TAKEN: u32 = 64;
 
 /// Whether a step is the last one of a run.
-#[derive(Clone, Copy, Debug, PartialEq, Eq)]
+#[derive(Clone, Copy)]
 pub(crate) enum Place {
     /// Others follow.
     Within,
@@ -23,7 +23,7 @@ pub(crate) enum Place {
 }
 
 /// What the router does next.
-#[derive(Clone, Copy, Debug, PartialEq, Eq)]
+#[derive(Clone, Copy)]
 pub(crate) enum Step {
     /// It takes a turn, which waits for a datagram until this moment. So it sends what is pending.
     Turn(u64),
@@ -33,7 +33,7 @@ pub(crate) enum Step {
 }
 
 /// What the router is at.
-#[derive(Clone, Copy, Debug, Default, PartialEq, Eq)]
+#[derive(Clone, Copy, Default)]
 enum Phase {
     /// It waits for a datagram.
     #[default]
@@ -47,7 +47,7 @@ enum Phase {
 }
 
 /// When datagrams came, and when the speaker has something to do by itself.
-#[derive(Clone, Copy, Debug, Default)]
+#[derive(Clone, Copy, Default)]
 pub(crate) struct Pace {
     phase: Phase,
     /// When the last datagram came.
@@ -71,7 +71,7 @@ impl Pace {
         if due > 0 {
             self.due = due;
         }
-        if place == Place::Last {
+        if let Place::Last = place {
             return Step::Turn(due);
         }
         match self.phase {

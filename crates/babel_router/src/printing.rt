@@ -12,10 +12,10 @@ use babel_value::Peer;
 use babel_wire::{Arrival, Receipts};
 use std::alloc::{AllocError, Global};
 use std::fmt;
-use std::io::Write;
+use std::io::{self, Write};
 
 /// What became of a device.
-#[derive(Clone, Copy, Debug, PartialEq, Eq)]
+#[derive(Clone, Copy)]
 pub(crate) enum Note {
     /// It can't be used any more.
     Lost(DeviceFault),
@@ -67,13 +67,12 @@ impl<'s, 'a, W: Write, E: Write> Printer<'s, 'a, W, E> {
     /// Nothing is printed yet.
     pub(crate) fn new(
         alloc: Global,
-        options: RunOptions<'_>,
-        names: &'a [&'a str],
+        options: RunOptions<'a>,
         out: &'s mut W,
         err: &'s mut E,
     ) -> Result<Printer<'s, 'a, W, E>, AllocError> {
-        let commands = selections(alloc, options.commands, RouteLines::Commands(names))?;
-        let routes = selections(alloc, options.routes, RouteLines::Names(names))?;
+        let commands = selections(alloc, options.commands, RouteLines::Commands(options.names))?;
+        let routes = selections(alloc, options.routes, RouteLines::Names(options.names))?;
         Ok(Printer {
             out,
             err,
@@ -89,7 +88,7 @@ impl<'s, 'a, W: Write, E: Write> Printer<'s, 'a, W, E> {
     /// Before anything is sent, the routes of a run that was killed are taken away from the kernel.
     pub(crate) fn begin(&mut self) -> Result<(), LineFault> {
         match self.commands {
-            Some(_) => flush_routes(self.out),
+            Some(_) => flush_routes(self.out).map_err(LineFault::of_writing),
             None => Ok(()),
         }
     }
@@ -140,35 +139,32 @@ impl<'s, 'a, W: Write, E: Write> Printer<'s, 'a, W, E> {
         let Some(commands) = &mut self.commands else {
             return write_if_some(&mut self.routes, speaker, moment, self.out);
         };
-        write_changes(commands, speaker, moment, self.out)?;
+        commands.write_changes(speaker, moment, self.out)?;
         write_if_some(&mut self.routes, speaker, moment, self.err)
     }
 
-    /// After the last turn: the kernel gets no route any more, and the table is written.
+    /// After the last turn: the kernel gets no route any more, and the table and the counts are written.
     ///
     /// # Errors
     ///
     /// L7 or L8 of a change before, or L7.
-    pub(crate) fn end(&mut self, speaker: &Speaker) -> Result<(), LineFault> {
-        let ended = self.write_end(speaker);
+    pub(crate) fn end(&mut self, speaker: &Speaker, counts: Counts) -> Result<(), LineFault> {
+        let ended = self.write_end(speaker).map_err(LineFault::of_writing);
         self.written?;
-        ended
-    }
-
-    fn write_end(&mut self, speaker: &Speaker) -> Result<(), LineFault> {
-        if self.commands.is_none() {
-            return write_table(&self.routes, speaker, self.out);
-        }
-        remove_routes(&self.commands, self.out)?;
-        write_table(&self.routes, speaker, self.err)
-    }
-
-    /// The counts of all turns.
-    pub(crate) fn write_counts(&mut self, counts: Counts) -> Result<(), LineFault> {
+        ended?;
         match self.commands {
             Some(_) => counts.write_to(self.err),
             None => counts.write_to(self.out),
         }
+    }
+
+    fn write_end(&mut self, speaker: &Speaker) -> io::Result<()> {
+        let Some(commands) = &self.commands else {
+            return write_table(&self.routes, speaker, self.out);
+        };
+        commands.write_removals(self.out)?;
+        self.out.flush()?;
+        write_table(&self.routes, speaker, self.err)
     }
 }
 
@@ -211,7 +207,7 @@ fn write_if_some<W: Write>(
     out: &mut W,
 ) -> Result<(), LineFault> {
     match selections {
-        Some(selections) => write_changes(selections, speaker, moment, out),
+        Some(selections) => selections.write_changes(speaker, moment, out),
         None => Ok(()),
     }
 }
@@ -220,40 +216,19 @@ fn write_table<W: Write>(
     selections: &Option<Selections<'_>>,
     speaker: &Speaker,
     out: &mut W,
-) -> Result<(), LineFault> {
+) -> io::Result<()> {
     match selections {
         Some(selections) => selections.write_table(speaker, out),
         None => Ok(()),
     }
 }
 
-fn write_changes<W: Write>(
-    selections: &mut Selections<'_>,
-    speaker: &Speaker,
-    moment: u64,
-    out: &mut W,
-) -> Result<(), LineFault> {
-    if selections.write_changes(speaker, moment, out)? {
-        out.flush().map_err(LineFault::of_writing)?;
-    }
-    Ok(())
-}
-
 /// Takes all routes of Babel away from the kernel. The first line is for IPv4 alone, in each table the second is for both
 /// families.
-fn flush_routes<W: Write>(out: &mut W) -> Result<(), LineFault> {
-    writeln!(out, "route flush proto babel").map_err(LineFault::of_writing)?;
-    writeln!(out, "route flush table all proto babel").map_err(LineFault::of_writing)?;
-    out.flush().map_err(LineFault::of_writing)
-}
-
-/// Takes the own routes away from the kernel.
-fn remove_routes<W: Write>(
-    commands: &Option<Selections<'_>>,
-    out: &mut W,
-) -> Result<(), LineFault> {
-    if let Some(commands) = commands {
-        commands.write_removals(out)?;
-    }
-    out.flush().map_err(LineFault::of_writing)
+fn flush_routes<W: Write>(out: &mut W) -> io::Result<()> {
+    write!(
+        out,
+        "route flush proto babel\nroute flush table all proto babel\n"
+    )?;
+    out.flush()
 }

@@ -15,7 +15,7 @@ use babel_durable::{DurableDriver, DurableReport};
 use babel_snapshot_file::{Kept, LockFile, SnapshotStore};
 use babel_speaker::Speaker;
 use babel_state::Config;
-use babel_udp::{KeptWire, open_kept};
+use babel_udp::{Counts, KeptWire, open_kept};
 use std::alloc::{AllocError, Global};
 use std::fs::Files;
 use std::io::{Read, Write};
@@ -30,7 +30,7 @@ const MAX_DATAGRAM_LEN: usize = 65535;
 const MAX_TENTATIVE: u32 = 50;
 
 /// Whether something is printed.
-#[derive(Clone, Copy, Debug, PartialEq, Eq)]
+#[derive(Clone, Copy)]
 pub enum Printed {
     /// It is.
     Yes,
@@ -39,9 +39,11 @@ pub enum Printed {
 }
 
 /// On which devices a speaker runs, as what, for how long, and what it prints.
-#[derive(Clone, Copy, Debug)]
+#[derive(Clone, Copy)]
 pub struct RunOptions<'a> {
-    /// The devices, by the numbers of the interfaces.
+    /// The names of the devices, by the numbers of the interfaces.
+    pub names: &'a [&'a str],
+    /// The devices, in the same order.
     pub devices: &'a [DeviceSettings<'a>],
     /// What is the same for all devices.
     pub settings: Settings<'a>,
@@ -112,7 +114,7 @@ struct Started<'d, 'a> {
 
 // In each of these functions at most one value has to be given back if the next step fails.
 
-/// Makes or restores the speaker, and runs it.
+/// Makes the wire, makes or restores the speaker, and runs it.
 fn run_on<'a, R: AllocGlobal + Net + Clock + Files, I: Read + AsRawFd, W: Write, E: Write>(
     rt: &R,
     options: RunOptions<'a>,
@@ -123,9 +125,9 @@ fn run_on<'a, R: AllocGlobal + Net + Clock + Files, I: Read + AsRawFd, W: Write,
 where
     R::File: LockFile,
 {
-    let (store, mut speaker) = start(rt, options, devices)?;
-    match LinkWire::new(rt, input, options.port, devices.len()) {
-        Ok(wire) => {
+    let wire = LinkWire::new(rt, input, options.port, devices.len())?;
+    match start(rt, options, devices) {
+        Ok((store, mut speaker)) => {
             let mut wire = KeptWire { wire, store };
             let speaker = &mut speaker;
             let started = Started { speaker, devices };
@@ -148,8 +150,7 @@ where
     let Started { speaker, devices } = started;
     let Outputs { out, err } = outputs;
     open_links(&mut wire.wire, devices)?;
-    let names = names_of(alloc, options.devices)?;
-    match Printer::new(alloc, options, &names, out, err) {
+    match Printer::new(alloc, options, out, err) {
         Ok(mut printer) => {
             let started = Started { speaker, devices };
             run_printed(alloc, options, started, wire, &mut printer)
@@ -179,12 +180,11 @@ where
         devices,
         control: &mut control,
         pace: Pace::default(),
+        counts: Counts::default(),
         last_turn: DurableReport::default(),
     };
     let ended = router.take_turns(options.turns, wire, printer);
-    if let Some(place) = options.control {
-        remove_socket(wire.wire.system(), place);
-    }
+    remove_socket(wire.wire.system(), options.control);
     ended
 }
 
@@ -195,8 +195,9 @@ fn open_links<R: Clock + Net, I: Read + AsRawFd>(
 ) -> Result<(), RunFault> {
     for (number, tracked) in devices.iter().enumerate() {
         if let Some(device) = tracked.device() {
-            wire.open_link(number, device)
-                .map_err(|_| RunFault::Device(number, DeviceFault::Socket))?;
+            if wire.open_link(number, device).is_err() {
+                return Err(RunFault::Device(number, DeviceFault::Socket));
+            }
         }
     }
     Ok(())
@@ -216,36 +217,10 @@ where
     if let Err(fault) = config.check() {
         return Err(RunFault::Config(fault));
     }
-    match options.keep {
-        Some(keep) => start_kept(alloc, rt, config, keep),
-        None => match Speaker::new(alloc, config) {
-            Ok(speaker) => Ok((None, speaker)),
-            Err(fault) => Err(RunFault::Config(fault)),
-        },
-    }
-}
-
-fn start_kept<'a, R: Files>(
-    alloc: Global,
-    rt: &'a R,
-    config: Config,
-    keep: Kept<'a>,
-) -> Result<(Option<SnapshotStore<'a, R>>, Speaker), RunFault>
-where
-    R::File: LockFile,
-{
-    match open_kept(alloc, rt, config, keep) {
-        Ok((store, speaker)) => Ok((Some(store), speaker)),
+    match open_kept(alloc, rt, config, options.keep) {
+        Ok(started) => Ok(started),
         Err(fault) => Err(RunFault::from(fault)),
     }
-}
-
-fn names_of<'a>(alloc: Global, devices: &[DeviceSettings<'a>]) -> Result<Vec<&'a str>, AllocError> {
-    let mut names = Vec::new(alloc);
-    for device in devices {
-        names.push(device.name)?;
-    }
-    Ok(names)
 }
 
 /// The devices of these names. A tentative address is waited for.
@@ -270,8 +245,10 @@ fn devices_now<'a, R: Files>(
     rt: &R,
     named: &[DeviceSettings<'a>],
 ) -> Result<Vec<Tracked<'a>>, RunFault> {
-    let lists = Lists::read(alloc, rt).map_err(|_| RunFault::System)?;
-    listed(alloc, &lists, named)
+    match Lists::read(alloc, rt) {
+        Ok(lists) => listed(alloc, &lists, named),
+        Err(_) => Err(RunFault::System),
+    }
 }
 
 fn listed<'a>(

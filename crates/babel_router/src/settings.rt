@@ -6,7 +6,7 @@ use babel_value::{Family, Prefix};
 use std::alloc::{AllocError, Global};
 
 /// A device that the speaker uses, as the command line names it.
-#[derive(Clone, Copy, Debug)]
+#[derive(Clone, Copy)]
 pub struct DeviceSettings<'a> {
     /// The device's name, as `eth0`.
     pub name: &'a str,
@@ -21,7 +21,7 @@ pub struct DeviceSettings<'a> {
 }
 
 /// What is the same for all devices.
-#[derive(Clone, Copy, Debug)]
+#[derive(Clone, Copy)]
 pub struct Settings<'a> {
     /// The router-id (RFC 8966, section 4.1.3). Without one it is the end of the first device's address.
     pub router_id: Option<[u8; 8]>,
@@ -34,11 +34,10 @@ pub struct Settings<'a> {
 impl Settings<'_> {
     /// The router-id of a speaker on these devices.
     pub(crate) fn router_id_on(&self, devices: &[Tracked<'_>]) -> [u8; 8] {
-        match self.router_id {
-            Some(router_id) => router_id,
-            None => devices
-                .first()
-                .map_or([0; 8], |it| interface_id(it.address)),
+        match (self.router_id, devices.first()) {
+            (Some(router_id), _) => router_id,
+            (None, Some(device)) => interface_id(device.address),
+            (None, None) => [0; 8],
         }
     }
 }

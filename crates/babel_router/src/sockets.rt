@@ -14,7 +14,7 @@ use std::os::fd::{AsRawFd, RawFd};
 const GROUP: [u16; 8] = [0xff02, 0, 0, 0, 0, 0, 1, 6];
 
 /// One of the two sockets of a device.
-#[derive(Clone, Copy, Debug, PartialEq, Eq)]
+#[derive(Clone, Copy)]
 pub(crate) enum Half {
     /// The one that is bound to the device's own address.
     Own,
@@ -40,6 +40,23 @@ struct Watched {
     is_ready: bool,
 }
 
+impl Watched {
+    /// Opens a socket that is bound to the address.
+    fn open<R: Net>(
+        rt: &R,
+        poll: &Poll,
+        address: SocketAddrV6,
+        token: usize,
+    ) -> io::Result<Watched> {
+        let socket = bind(rt, address)?;
+        watch(poll, socket.as_raw_fd(), token)?;
+        Ok(Watched {
+            socket,
+            is_ready: true,
+        })
+    }
+}
+
 /// Lets the poll watch a descriptor.
 pub(crate) fn watch(poll: &Poll, fd: RawFd, token: usize) -> io::Result<()> {
     poll.registry()
@@ -61,21 +78,11 @@ impl Sockets {
         device: Device,
     ) -> io::Result<Sockets> {
         let Device { scope, address } = device;
-        let own = bind(rt, Ipv6Addr::from_octets(address), port, scope)?;
-        let group = bind(rt, group_address(), port, scope)?;
-        watch(poll, own.as_raw_fd(), token)?;
-        watch(poll, group.as_raw_fd(), token.saturating_add(1))?;
-        Ok(Sockets {
-            scope,
-            own: Watched {
-                socket: own,
-                is_ready: true,
-            },
-            group: Watched {
-                socket: group,
-                is_ready: true,
-            },
-        })
+        let address = SocketAddrV6::new(Ipv6Addr::from_octets(address), port, 0, scope);
+        let own = Watched::open(rt, poll, address, token)?;
+        let address = SocketAddrV6::new(group_address(), port, 0, scope);
+        let group = Watched::open(rt, poll, address, token.saturating_add(1))?;
+        Ok(Sockets { scope, own, group })
     }
 
     /// Whether a datagram may wait at one of the sockets.
@@ -118,8 +125,8 @@ impl Sockets {
 }
 
 /// A socket that doesn't wait, and doesn't hear what this machine sends to the group.
-fn bind<R: Net>(rt: &R, address: Ipv6Addr, port: u16, scope: u32) -> io::Result<UdpSocket> {
-    let socket = UdpSocket::bind(rt, SocketAddrV6::new(address, port, 0, scope))?;
+fn bind<R: Net>(rt: &R, address: SocketAddrV6) -> io::Result<UdpSocket> {
+    let socket = UdpSocket::bind(rt, address)?;
     socket.set_nonblocking(true)?;
     socket.set_multicast_loop_v6(false)?;
     Ok(socket)

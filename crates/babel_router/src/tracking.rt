@@ -10,7 +10,7 @@ use babel_value::Addr;
 type Ipv4Network = ([u8; 4], u8);
 
 /// A device of the run.
-#[derive(Clone, Copy, Debug)]
+#[derive(Clone, Copy)]
 pub(crate) struct Tracked<'a> {
     /// Its name, and what the speaker's configuration has for it.
     pub(crate) settings: DeviceSettings<'a>,
@@ -29,7 +29,7 @@ pub(crate) struct Tracked<'a> {
 }
 
 /// What has to be done for a device that was looked at.
-#[derive(Clone, Copy, Debug, PartialEq, Eq)]
+#[derive(Clone, Copy)]
 pub(crate) enum Step {
     /// Nothing: it is as it was.
     Nothing,
@@ -40,7 +40,7 @@ pub(crate) enum Step {
 }
 
 /// What the launcher reports of a device.
-#[derive(Clone, Copy, Debug, PartialEq, Eq)]
+#[derive(Clone, Copy)]
 enum Change {
     /// It went down, though it may be up again.
     Down,

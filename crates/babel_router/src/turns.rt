@@ -42,6 +42,8 @@ pub(crate) struct Router<'d, 'a> {
     pub(crate) devices: &'d mut [Tracked<'a>],
     pub(crate) control: &'d mut Option<Control>,
     pub(crate) pace: Pace,
+    /// What was counted in all steps.
+    pub(crate) counts: Counts,
     /// What was counted in the last turn. Steps that only take in what waits are none.
     pub(crate) last_turn: DurableReport,
 }
@@ -57,15 +59,13 @@ impl Router<'_, '_> {
     where
         R::File: LockFile,
     {
-        let mut counts = Counts::default();
         printer.begin()?;
-        let ended = self.take_all(turns, wire, printer, &mut counts);
-        if counts.turns == 0 {
+        let ended = self.take_all(turns, wire, printer);
+        if self.counts.turns == 0 {
             ended?;
         }
         // The kernel's routes are taken away also if a change couldn't be written.
-        printer.end(self.speaker)?;
-        printer.write_counts(counts)?;
+        printer.end(self.speaker, self.counts)?;
         ended
     }
 
@@ -75,7 +75,6 @@ impl Router<'_, '_> {
         turns: u64,
         wire: &mut KeptWire<'r, LinkWire<'r, R, I>, R>,
         printer: &mut Printer<'_, '_, W, E>,
-        counts: &mut Counts,
     ) -> Result<(), RunFault>
     where
         R::File: LockFile,
@@ -91,16 +90,16 @@ impl Router<'_, '_> {
             let Some(counted) = self.take_step(wire, printer, place) else {
                 return Ok(());
             };
-            if counted.failed_keeps > 0 && counts.turns == 0 {
+            if counted.failed_keeps > 0 && self.counts.turns == 0 {
                 return Err(UNKEPT);
             }
-            counts.add(counted);
+            self.counts.add(counted);
             printer.note_keeping(self.last_turn);
-            if self.serve_control(wire, printer, *counts) == Wish::Stop {
+            if self.serve_control(wire, printer) == Wish::Stop {
                 break;
             }
         }
-        self.send_rest(wire, printer, counts);
+        self.send_rest(wire, printer);
         Ok(())
     }
 
@@ -174,17 +173,16 @@ impl Router<'_, '_> {
         &mut self,
         wire: &mut KeptWire<'r, LinkWire<'r, R, I>, R>,
         printer: &mut Printer<'_, '_, W, E>,
-        counts: &mut Counts,
     )
     where
         R::File: LockFile,
     {
-        if counts.turns == 0 || printer.has_failed() || self.speaker.next_due() > 0 {
+        if self.counts.turns == 0 || printer.has_failed() || self.speaker.next_due() > 0 {
             return;
         }
         wire.wire.wait_until(0);
         if let Some(turn) = self.take_turn(wire, printer) {
-            counts.add(turn);
+            self.counts.add(turn);
             printer.note_keeping(turn);
         }
     }
@@ -194,7 +192,6 @@ impl Router<'_, '_> {
         &mut self,
         wire: &mut KeptWire<'r, LinkWire<'r, R, I>, R>,
         printer: &mut Printer<'_, '_, W, E>,
-        counts: Counts,
     ) -> Wish
     where
         R::File: LockFile,
@@ -216,7 +213,7 @@ impl Router<'_, '_> {
             devices: &devices,
             now: wire.now(),
             ready,
-            counts: counts_of(counts),
+            counts: counts_of(self.counts),
             keeping,
             log: LogSource::Speaker,
         };

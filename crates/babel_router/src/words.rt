@@ -26,7 +26,7 @@ const DEFAULT_HELLO: u16 = 400;
 type Ipv4Network = ([u8; 4], u8);
 
 /// The words of the command line, as they were written.
-#[derive(Clone, Copy, Debug)]
+#[derive(Clone, Copy)]
 pub struct RunWords<'a> {
     /// The devices, by the numbers of the interfaces.
     pub devices: &'a [&'a str],
@@ -132,6 +132,7 @@ fn options_of<'x>(
 ) -> RunOptions<'x> {
     let keep = words.keep;
     RunOptions {
+        names: words.devices,
         devices,
         settings,
         port: words.port,
@@ -197,8 +198,10 @@ fn devices_of<'a>(
     words: RunWords<'a>,
     file: &RouterFile,
 ) -> Result<Vec<DeviceSettings<'a>>, WordsFault<'a>> {
-    if let Some(text) = words.ipv4.iter().find(|text| address_of(text).is_none()) {
-        return Err(WordsFault::Address(text));
+    for text in words.ipv4 {
+        if address_of(text).is_none() {
+            return Err(WordsFault::Address(text));
+        }
     }
     let mut devices = Vec::new(alloc);
     for name in words.devices {

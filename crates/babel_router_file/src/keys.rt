@@ -3,7 +3,7 @@
 use std::fmt;
 
 /// What the value at a key is.
-#[derive(Clone, Copy, Debug, PartialEq, Eq)]
+#[derive(Clone, Copy)]
 pub enum Kind {
     /// 16 hexadecimal digits.
     RouterId,

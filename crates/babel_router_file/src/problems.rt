@@ -7,7 +7,7 @@ use babel_value::Addr;
 use toml::{Table, Value};
 
 /// What is wrong with a value.
-#[derive(Clone, Copy, Debug, PartialEq, Eq)]
+#[derive(Clone, Copy)]
 pub enum Cause<'a> {
     /// The table has no such key.
     UnknownKey,
@@ -20,7 +20,7 @@ pub enum Cause<'a> {
 }
 
 /// What is wrong with a file, and where.
-#[derive(Clone, Copy, Debug, PartialEq, Eq)]
+#[derive(Clone, Copy)]
 pub struct Problem<'a> {
     /// The device in whose table the key is.
     pub device: Option<&'a str>,

@@ -9,7 +9,7 @@ use std::alloc::Global;
 use toml::{Table, Value};
 
 /// The settings of a device. What is `None` isn't in the file.
-#[derive(Debug, Drop)]
+#[derive(Drop)]
 pub struct DeviceTable {
     /// The device's name.
     pub name: String,
@@ -22,7 +22,7 @@ pub struct DeviceTable {
 }
 
 /// What a router is, and its settings by device.
-#[derive(Debug, Drop)]
+#[derive(Drop)]
 pub struct RouterFile {
     /// The router-id (RFC 8966, section 4.1.3).
     pub router_id: Option<[u8; 8]>,
@@ -47,9 +47,12 @@ impl RouterFile {
 
     /// The settings of the device of this name.
     pub fn device(&self, name: &str) -> Option<&DeviceTable> {
-        self.devices
-            .iter()
-            .find(|device| device.name.as_str() == name)
+        for device in &self.devices {
+            if device.name.as_str() == name {
+                return Some(device);
+            }
+        }
+        None
     }
 }
 
@@ -74,20 +77,21 @@ fn router_of(alloc: Global, file: &Table) -> Result<RouterFile, FileFault> {
     if let Some(problem) = first_problem(file) {
         return Err(problem.fault());
     }
-    let mut devices = Vec::new(alloc);
+    let mut router = RouterFile::empty(alloc);
+    read_router(alloc, file, &mut router)?;
+    Ok(router)
+}
+
+fn read_router(alloc: Global, file: &Table, router: &mut RouterFile) -> Result<(), FileFault> {
+    router.router_id = router_id_at(file, "router-id");
+    router.collect = matches!(file.get("collect"), Some(Value::Boolean(true)));
     if let Some(Value::Table(tables)) = file.get(DEVICE) {
-        read_devices(alloc, tables, &mut devices)?;
+        read_devices(alloc, tables, &mut router.devices)?;
     }
-    let mut prefixes = Vec::new(alloc);
     if let Some(Value::Array(items)) = file.get("prefixes") {
-        read_prefixes(items.as_slice(), &mut prefixes)?;
+        read_prefixes(items.as_slice(), &mut router.prefixes)?;
     }
-    Ok(RouterFile {
-        router_id: router_id_at(file, "router-id"),
-        collect: matches!(file.get("collect"), Some(Value::Boolean(true))),
-        prefixes,
-        devices,
-    })
+    Ok(())
 }
 
 fn read_devices(

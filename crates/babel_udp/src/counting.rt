@@ -3,10 +3,10 @@
 use babel_durable::DurableReport;
 use babel_text::LineFault;
 use babel_wire::Report;
-use std::io::Write;
+use std::io::{self, Write};
 
 /// How many turns were taken, and what was counted in them. No count passes 2^64 - 1.
-#[derive(Clone, Copy, Debug, Default)]
+#[derive(Clone, Copy, Default)]
 pub struct Counts {
     /// The turns.
     pub turns: u64,
@@ -31,11 +31,15 @@ impl Counts {
     ///
     /// L7 if writing fails.
     pub fn write_to<W: Write>(&self, out: &mut W) -> Result<(), LineFault> {
+        self.write_lines(out).map_err(LineFault::of_writing)
+    }
+
+    fn write_lines<W: Write>(&self, out: &mut W) -> io::Result<()> {
         write_counts(self.turns, self.report.report, out)?;
         if self.report.failed_keeps > 0 {
             write_failed_keeps(self.report, out)?;
         }
-        out.flush().map_err(LineFault::of_writing)
+        out.flush()
     }
 }
 
@@ -48,18 +52,16 @@ fn added(all: Report, turn: Report) -> Report {
     }
 }
 
-fn write_failed_keeps<W: Write>(report: DurableReport, out: &mut W) -> Result<(), LineFault> {
+fn write_failed_keeps<W: Write>(report: DurableReport, out: &mut W) -> io::Result<()> {
     let DurableReport {
         failed_keeps,
         lost,
         ..
     } = report;
-    writeln!(out, "failed keeps {failed_keeps} unsent datagrams {lost}").map_err(
-        LineFault::of_writing,
-    )
+    writeln!(out, "failed keeps {failed_keeps} unsent datagrams {lost}")
 }
 
-fn write_counts<W: Write>(turns: u64, report: Report, out: &mut W) -> Result<(), LineFault> {
+fn write_counts<W: Write>(turns: u64, report: Report, out: &mut W) -> io::Result<()> {
     let Report {
         received,
         sent,
@@ -70,25 +72,10 @@ fn write_counts<W: Write>(turns: u64, report: Report, out: &mut W) -> Result<(),
         out,
         "turns {turns} received {received} sent {sent} refused {refused} faults {faults}"
     )
-    .map_err(LineFault::of_writing)
-}
-
-/// Writes the counts of all turns.
-///
-/// # Errors
-///
-/// L7 if writing fails.
-pub(crate) fn write_report<W: Write>(
-    turns: u64,
-    report: Report,
-    out: &mut W,
-) -> Result<(), LineFault> {
-    write_counts(turns, report, out)?;
-    out.flush().map_err(LineFault::of_writing)
 }
 
 /// Whether the snapshot was kept in the last turn.
-#[derive(Clone, Copy, Debug, PartialEq, Eq)]
+#[derive(Clone, Copy, PartialEq, Eq)]
 pub enum LastKeep {
     /// It was, or nothing had to be kept.
     Done,

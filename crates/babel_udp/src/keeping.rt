@@ -56,7 +56,7 @@ where
 }
 
 /// Why a speaker can't begin with the file in which it is kept.
-#[derive(Clone, Copy, Debug, PartialEq, Eq, Error)]
+#[derive(Clone, Copy, Debug, Error)]
 pub enum StartFault {
     /// K8, K9, K10 and L8: the file can't be read, is there, or can't be locked.
     #[error("{0}")]
@@ -66,8 +66,8 @@ pub enum StartFault {
     Restore(#[from] RestoreFault),
 }
 
-/// Locks the file, and restores a speaker of the configuration from it. If the file is to be a new one, the
-/// speaker is a new one too.
+/// Locks the file, if there is to be one, and restores a speaker of the configuration from it. Without a file, or with a new one,
+/// the speaker is a new one too.
 ///
 /// # Errors
 ///
@@ -76,17 +76,20 @@ pub fn open_kept<'a, F: Files>(
     alloc: Global,
     files: &'a F,
     config: Config,
-    kept: Kept<'a>,
-) -> Result<(SnapshotStore<'a, F>, Speaker), StartFault>
+    kept: Option<Kept<'a>>,
+) -> Result<(Option<SnapshotStore<'a, F>>, Speaker), StartFault>
 where
     F::File: LockFile,
 {
+    let Some(kept) = kept else {
+        return Ok((None, made(alloc, config, None)?));
+    };
     let (store, octets) = match SnapshotStore::open(alloc, files, kept) {
         Ok(opened) => opened,
         Err(fault) => return Err(StartFault::SnapshotFile(fault)),
     };
     match made(alloc, config, octets) {
-        Ok(speaker) => Ok((store, speaker)),
+        Ok(speaker) => Ok((Some(store), speaker)),
         Err(fault) => Err(StartFault::Restore(fault)),
     }
 }

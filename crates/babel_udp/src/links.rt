@@ -19,12 +19,20 @@ pub struct Links {
 
 impl Link {
     fn of(alloc: Global, interface: &Interface) -> Result<Link, AllocError> {
-        let address = match interface.transport {
-            Family::Ipv4 => interface.ipv4.map(|(octets, _)| octets),
-            Family::Ipv6 => None,
-        };
+        let address = address_of(interface);
         let peers = interface.peers.to_vec(alloc)?;
         Ok(Link { address, peers })
+    }
+}
+
+/// The IPv4 address over which the interface sends, if that is its transport.
+fn address_of(interface: &Interface) -> Option<[u8; 4]> {
+    match interface.transport {
+        Family::Ipv4 => {
+            let network = interface.ipv4?;
+            Some(network.0)
+        }
+        Family::Ipv6 => None,
     }
 }
 
@@ -43,7 +51,12 @@ impl Links {
     }
 
     /// Whether each interface has IPv4 transport.
-    pub(crate) fn have_addresses(&self) -> bool {
-        self.links.iter().all(|link| link.address.is_some())
+    pub fn have_addresses(&self) -> bool {
+        for link in &self.links {
+            if link.address.is_none() {
+                return false;
+            }
+        }
+        true
     }
 }

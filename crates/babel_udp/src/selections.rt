@@ -9,7 +9,7 @@ use std::fmt;
 use std::io::{self, Write};
 
 /// How selected routes are written.
-#[derive(Clone, Copy, Debug)]
+#[derive(Clone, Copy)]
 pub enum RouteLines<'a> {
     /// For people and logs, with the number of the interface.
     Numbers,
@@ -169,7 +169,7 @@ impl<'a> Selections<'a> {
     }
 
     /// Writes a line for each prefix whose selected route is another than the one that was printed last, in the order
-    /// of the prefixes. Returns whether there was one.
+    /// of the prefixes, and flushes if there was one.
     ///
     /// # Errors
     ///
@@ -179,24 +179,28 @@ impl<'a> Selections<'a> {
         speaker: &Speaker,
         moment: u64,
         out: &mut W,
-    ) -> Result<bool, LineFault> {
+    ) -> Result<(), LineFault> {
         let version = speaker.routes_version();
         if self.version == Some(version) && version < u64::MAX {
-            return Ok(false);
+            return Ok(());
         }
         add_new(&mut self.printed, speaker)?;
-        let has_changed = write_changed(&self.lines, &mut self.printed, speaker, moment, out)?;
+        write_changed(&self.lines, &mut self.printed, speaker, moment, out).map_err(
+            LineFault::of_writing,
+        )?;
         self.printed.retain(|printed| printed.route.is_some());
         self.version = Some(version);
-        Ok(has_changed)
+        Ok(())
     }
 
     /// The reader of the lines may have lost the routes over an interface: what is selected of
     /// their prefixes is printed again, also if it is none by then.
     pub fn doubt(&mut self, iface: u8) {
         for printed in self.printed.iter_mut() {
-            if printed.route.is_some_and(|route| route.peer.iface == iface) {
-                printed.is_doubtful = true;
+            if let Some(route) = printed.route {
+                if route.peer.iface == iface {
+                    printed.is_doubtful = true;
+                }
             }
         }
         self.version = None;
@@ -211,13 +215,11 @@ impl<'a> Selections<'a> {
     ///
     /// # Errors
     ///
-    /// L7 if writing fails.
-    pub fn write_removals<W: Write>(&self, out: &mut W) -> Result<(), LineFault> {
+    /// Writing fails.
+    pub fn write_removals<W: Write>(&self, out: &mut W) -> io::Result<()> {
         for printed in &self.printed {
             if printed.route.is_some() {
-                self.lines
-                    .write_command(&printed.prefix, &None, out)
-                    .map_err(LineFault::of_writing)?;
+                self.lines.write_command(&printed.prefix, &None, out)?;
             }
         }
         Ok(())
@@ -227,8 +229,8 @@ impl<'a> Selections<'a> {
     ///
     /// # Errors
     ///
-    /// L7 if writing fails.
-    pub fn write_table<W: Write>(&self, speaker: &Speaker, out: &mut W) -> Result<(), LineFault> {
+    /// Writing fails.
+    pub fn write_table<W: Write>(&self, speaker: &Speaker, out: &mut W) -> io::Result<()> {
         let mut after: Option<Prefix> = None;
         for _ in 0..MAX_PREFIXES {
             let Some(prefix) = speaker.next_prefix(after.as_ref()) else {
@@ -238,7 +240,7 @@ impl<'a> Selections<'a> {
                 lines: self.lines,
                 route: &speaker.selected(&prefix),
             };
-            writeln!(out, "table {prefix} {route}").map_err(LineFault::of_writing)?;
+            writeln!(out, "table {prefix} {route}")?;
             after = Some(prefix);
         }
         Ok(())
@@ -275,11 +277,10 @@ fn insert_near(
     index: usize,
     prefix: Prefix,
 ) -> Result<(), AllocError> {
-    if printed
-        .get(index)
-        .is_some_and(|known| known.prefix == prefix)
-    {
-        return Ok(());
+    if let Some(known) = printed.get(index) {
+        if known.prefix == prefix {
+            return Ok(());
+        }
     }
     let new = PrintedRoute {
         prefix,
@@ -290,27 +291,28 @@ fn insert_near(
     Ok(())
 }
 
-/// Writes a line for each of the prefixes whose selected route is another one, or that is doubtful.
-/// Returns whether there was one.
+/// Writes a line for each of the prefixes whose selected route is another one, or that is doubtful, and flushes if there was
+/// one.
 fn write_changed<W: Write>(
     lines: &RouteLines<'_>,
     printed: &mut [PrintedRoute],
     speaker: &Speaker,
     moment: u64,
     out: &mut W,
-) -> Result<bool, LineFault> {
+) -> io::Result<()> {
     let mut has_changed = false;
     let mut near = 0;
     for entry in printed.iter_mut() {
         let selected = speaker.selected_near(&entry.prefix, &mut near);
         if entry.is_doubtful || !lines.are_same(&selected, &entry.route) {
-            lines
-                .write_change(moment, &entry.prefix, &selected, out)
-                .map_err(LineFault::of_writing)?;
+            lines.write_change(moment, &entry.prefix, &selected, out)?;
             entry.route = selected;
             entry.is_doubtful = false;
             has_changed = true;
         }
     }
-    Ok(has_changed)
+    if has_changed {
+        return out.flush();
+    }
+    Ok(())
 }

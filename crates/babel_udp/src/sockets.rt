@@ -3,7 +3,7 @@
 ghost use Rattle.std.specs.Prelude.{◌≡◌, ◌≤◌, length, IfOk, IfSome};
 
 use crate::SpeakFault;
-use crate::links::Links;
+use crate::links::{Link, Links};
 use babel_state::Target;
 use babel_value::Addr;
 use babel_wire::{Arrival, Wire, WireFault};
@@ -55,14 +55,10 @@ impl<'a, R: Clock + Net> UdpWire<'a, R> {
     ) -> Result<UdpWire<'a, R>, SpeakFault>
         ensures { IfOk result (λ wire. wire.faults ≡ 0) }
     {
-        let start = Instant::now(rt).map_err(|_| SpeakFault::Socket)?;
-        let mut ports = Vec::new(alloc);
-        for link in links.links {
-            let address = link.address.ok_or(SpeakFault::Transport)?;
-            let socket = bind_socket(rt, address, port).map_err(|_| SpeakFault::Socket)?;
-            let peers = link.peers;
-            push_port(&mut ports, Port { socket, peers })?;
-        }
+        let Ok(start) = Instant::now(rt) else {
+            return Err(SpeakFault::Socket);
+        };
+        let ports = bind_ports(alloc, rt, links, port)?;
         Ok(UdpWire {
             clock: rt,
             start,
@@ -75,9 +71,35 @@ impl<'a, R: Clock + Net> UdpWire<'a, R> {
     }
 }
 
+/// A socket for each link, bound to its address and the port of this number.
+fn bind_ports<R: Net>(
+    alloc: Global,
+    rt: &R,
+    links: Links,
+    number: u16,
+) -> Result<Vec<Port>, SpeakFault> {
+    let mut ports = Vec::new(alloc);
+    for link in links.links {
+        let port = bind_port(rt, link, number)?;
+        push_port(&mut ports, port)?;
+    }
+    Ok(ports)
+}
+
 fn push_port(ports: &mut Vec<Port>, port: Port) -> Result<(), AllocError> {
     ports.push(port)?;
     Ok(())
+}
+
+fn bind_port<R: Net>(rt: &R, link: Link, number: u16) -> Result<Port, SpeakFault> {
+    let Some(address) = link.address else {
+        return Err(SpeakFault::Transport);
+    };
+    let peers = link.peers;
+    match bind_socket(rt, address, number) {
+        Ok(socket) => Ok(Port { socket, peers }),
+        Err(_) => Err(SpeakFault::Socket),
+    }
 }
 
 fn bind_socket<R: Net>(rt: &R, address: [u8; 4], port: u16) -> io::Result<UdpSocket> {

@@ -1,12 +1,12 @@
 //! The control socket of a speaker over UDP, with the poll that watches it.
 
-use crate::Counts;
 use babel_control::{
     ControlPlace, DeviceAddresses, DeviceView, Keeping, LogSource, TurnCounts, Wish,
 };
-use babel_control_speaker::{Control, LiveLog, Service, remove_socket};
+use babel_control_speaker::{Control, LiveLog, Service};
 use babel_speaker::Speaker;
 use babel_state::InterfaceEntry;
+use babel_udp::Counts;
 use mio::{Events, Poll, Token};
 use std::alloc::{AllocError, Global};
 use std::fs::Files;
@@ -119,13 +119,6 @@ fn bit_of(token: usize) -> u64 {
     match token {
         number @ 0..64 => 1 << number,
         _ => 0,
-    }
-}
-
-/// Takes the socket's file away, if it is one.
-pub(crate) fn close<R: Files>(rt: &R, place: Option<ControlPlace<'_>>) {
-    if let Some(place) = place {
-        remove_socket(rt, place);
     }
 }
 

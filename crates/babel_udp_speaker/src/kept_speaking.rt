@@ -2,20 +2,18 @@
 
 ghost use Rattle.std.specs.Prelude.{◌≡◌};
 
-use crate::SpeakFault;
-use crate::counting::{Counts, LastKeep};
-use crate::desk::{Desk, close};
-use crate::keeping::{KeptWire, open_kept};
-use crate::links::Links;
-use crate::selections::{RouteLines, Selections};
-use crate::sockets::UdpWire;
+use crate::desk::Desk;
 use crate::speaking::{MAX_DATAGRAM_LEN, checked_links};
 use babel_control::{ControlPlace, Keeping, Wish};
+use babel_control_speaker::remove_socket;
 use babel_durable::{DurableDriver, DurableReport, Observer, drive_durable};
-use babel_snapshot_file::{Kept, LockFile, SnapshotFileFault, SnapshotStore};
+use babel_snapshot_file::{Kept, LockFile, SnapshotFileFault};
 use babel_speaker::Speaker;
 use babel_state::{Config, Note, RecvFault, Target};
 use babel_text::LineFault;
+use babel_udp::{
+    Counts, KeptWire, LastKeep, Links, RouteLines, Selections, SpeakFault, UdpWire, open_kept,
+};
 use babel_value::Peer;
 use babel_wire::{Arrival, Receipts, Wire};
 use std::alloc::{AllocError, Global};
@@ -28,7 +26,7 @@ use std::time::Clock;
 const MAX_FAULTS: u64 = 1 << 62;
 
 /// How long a speaker speaks, on which port, what it prints, and where it is kept.
-#[derive(Clone, Copy, Debug)]
+#[derive(Clone, Copy)]
 pub struct KeptOptions<'a> {
     /// How many turns it has.
     pub turns: u32,
@@ -99,9 +97,9 @@ fn start_over<'a, R: AllocGlobal + Net + Clock + Files>(
 where
     R::File: LockFile,
 {
-    let (store, speaker) = match opened(rt, config, options.keep) {
+    let (store, speaker) = match open_kept(rt.alloc(), rt, config, options.keep) {
         Ok(opened) => opened,
-        Err(fault) => return Err(fault),
+        Err(fault) => return Err(SpeakFault::from(fault)),
     };
     match UdpWire::bind(rt.alloc(), rt, links, options.port) {
         Ok(wire) => {
@@ -109,27 +107,6 @@ where
             Ok(Started { speaker, wire })
         }
         Err(fault) => Err(fault),
-    }
-}
-
-/// The speaker, and the file that it is kept in if there is to be one.
-fn opened<'a, R: AllocGlobal + Files>(
-    rt: &'a R,
-    config: Config,
-    keep: Option<Kept<'a>>,
-) -> Result<(Option<SnapshotStore<'a, R>>, Speaker), SpeakFault>
-where
-    R::File: LockFile,
-{
-    match keep {
-        Some(keep) => match open_kept(rt.alloc(), rt, config, keep) {
-            Ok((store, speaker)) => Ok((Some(store), speaker)),
-            Err(fault) => Err(SpeakFault::from(fault)),
-        },
-        None => match Speaker::new(rt.alloc(), config) {
-            Ok(speaker) => Ok((None, speaker)),
-            Err(fault) => Err(SpeakFault::Config(fault)),
-        },
     }
 }
 
@@ -161,7 +138,7 @@ where
     let mut driver = DurableDriver::new(rt.alloc(), MAX_DATAGRAM_LEN)?;
     let mut printer = open_printer(rt, options, out, err)?;
     let taken = take_turns(options.turns, started, &mut driver, &mut printer);
-    close(rt, options.control);
+    remove_socket(rt, options.control);
     end_turns(taken, &started.speaker, &mut printer)
 }
 
@@ -184,7 +161,15 @@ fn open_printer<'s, R: AllocGlobal + Net + Files, W: Write, E: Write>(
 ) -> Result<Printer<'s, W, E>, SpeakFault> {
     let routes = printed_routes(rt.alloc(), options)?;
     match open_desk(rt, options.control) {
-        Ok(desk) => Ok(Printer::new(routes, desk, out, err)),
+        Ok(desk) => Ok(Printer {
+            out,
+            err,
+            routes,
+            counts: Counts::default(),
+            last_keep: LastKeep::Done,
+            written: Ok(()),
+            desk,
+        }),
         Err(fault) => Err(fault),
     }
 }
@@ -253,24 +238,7 @@ struct Printer<'s, W: Write, E: Write> {
     desk: Option<Desk>,
 }
 
-impl<'s, W: Write, E: Write> Printer<'s, W, E> {
-    fn new(
-        routes: Option<Selections<'s>>,
-        desk: Option<Desk>,
-        out: &'s mut W,
-        err: &'s mut E,
-    ) -> Printer<'s, W, E> {
-        Printer {
-            out,
-            err,
-            routes,
-            counts: Counts::default(),
-            last_keep: LastKeep::Done,
-            written: Ok(()),
-            desk,
-        }
-    }
-
+impl<W: Write, E: Write> Printer<'_, W, E> {
     /// Serves those who ask the speaker, and returns what one wants of it.
     fn serve(&mut self, speaker: &Speaker, now: u64, keeping: Keeping) -> Wish {
         match &mut self.desk {
@@ -286,13 +254,10 @@ impl<'s, W: Write, E: Write> Printer<'s, W, E> {
     }
 
     fn write_changes(&mut self, speaker: &Speaker, moment: u64) -> Result<(), LineFault> {
-        let Some(routes) = &mut self.routes else {
-            return Ok(());
-        };
-        if routes.write_changes(speaker, moment, self.out)? {
-            self.out.flush().map_err(LineFault::of_writing)?;
+        match &mut self.routes {
+            Some(routes) => routes.write_changes(speaker, moment, self.out),
+            None => Ok(()),
         }
-        Ok(())
     }
 
     /// After the last turn: the selected routes and the counts.
@@ -303,7 +268,9 @@ impl<'s, W: Write, E: Write> Printer<'s, W, E> {
     fn end(&mut self, speaker: &Speaker) -> Result<(), LineFault> {
         self.written?;
         if let Some(routes) = &self.routes {
-            routes.write_table(speaker, self.out)?;
+            routes
+                .write_table(speaker, self.out)
+                .map_err(LineFault::of_writing)?;
         }
         self.counts.write_to(self.out)
     }

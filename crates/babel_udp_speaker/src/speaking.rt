@@ -2,15 +2,12 @@
 
 ghost use Rattle.std.specs.Prelude.{◌≡◌};
 
-use crate::SpeakFault;
-use crate::counting::write_report;
-use crate::links::Links;
-use crate::selections::{RouteLines, Selections};
 use crate::snapshots::{make_speaker, save};
-use crate::sockets::UdpWire;
+use babel_durable::DurableReport;
 use babel_speaker::Speaker;
 use babel_state::Config;
 use babel_text::LineFault;
+use babel_udp::{Counts, Links, RouteLines, Selections, SpeakFault, UdpWire};
 use babel_wire::{Report, drive};
 use std::alloc::Global;
 use std::fs::Files;
@@ -22,7 +19,7 @@ use std::time::Clock;
 pub(crate) const MAX_DATAGRAM_LEN: usize = 65535;
 
 /// How long a speaker speaks, on which port, what it prints, and where it is saved.
-#[derive(Clone, Copy, Debug)]
+#[derive(Clone, Copy)]
 pub struct SpeakOptions<'a> {
     /// How many turns it has.
     pub turns: u32,
@@ -94,11 +91,22 @@ fn speak_and_save<R: AllocGlobal + Net + Clock + Files, W: Write>(
     let saved = save(rt.alloc(), rt, speaker, options.save);
     // The counts are written also if the speaker can't be saved.
     let written = match report {
-        Ok(report) => write_report(u64::from(options.turns), report, out),
+        Ok(report) => counts_of(options, report).write_to(out),
         Err(fault) => Err(fault),
     };
     saved?;
     Ok(written?)
+}
+
+/// The counts of all turns.
+fn counts_of(options: SpeakOptions<'_>, report: Report) -> Counts {
+    Counts {
+        turns: u64::from(options.turns),
+        report: DurableReport {
+            report,
+            ..DurableReport::default()
+        },
+    }
 }
 
 /// Drives the speaker for all turns.
@@ -138,10 +146,10 @@ fn speak_with_routes<R: Net + Clock, W: Write>(
         report.sent += turn.sent;
         report.refused += turn.refused;
         report.faults += turn.faults;
-        if selections.write_changes(speaker, wire.moment(), out)? {
-            out.flush().map_err(LineFault::of_writing)?;
-        }
+        selections.write_changes(speaker, wire.moment(), out)?;
     }
-    selections.write_table(speaker, out)?;
-    Ok(report)
+    match selections.write_table(speaker, out) {
+        Ok(()) => Ok(report),
+        Err(error) => Err(LineFault::of_writing(error)),
+    }
 }

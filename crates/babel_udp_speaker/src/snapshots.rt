@@ -1,9 +1,9 @@
 //! A speaker is restored from a file, and saved to one.
 
-use crate::SpeakFault;
 use babel_snapshot_file::{SnapshotFileFault, read_snapshot, replace_file};
 use babel_speaker::Speaker;
 use babel_state::Config;
+use babel_udp::SpeakFault;
 use std::alloc::Global;
 use std::fs::Files;
 use std::io::Read;
