@@ -43,9 +43,13 @@ pub enum Action<'a> {
     },
 }
 
-// The words after the time.
+/// The word after the time of a tick.
 const TICK: &[u8] = b"tick";
+
+/// The word after the time of a datagram.
 const IN: &[u8] = b"in";
+
+/// The word after the time of a new cost.
 const COST: &[u8] = b"cost";
 
 /// Whether the line is skipped: it is empty, or begins with `#`.
