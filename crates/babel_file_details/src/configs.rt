@@ -33,12 +33,13 @@ pub(crate) fn config_problem<'a>(
 
 /// The first interface with IPv6 transport.
 pub(crate) fn ipv6_transport<'a>(config: &Config) -> Option<Finding<'a>> {
-    let iface = config
-        .interfaces
-        .iter()
-        .position(|interface| interface.transport == Family::Ipv6)?;
-    let owner = Owner::FILE.interface(iface);
-    Some(Finding::of_key(owner, Key::Transport, Problem::Ipv6Transport))
+    for (iface, interface) in config.interfaces.iter().enumerate() {
+        if interface.transport == Family::Ipv6 {
+            let owner = Owner::FILE.interface(iface);
+            return Some(Finding::of_key(owner, Key::Transport, Problem::Ipv6Transport));
+        }
+    }
+    None
 }
 
 fn interface_count<'a>(owner: Owner, count: usize) -> Finding<'a> {
@@ -97,9 +98,8 @@ fn prefixes_problem<'a>(owner: Owner, prefixes: &[Prefix]) -> Option<Finding<'a>
         return Some(Finding::of_element(owner, Key::Prefixes, MAX_PREFIXES, problem));
     }
     for (index, prefix) in prefixes.iter().enumerate() {
-        let first = prefixes.iter().position(|other| other.cmp(prefix).is_eq());
-        if let Some(first) = first {
-            if first < index {
+        for (first, other) in prefixes.iter().enumerate().take(index) {
+            if other.cmp(prefix).is_eq() {
                 let problem = Problem::PrefixTwice(AddrRange::of(prefix), first);
                 return Some(Finding::of_element(owner, Key::Prefixes, index, problem));
             }

@@ -5,7 +5,7 @@ use babel_value::Addr;
 use std::fmt;
 
 /// What is wrong with an event. Its text is that of the finding.
-#[derive(Clone, Copy, Debug)]
+#[derive(Clone, Copy)]
 pub(crate) enum EventProblem {
     /// There is no event of this name; one whose name is near.
     UnknownWord(Option<EventWord>),
@@ -30,7 +30,7 @@ pub(crate) enum EventProblem {
 }
 
 /// The first word of an event.
-#[derive(Clone, Copy, Debug, PartialEq, Eq)]
+#[derive(Clone, Copy)]
 pub(crate) enum EventWord {
     Tick,
     Emit,

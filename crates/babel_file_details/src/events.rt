@@ -5,15 +5,16 @@ use crate::findings::Finding;
 use crate::keys::Key;
 use crate::locations::{Location, Owner};
 use crate::nearest::Nearest;
-use crate::networks::{ipv4_of, ipv6_of, is_same};
+use crate::networks::has_address;
 use crate::problems::Problem;
 use crate::ranges::AddrRange;
 use babel_config::{HeardDatagram, Scenario, ScenarioEvent};
 use babel_machine::{Event, StepFault};
 use babel_net::HearFault;
-use babel_state::{Config, Interface};
+use babel_state::Config;
 use babel_value::Addr;
 use std::alloc::Global;
+use toml::Value;
 
 /// Why the text is no event.
 pub(crate) fn event_text_problem(alloc: Global, text: &str) -> EventProblem {
@@ -28,43 +29,44 @@ pub(crate) fn event_text_problem(alloc: Global, text: &str) -> EventProblem {
     EventProblem::UnknownWord(nearest.found)
 }
 
-/// Why the event of this number is refused. `text` is that of the event.
+/// Why the event of this number is refused. `file` is the table of the file.
 pub(crate) fn refused_event<'a>(
+    file: &'a Value,
     scenario: &Scenario,
     number: usize,
-    text: &'a str,
     fault: StepFault,
 ) -> Option<Finding<'a>> {
     match scenario.events.get(number)? {
-        ScenarioEvent::Ours(event) => {
-            Some(of_event(number, text, step_problem(scenario, event, fault)?))
-        }
+        ScenarioEvent::Ours(event) => of_event(file, number, step_problem(scenario, event, fault)?),
         ScenarioEvent::Heard(_) => None,
     }
 }
 
-/// Why the datagram that the event of this number brings isn't heard. `text` is that of the event.
+/// Why the datagram that the event of this number brings isn't heard. `file` is the table of the
+/// file.
 pub(crate) fn refused_hearing<'a>(
+    file: &'a Value,
     scenario: &Scenario,
     number: usize,
-    text: &'a str,
     fault: HearFault,
 ) -> Option<Finding<'a>> {
     match scenario.events.get(number)? {
-        ScenarioEvent::Heard(heard) => {
-            Some(of_event(number, text, hear_problem(scenario, heard, fault)?))
-        }
+        ScenarioEvent::Heard(heard) => of_event(
+            file,
+            number,
+            hear_problem(scenario, heard, fault)?,
+        ),
         ScenarioEvent::Ours(_) => None,
     }
 }
 
 /// The problem of the event of this number.
-fn of_event<'a>(number: usize, text: &'a str, problem: EventProblem) -> Finding<'a> {
-    Finding {
+fn of_event<'a>(file: &'a Value, number: usize, problem: EventProblem) -> Option<Finding<'a>> {
+    Some(Finding {
         at: Location::of_element(Owner::FILE, Key::Events, number),
-        text,
+        text: file.get("events")?.get(number)?.as_str()?,
         problem: Problem::Event(number, problem),
-    }
+    })
 }
 
 fn hear_problem(
@@ -89,14 +91,14 @@ fn hear_problem(
 
 /// The node that has the address.
 fn owner_of(configs: &[Config], addr: Addr) -> Option<usize> {
-    configs.iter().position(|config| config
-        .interfaces
-        .iter()
-        .any(|interface| has(interface, addr)))
-}
-
-fn has(interface: &Interface, addr: Addr) -> bool {
-    is_same(addr, ipv4_of(interface)) || is_same(addr, ipv6_of(interface))
+    for (node, config) in configs.iter().enumerate() {
+        for interface in config.interfaces.iter() {
+            if has_address(interface, addr) {
+                return Some(node);
+            }
+        }
+    }
+    None
 }
 
 fn step_problem(scenario: &Scenario, event: &Event, fault: StepFault) -> Option<EventProblem> {

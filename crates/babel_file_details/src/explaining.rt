@@ -14,11 +14,12 @@ use babel_machine::{NetFault, StepFault};
 use babel_net::HearFault;
 use babel_state::ConfigFault;
 use std::alloc::Global;
+use std::fmt;
 use std::io::{self, Write};
 use toml::Value;
 
 /// What a file is for.
-#[derive(Clone, Copy, Debug, PartialEq, Eq)]
+#[derive(Clone, Copy)]
 pub enum FileKind {
     /// The configuration of a speaker.
     Config,
@@ -47,14 +48,37 @@ pub fn explain_file<W: Write>(
                 None => writeln!(out, "{}: {fault}", file.name),
             }
         }
-        Err(error) => match error.span() {
-            Some(span) => {
-                let position = Position::after(file.octets, span.start);
-                let name = file.name;
-                writeln!(out, "{name}:{position}: {}", error.message())
-            }
-            None => writeln!(out, "{}: {fault}", file.name),
-        },
+        Err(error) => write_syntax_error(file, &error, &fault, out),
+    }
+}
+
+/// Writes why the text of a file is no TOML. `fault` has the sentence if nothing is known of the
+/// place.
+pub(crate) fn write_syntax_error<F: fmt::Display, W: Write>(
+    file: FileText<'_>,
+    error: &toml::de::Error,
+    fault: &F,
+    out: &mut W,
+) -> io::Result<()> {
+    match error.span() {
+        Some(span) => {
+            let position = Position::after(file.octets, span.start);
+            write_sentence(file.name, Some(position), &error.message(), out)
+        }
+        None => write_sentence(file.name, None, fault, out),
+    }
+}
+
+/// Writes a sentence about a file, after the file's name, and the position if it is found.
+pub(crate) fn write_sentence<S: fmt::Display, W: Write>(
+    name: &str,
+    position: Option<Position>,
+    sentence: &S,
+    out: &mut W,
+) -> io::Result<()> {
+    match position {
+        Some(position) => writeln!(out, "{name}:{position}: {sentence}"),
+        None => writeln!(out, "{name}: {sentence}"),
     }
 }
 
@@ -119,10 +143,8 @@ pub fn explain_event<W: Write>(
     out: &mut W,
 ) -> io::Result<()> {
     if let Some((table, scenario)) = read_twice(alloc, file.octets) {
-        if let Some(text) = event_text(&table, number) {
-            if let Some(finding) = refused_event(&scenario, number, text, fault) {
-                return write_finding(alloc, file, &finding, out);
-            }
+        if let Some(finding) = refused_event(&table, &scenario, number, fault) {
+            return write_finding(alloc, file, &finding, out);
         }
     }
     writeln!(out, "{}: event {number}: {fault}", file.name)
@@ -137,10 +159,8 @@ pub fn explain_hearing<W: Write>(
     out: &mut W,
 ) -> io::Result<()> {
     if let Some((table, scenario)) = read_twice(alloc, file.octets) {
-        if let Some(text) = event_text(&table, number) {
-            if let Some(finding) = refused_hearing(&scenario, number, text, fault) {
-                return write_finding(alloc, file, &finding, out);
-            }
+        if let Some(finding) = refused_hearing(&table, &scenario, number, fault) {
+            return write_finding(alloc, file, &finding, out);
         }
     }
     writeln!(out, "{}: event {number}: {fault}", file.name)
@@ -153,11 +173,6 @@ fn read_twice(alloc: Global, octets: &[u8]) -> Option<(Value, Scenario)> {
     Some((Value::Table(table), scenario))
 }
 
-/// The text of an event.
-fn event_text(file: &Value, number: usize) -> Option<&str> {
-    file.get("events")?.get(number)?.as_str()
-}
-
 /// Writes a line for each thing of a configuration that can't work, though a speaker can be made
 /// of it.
 pub fn write_warnings<W: Write>(alloc: Global, file: FileText<'_>, out: &mut W) -> io::Result<()> {
@@ -165,12 +180,30 @@ pub fn write_warnings<W: Write>(alloc: Global, file: FileText<'_>, out: &mut W) 
         return Ok(());
     };
     let found = warnings_of(alloc, &config)?;
-    for warning in found.iter() {
-        let finding = warning.finding();
-        write_head(alloc, file, &finding, out)?;
-        writeln!(out, "warning: {finding}")?;
+    write_each_warning(alloc, file, found.as_slice(), out)
+}
+
+fn write_each_warning<W: Write>(
+    alloc: Global,
+    file: FileText<'_>,
+    found: &[Finding<'_>],
+    out: &mut W,
+) -> io::Result<()> {
+    for finding in found {
+        let position = position_of(alloc, file.octets, finding);
+        write_sentence(file.name, position, &Warning(finding), out)?;
     }
     Ok(())
+}
+
+/// What can't work, as it is written.
+#[derive(Clone, Copy)]
+struct Warning<'a>(&'a Finding<'a>);
+
+impl fmt::Display for Warning<'_> {
+    fn fmt<W: fmt::Write>(&self, f: &mut fmt::Formatter<W>) -> fmt::Result {
+        write!(f, "warning: {}", self.0)
+    }
 }
 
 fn write_finding<W: Write>(
@@ -179,37 +212,23 @@ fn write_finding<W: Write>(
     finding: &Finding<'_>,
     out: &mut W,
 ) -> io::Result<()> {
-    write_head(alloc, file, finding, out)?;
-    writeln!(out, "{}", finding)
-}
-
-/// Writes the file's name, and the position if it is found.
-fn write_head<W: Write>(
-    alloc: Global,
-    file: FileText<'_>,
-    finding: &Finding<'_>,
-    out: &mut W,
-) -> io::Result<()> {
-    let name = file.name;
-    match position_of(alloc, file.octets, finding) {
-        Some(position) => write!(out, "{name}:{position}: "),
-        None => write!(out, "{name}: "),
-    }
+    write_sentence(
+        file.name,
+        position_of(alloc, file.octets, finding),
+        finding,
+        out,
+    )
 }
 
 fn position_of(alloc: Global, octets: &[u8], finding: &Finding<'_>) -> Option<Position> {
-    let Ok(mut steps) = finding.at.steps(alloc) else {
-        return None;
+    let mut path = finding.at.path();
+    let side = match finding.problem {
+        // The problem is about a key, and not about its value.
+        Problem::UnknownKey(_, _) => {
+            path.push(Step::Key(finding.text));
+            Side::Key
+        }
+        _ => Side::Value,
     };
-    let is_of_key = is_unknown_key(finding.problem);
-    if is_of_key && steps.push(Step::Key(finding.text)).is_err() {
-        return None;
-    }
-    let side = if is_of_key { Side::Key } else { Side::Value };
-    position_at(alloc, octets, steps.as_slice(), side)
-}
-
-/// Whether the problem is about a key, and not about its value.
-fn is_unknown_key(problem: Problem) -> bool {
-    matches!(problem, Problem::UnknownKey(_, _))
+    position_at(alloc, octets, &path, side)
 }

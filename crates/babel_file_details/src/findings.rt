@@ -5,7 +5,7 @@ use crate::locations::{Location, Owner};
 use crate::problems::Problem;
 
 /// A problem, and where in the file it is.
-#[derive(Clone, Copy, Debug)]
+#[derive(Clone, Copy)]
 pub(crate) struct Finding<'a> {
     pub(crate) at: Location,
     /// The text that the problem is about: an unknown key, or a value. Empty if it is about none.

@@ -1,7 +1,7 @@
 //! The keys of a file.
 
 /// A key that some table may have.
-#[derive(Clone, Copy, Debug, PartialEq, Eq)]
+#[derive(Clone, Copy)]
 pub(crate) enum Key {
     Events,
     Node,

@@ -1,12 +1,11 @@
 //! Where a value is in the tables of a file.
 
 use crate::keys::Key;
-use crate::toml_places::Step;
-use std::alloc::{AllocError, Global};
+use crate::toml_places::{Path, Step};
 use std::fmt;
 
 /// The table that a key is in.
-#[derive(Clone, Copy, Debug, PartialEq, Eq)]
+#[derive(Clone, Copy, PartialEq, Eq)]
 pub(crate) struct Owner {
     /// The node of a scenario; a configuration's file has none.
     pub(crate) node: Option<usize>,
@@ -51,7 +50,7 @@ impl fmt::Display for Owner {
 }
 
 /// Where a value is.
-#[derive(Clone, Copy, Debug, PartialEq, Eq)]
+#[derive(Clone, Copy)]
 pub(crate) struct Location {
     /// The table.
     pub(crate) owner: Owner,
@@ -89,23 +88,21 @@ impl Location {
         }
     }
 
-    /// The steps from the table of the file.
-    pub(crate) fn steps<'a>(&self, alloc: Global) -> Result<Vec<Step<'a>>, AllocError> {
-        let mut steps = Vec::new(alloc);
+    /// The path from the table of the file.
+    pub(crate) fn path<'a>(&self) -> Path<'a> {
+        let mut path = Path::new();
         if let Some(node) = self.owner.node {
-            steps.push(Step::Key("node"))?;
-            steps.push(Step::Index(node))?;
+            path.push_element("node", node);
         }
         if let Some(iface) = self.owner.iface {
-            steps.push(Step::Key("interface"))?;
-            steps.push(Step::Index(iface))?;
+            path.push_element("interface", iface);
         }
         if let Some(key) = self.key {
-            steps.push(Step::Key(key.name()))?;
+            path.push(Step::Key(key.name()));
         }
         if let Some(index) = self.index {
-            steps.push(Step::Index(index))?;
+            path.push(Step::Index(index));
         }
-        Ok(steps)
+        path
     }
 }

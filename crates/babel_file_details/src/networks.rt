@@ -23,9 +23,13 @@ pub(crate) fn network_problem<'a>(configs: &[Config], fault: NetFault) -> Option
             config_problem(Owner::of_node(node), configs.get(node)?, fault)
         }
         NetFault::CollectsSources => {
-            let node = configs.iter().position(|config| config.collect)?;
-            let owner = Owner::of_node(node);
-            Some(Finding::of_key(owner, Key::Collect, Problem::Collects))
+            for (node, config) in configs.iter().enumerate() {
+                if config.collect {
+                    let owner = Owner::of_node(node);
+                    return Some(Finding::of_key(owner, Key::Collect, Problem::Collects));
+                }
+            }
+            None
         }
         NetFault::AddressTwice => address_twice(configs),
         NetFault::RouterIdTwice => router_id_twice(configs),
@@ -36,11 +40,8 @@ pub(crate) fn network_problem<'a>(configs: &[Config], fault: NetFault) -> Option
 /// The first router-id that an earlier node has too.
 fn router_id_twice<'a>(configs: &[Config]) -> Option<Finding<'a>> {
     for (node, config) in configs.iter().enumerate() {
-        let first = configs
-            .iter()
-            .position(|other| other.router_id == config.router_id);
-        if let Some(first) = first {
-            if first < node {
+        for (first, other) in configs.iter().enumerate().take(node) {
+            if other.router_id == config.router_id {
                 let owner = Owner::of_node(node);
                 let problem = Problem::RouterIdTwice(first);
                 return Some(Finding::of_key(owner, Key::RouterId, problem));
@@ -117,7 +118,12 @@ fn shared_address(interface: &Interface, other: &Interface) -> Option<(Key, Addr
     }
 }
 
-pub(crate) fn is_same(addr: Addr, other: Option<Addr>) -> bool {
+/// Whether the address is one of the interface's.
+pub(crate) fn has_address(interface: &Interface, addr: Addr) -> bool {
+    is_same(addr, ipv4_of(interface)) || is_same(addr, ipv6_of(interface))
+}
+
+fn is_same(addr: Addr, other: Option<Addr>) -> bool {
     match other {
         Some(other) => addr.cmp(&other).is_eq(),
         None => false,
@@ -125,13 +131,13 @@ pub(crate) fn is_same(addr: Addr, other: Option<Addr>) -> bool {
 }
 
 /// The interface's IPv4 address.
-pub(crate) fn ipv4_of(interface: &Interface) -> Option<Addr> {
+fn ipv4_of(interface: &Interface) -> Option<Addr> {
     let (octets, _length) = interface.ipv4?;
     Some(Addr::V4(octets))
 }
 
 /// The interface's IPv6 address.
-pub(crate) fn ipv6_of(interface: &Interface) -> Option<Addr> {
+fn ipv6_of(interface: &Interface) -> Option<Addr> {
     let octets = interface.ipv6?;
     Some(Addr::V6(octets))
 }

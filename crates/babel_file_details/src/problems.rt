@@ -11,7 +11,7 @@ use babel_value::{Addr, Family};
 use std::fmt;
 
 /// What a value of the file is.
-#[derive(Clone, Copy, Debug, PartialEq, Eq)]
+#[derive(Clone, Copy)]
 pub(crate) enum Found {
     Text,
     Number,
@@ -37,7 +37,7 @@ impl fmt::Display for Found {
 }
 
 /// What is wrong with a file. The table and the text that it is about are those of its [`Finding`].
-#[derive(Clone, Copy, Debug)]
+#[derive(Clone, Copy)]
 pub(crate) enum Problem {
     /// The table has no such key; a key whose name is near.
     UnknownKey(TableKind, Option<Key>),

@@ -4,7 +4,7 @@ use babel_value::{Addr, Prefix};
 use std::fmt;
 
 /// An address and a length, as they are shown of a prefix.
-#[derive(Clone, Copy, Debug, PartialEq, Eq)]
+#[derive(Clone, Copy)]
 pub(crate) struct AddrRange {
     addr: Addr,
     length: u8,

@@ -1,12 +1,12 @@
 //! The sentence about a file of `run --config` that is refused: line and column, key, value, and
 //! what is allowed.
 
-use crate::explaining::{FileKind, explain_file};
-use crate::toml_places::{FileText, Position, Side, Step, position_at};
+use crate::explaining::{FileKind, explain_file, write_sentence};
+use crate::toml_places::{FileText, Path, Position, Side, Step, position_at};
 use babel_config::FileFault;
 use babel_line_details::Excerpt;
 use babel_router_file::{Cause, DEVICE, DEVICE_KEYS, FILE_KEYS, Kind, Problem, first_problem};
-use std::alloc::{AllocError, Global};
+use std::alloc::Global;
 use std::fmt;
 use std::io::{self, Write};
 
@@ -32,11 +32,8 @@ fn write_problem<W: Write>(
     problem: &Problem<'_>,
     out: &mut W,
 ) -> io::Result<()> {
-    let name = file.name;
-    match position_of(alloc, file.octets, problem) {
-        Some(position) => writeln!(out, "{name}:{position}: {}", Sentence(problem)),
-        None => writeln!(out, "{name}: {}", Sentence(problem)),
-    }
+    let position = position_of(alloc, file.octets, problem);
+    write_sentence(file.name, position, &Sentence(problem), out)
 }
 
 fn position_of(alloc: Global, octets: &[u8], problem: &Problem<'_>) -> Option<Position> {
@@ -44,31 +41,26 @@ fn position_of(alloc: Global, octets: &[u8], problem: &Problem<'_>) -> Option<Po
         Cause::UnknownKey => Side::Key,
         _ => Side::Value,
     };
-    match steps_of(alloc, problem) {
-        Ok(steps) => position_at(alloc, octets, &steps, side),
-        Err(_) => None,
-    }
+    position_at(alloc, octets, &path_of(problem), side)
 }
 
-/// The steps from the table of the file to the value.
-fn steps_of<'a>(alloc: Global, problem: &Problem<'a>) -> Result<Vec<Step<'a>>, AllocError> {
-    let mut steps = Vec::new(alloc);
-    if let Some(device) = problem.device {
-        steps.push(Step::Key(DEVICE))?;
-        steps.push(Step::Key(device))?;
-    } else if is_device(problem.cause) {
-        steps.push(Step::Key(DEVICE))?;
+/// The path from the table of the file to the value.
+fn path_of<'a>(problem: &Problem<'a>) -> Path<'a> {
+    let mut path = Path::new();
+    match (problem.device, problem.cause) {
+        (Some(device), _) => {
+            path.push(Step::Key(DEVICE));
+            path.push(Step::Key(device));
+        }
+        // The key is the name of a device.
+        (None, Cause::WrongKind(Kind::Device)) => path.push(Step::Key(DEVICE)),
+        _ => {}
     }
-    steps.push(Step::Key(problem.key))?;
+    path.push(Step::Key(problem.key));
     if let Some(index) = problem.index {
-        steps.push(Step::Index(index))?;
+        path.push(Step::Index(index));
     }
-    Ok(steps)
-}
-
-/// Whether the key is the name of a device.
-fn is_device(cause: Cause<'_>) -> bool {
-    matches!(cause, Cause::WrongKind(Kind::Device))
+    path
 }
 
 /// A problem, as it is written.

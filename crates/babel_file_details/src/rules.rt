@@ -4,7 +4,7 @@ use crate::keys::Key;
 use std::fmt;
 
 /// A kind of table in a file.
-#[derive(Clone, Copy, Debug, PartialEq, Eq)]
+#[derive(Clone, Copy)]
 pub(crate) enum TableKind {
     /// The file of a scenario.
     Scenario,
@@ -45,7 +45,7 @@ static INTERFACE_KEYS: [Key; 6] = [
 ];
 
 /// What a value is, if it is no list or table.
-#[derive(Clone, Copy, Debug, PartialEq, Eq)]
+#[derive(Clone, Copy)]
 pub(crate) enum ValueKind {
     RouterId,
     /// A number from the first to the second.
@@ -88,21 +88,21 @@ impl fmt::Display for ValueKind {
 }
 
 /// Whether the value at a key is one value, or a list of them.
-#[derive(Clone, Copy, Debug, PartialEq, Eq)]
+#[derive(Clone, Copy)]
 pub(crate) enum Shape {
     One,
     List,
 }
 
 /// Whether a table must have the key.
-#[derive(Clone, Copy, Debug, PartialEq, Eq)]
+#[derive(Clone, Copy)]
 pub(crate) enum Presence {
     Required,
     Optional,
 }
 
 /// What the value at a key is.
-#[derive(Clone, Copy, Debug, PartialEq, Eq)]
+#[derive(Clone, Copy)]
 pub(crate) struct Rule {
     pub(crate) key: Key,
     pub(crate) kind: ValueKind,

@@ -113,7 +113,7 @@ impl Schema {
     ) -> Option<Finding<'a>> {
         for (key, _value) in table.iter() {
             let key = key.as_str();
-            if !kind.keys().iter().any(|known| known.name() == key) {
+            if !has_key(kind, key) {
                 return Some(Finding {
                     at: Location::of_table(owner),
                     text: key,
@@ -169,14 +169,14 @@ impl Schema {
         let problem = match value {
             Value::String(_) if rule.kind.is_text() => self.text_problem(rule, at.index, text)?,
             Value::Integer(number) => number_problem(rule, *number)?,
-            Value::Boolean(_) if rule.kind == ValueKind::TruthValue => return None,
+            Value::Boolean(_) if matches!(rule.kind, ValueKind::TruthValue) => return None,
             other => Problem::WrongKind(rule.key, kind_of(other), rule.kind),
         };
         Some(Finding { at, text, problem })
     }
 
     fn text_problem(self, rule: Rule, index: Option<usize>, text: &str) -> Option<Problem> {
-        if rule.kind == ValueKind::Event {
+        if matches!(rule.kind, ValueKind::Event) {
             let number = index?;
             if self.bad_event != Some(number) {
                 return None;
@@ -189,6 +189,16 @@ impl Schema {
         }
         Some(Problem::BadText(rule.key, rule.kind))
     }
+}
+
+/// Whether a table of this kind may have the key.
+fn has_key(kind: TableKind, key: &str) -> bool {
+    for known in kind.keys() {
+        if known.name() == key {
+            return true;
+        }
+    }
+    false
 }
 
 /// What is wrong with a number.

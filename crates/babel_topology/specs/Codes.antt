@@ -1,5 +1,5 @@
 -- The codes of faults, as a command prints them (profile).
-use Rattle.std.specs.Prelude.{ℕ, List, ◌++◌, codes, Option, Some, None}
+use Rattle.std.specs.Prelude.{ℕ, List, ◌++◌, codes}
 use Rattle.std.specs.Fmt.{decimal}
 use Rattle.babel_topology.specs.declared.errors.TopologyFault.{TopologyFault}
 use Rattle.babel_topology.specs.declared.errors.TopologyFault.TheVariants as faults
@@ -24,8 +24,3 @@ fault_text (faults.LateStep number) = codes "T16 " ++ decimal number
 fault_text (faults.SharedCost number) = codes "T17 " ++ decimal number
 fault_text (faults.BadExpectation number) = codes "T18 " ++ decimal number
 fault_text (faults.LateExpectation number) = codes "T19 " ++ decimal number
-
--- A code, and the number after it if there is one.
-abbrev pub with_number : List ℕ → Option ℕ → List ℕ
-with_number code None = code
-with_number code (Some number) = code ++ codes " " ++ decimal number

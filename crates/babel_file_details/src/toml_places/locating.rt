@@ -2,26 +2,15 @@
 //!
 //! The document was read already. Here it is read again, line by line, along one path.
 
+use crate::toml_places::paths::{MAX_STEPS, Step};
 use crate::toml_places::skipping::skip_value;
 use std::alloc::Global;
 use toml_parser::text::{skip_blank, skip_ws};
 use toml_parser::{Key, dotted_key};
 
-/// A step from a table to a value at its key, or from a list to one of its elements.
-#[derive(Clone, Copy, Debug, PartialEq, Eq)]
-pub enum Step<'a> {
-    /// The value at the key.
-    Key(&'a str),
-    /// The element with this index.
-    Index(usize),
-}
-
-/// The most steps of a path: a node, an interface, a key and an element.
-const MAX_STEPS: usize = 6;
-
 /// Where a value is: the texts that begin with its key and with itself. For a table with a header
 /// both begin with the header, and for an element both with the element.
-#[derive(Clone, Copy, Debug)]
+#[derive(Clone, Copy)]
 pub struct Place<'t> {
     /// The text that begins with the key.
     pub key: &'t str,
@@ -157,15 +146,12 @@ fn take_header<'t>(
     path: &[Step<'_>],
     section: &mut Section,
 ) -> Option<Line<'t>> {
-    let rest = if let Some(name) = start.strip_prefix("[[") {
-        let (key, rest) = read_key(alloc, skip_ws(name))?;
-        section.enter_element(&key, path);
-        rest.strip_prefix("]]")?
-    } else {
-        let name = start.strip_prefix('[')?;
-        let (key, rest) = read_key(alloc, skip_ws(name))?;
-        section.enter_table(&key, path);
-        rest.strip_prefix(']')?
+    let rest = match start.strip_prefix("[[") {
+        Some(name) => enter_element(alloc, name, path, section)?.strip_prefix("]]")?,
+        None => {
+            let name = start.strip_prefix('[')?;
+            enter_table(alloc, name, path, section)?.strip_prefix(']')?
+        }
     };
     Some(match section.depth {
         Some(depth) if depth == path.len() => Line::Found(Place {
@@ -176,21 +162,56 @@ fn take_header<'t>(
     })
 }
 
+/// Goes into the new element of a header. Returns what follows its key.
+fn enter_element<'t>(
+    alloc: Global,
+    name: &'t str,
+    path: &[Step<'_>],
+    section: &mut Section,
+) -> Option<&'t str> {
+    let (key, rest) = read_key(alloc, skip_ws(name))?;
+    section.enter_element(&key, path);
+    Some(rest)
+}
+
+/// Goes into the table of a header. Returns what follows its key.
+fn enter_table<'t>(
+    alloc: Global,
+    name: &'t str,
+    path: &[Step<'_>],
+    section: &mut Section,
+) -> Option<&'t str> {
+    let (key, rest) = read_key(alloc, skip_ws(name))?;
+    section.enter_table(&key, path);
+    Some(rest)
+}
+
 fn take_pair<'t>(
     alloc: Global,
     start: &'t str,
     path: &[Step<'_>],
     section: &Section,
 ) -> Option<Line<'t>> {
-    let (key, rest) = read_key(alloc, start)?;
+    let (depth, rest) = read_pair(alloc, start, path, section)?;
     let value = skip_ws(rest.strip_prefix('=')?);
-    if let Some(depth) = section.along_pair(&key, path) {
+    if let Some(depth) = depth {
         let place = Place { key: start, value };
         if let Some(found) = descend(alloc, place, depth, path) {
             return Some(Line::Found(found));
         }
     }
     Some(Line::Other(skip_value(alloc, value)?))
+}
+
+/// The number of steps to the value of a pair, if they lead to it, and what follows its key.
+fn read_pair<'t>(
+    alloc: Global,
+    start: &'t str,
+    path: &[Step<'_>],
+    section: &Section,
+) -> Option<(Option<usize>, &'t str)> {
+    let (key, rest) = read_key(alloc, start)?;
+    Some((section.along_pair(&key, path), rest))
 }
 
 /// The key with which the text begins, and what follows it.
@@ -234,14 +255,20 @@ fn member<'t>(alloc: Global, table: &'t str, wanted: &str) -> Option<Place<'t>> 
     let mut rest = table.strip_prefix('{')?;
     for _ in 0..table.len() {
         let start = skip_blank(rest, true);
-        let (key, after) = read_key(alloc, start)?;
+        let (is_wanted, after) = read_member(alloc, start, wanted)?;
         let value = skip_ws(after.strip_prefix('=')?);
-        if key.path.is_empty() && key.last.as_str() == wanted {
+        if is_wanted {
             return Some(Place { key: start, value });
         }
         rest = after_comma(skip_value(alloc, value)?)?;
     }
     None
+}
+
+/// Whether the text begins with this key alone, and what follows its key.
+fn read_member<'t>(alloc: Global, text: &'t str, wanted: &str) -> Option<(bool, &'t str)> {
+    let (key, rest) = read_key(alloc, text)?;
+    Some((key.path.is_empty() && key.last.as_str() == wanted, rest))
 }
 
 fn after_comma(text: &str) -> Option<&str> {

@@ -1,11 +1,12 @@
 //! Lines and columns.
 
-use crate::toml_places::locating::{Step, locate};
+use crate::toml_places::locating::locate;
+use crate::toml_places::paths::Path;
 use std::alloc::Global;
 use std::fmt;
 
 /// A line and a column, both from 1 on. A column counts characters.
-#[derive(Clone, Copy, Debug, PartialEq, Eq)]
+#[derive(Clone, Copy)]
 pub struct Position {
     line: usize,
     column: usize,
@@ -36,7 +37,7 @@ impl fmt::Display for Position {
 }
 
 /// Whether the position of a key or of its value is looked for.
-#[derive(Clone, Copy, Debug, PartialEq, Eq)]
+#[derive(Clone, Copy)]
 pub enum Side {
     /// That of the key.
     Key,
@@ -44,17 +45,13 @@ pub enum Side {
     Value,
 }
 
-/// The position of what the steps lead to in the text of a TOML document. `None` if it isn't
+/// The position of what the path leads to in the text of a TOML document. `None` if it isn't
 /// there, or if an allocation fails.
-pub fn position_at(
-    alloc: Global,
-    octets: &[u8],
-    steps: &[Step<'_>],
-    side: Side,
-) -> Option<Position> {
+pub fn position_at(alloc: Global, octets: &[u8], path: &Path<'_>, side: Side) -> Option<Position> {
     let Ok(text) = str::from_utf8(octets) else {
         return None;
     };
+    let steps = path.steps();
     if steps.is_empty() {
         return None;
     }

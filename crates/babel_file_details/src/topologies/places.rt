@@ -1,13 +1,13 @@
 //! Where in a file a fault is.
 
-use crate::toml_places::{Position, Side, Step, position_at};
+use crate::toml_places::{Path, Position, Side, Step, position_at};
 use babel_topology::TopologyFault;
 use babel_topology::file::{Cause, Part, Problem};
-use std::alloc::{AllocError, Global};
+use std::alloc::Global;
 use toml::{Table, Value};
 
 /// A list of the file, an element of it, and the key in a table there.
-#[derive(Clone, Copy, Debug)]
+#[derive(Clone, Copy)]
 pub(crate) struct Element {
     /// The key of the list.
     pub(crate) list: &'static str,
@@ -60,20 +60,12 @@ impl Element {
 
     /// Its position in the text of the file.
     pub(crate) fn position(&self, alloc: Global, octets: &[u8]) -> Option<Position> {
-        match self.steps(alloc) {
-            Ok(steps) => position_at(alloc, octets, &steps, Side::Value),
-            Err(_) => None,
-        }
-    }
-
-    fn steps(&self, alloc: Global) -> Result<Vec<Step<'static>>, AllocError> {
-        let mut steps = Vec::new(alloc);
-        steps.push(Step::Key(self.list))?;
-        steps.push(Step::Index(self.number))?;
+        let mut path = Path::new();
+        path.push_element(self.list, self.number);
         if let Some(key) = self.key {
-            steps.push(Step::Key(key))?;
+            path.push(Step::Key(key));
         }
-        Ok(steps)
+        position_at(alloc, octets, &path, Side::Value)
     }
 }
 
@@ -105,31 +97,24 @@ pub(crate) fn position_of(alloc: Global, octets: &[u8], problem: &Problem<'_>) -
         Cause::UnknownKey => Side::Key,
         _ => Side::Value,
     };
-    match steps_of(alloc, problem) {
-        Ok(steps) => position_at(alloc, octets, &steps, side),
-        Err(_) => None,
-    }
+    position_at(alloc, octets, &path_of(problem), side)
 }
 
-/// The steps from the table of the file to the value. A key that is missing has the steps to its table.
-fn steps_of<'a>(alloc: Global, problem: &Problem<'a>) -> Result<Vec<Step<'a>>, AllocError> {
-    let mut steps = Vec::new(alloc);
+/// The path from the table of the file to the value. A key that is missing has the path to its
+/// table.
+fn path_of<'a>(problem: &Problem<'a>) -> Path<'a> {
+    let mut path = Path::new();
     match problem.part {
         Part::File => {}
-        Part::Node(number) => {
-            steps.push(Step::Key("node"))?;
-            steps.push(Step::Index(number))?;
-        }
-        Part::Link(number) => {
-            steps.push(Step::Key("link"))?;
-            steps.push(Step::Index(number))?;
-        }
+        Part::Node(number) => path.push_element("node", number),
+        Part::Link(number) => path.push_element("link", number),
     }
-    if !matches!(problem.cause, Cause::MissingKey) {
-        steps.push(Step::Key(problem.key))?;
+    match problem.cause {
+        Cause::MissingKey => {}
+        _ => path.push(Step::Key(problem.key)),
     }
     if let Some(index) = problem.index {
-        steps.push(Step::Index(index))?;
+        path.push(Step::Index(index));
     }
-    Ok(steps)
+    path
 }

@@ -1,6 +1,7 @@
 //! The sentence about a file that is refused.
 
-use crate::toml_places::{FileText, Position};
+use crate::explaining::{write_sentence, write_syntax_error};
+use crate::toml_places::FileText;
 use crate::topologies::places::{element_of, position_of};
 use babel_line_details::Excerpt;
 use babel_topology::TopologyFault;
@@ -19,13 +20,7 @@ pub fn explain_topology<W: Write>(
 ) -> io::Result<()> {
     match toml::table_from_slice(alloc, file.octets) {
         Ok(table) => write_refusal(alloc, file, &table, fault, out),
-        Err(error) => match error.span() {
-            Some(span) => {
-                let position = Position::after(file.octets, span.start);
-                writeln!(out, "{}:{position}: {}", file.name, error.message())
-            }
-            None => writeln!(out, "{}: {fault}", file.name),
-        },
+        Err(error) => write_syntax_error(file, &error, &fault, out),
     }
 }
 
@@ -51,11 +46,8 @@ fn write_problem<W: Write>(
     problem: &Problem<'_>,
     out: &mut W,
 ) -> io::Result<()> {
-    let name = file.name;
-    match position_of(alloc, file.octets, problem) {
-        Some(position) => writeln!(out, "{name}:{position}: {}", Sentence(problem)),
-        None => writeln!(out, "{name}: {}", Sentence(problem)),
-    }
+    let position = position_of(alloc, file.octets, problem);
+    write_sentence(file.name, position, &Sentence(problem), out)
 }
 
 fn write_fault<W: Write>(
