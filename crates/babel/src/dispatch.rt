@@ -1,6 +1,6 @@
 //! Calls the command that the command line names, and writes its fault.
 
-use crate::commands::{Invocation, PROGRAM, invocation_of};
+use crate::commands::{Invocation, invocation_of, program_of, subcommands};
 use crate::usage::write_usage;
 use babel_arguments::{CommandName, NotingWriter, explain_output, parse, wants_details};
 use babel_command_details::{explain_absence, explain_fault, warn};
@@ -59,8 +59,9 @@ where
     let mut out = BufWriter::with_capacity(rt.alloc(), WRITE_LEN, out).map_err(
         LineFault::of_writing,
     )?;
-    match parse(rt.alloc(), &PROGRAM, words) {
-        Ok(matches) => match invocation_of(&matches) {
+    let subcommands = subcommands();
+    match parse(rt.alloc(), &program_of(&subcommands), words) {
+        Ok(matches) => match invocation_of(&subcommands, &matches) {
             Some(invocation) => Ok(run_in_form(rt, invocation, input, &mut out, err)),
             None => Ok(Status::Usage),
         },

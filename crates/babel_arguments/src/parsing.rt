@@ -35,14 +35,14 @@ pub fn read_words<R: AllocGlobal + Env>(rt: &R) -> Result<Vec<String>, WordsFaul
 /// error is a fault of the words, or the help or the version that they ask for.
 pub fn parse<'a>(
     alloc: Global,
-    program: &Program,
+    program: &Program<'_>,
     words: &'a [String],
 ) -> Result<ArgMatches<'a>, clap::Error> {
     let command: Command<'a> = command_of(alloc, program)?;
     command.try_get_matches_from(words)
 }
 
-fn command_of<'a>(alloc: Global, program: &Program) -> Result<Command<'a>, AllocError> {
+fn command_of<'a>(alloc: Global, program: &Program<'_>) -> Result<Command<'a>, AllocError> {
     let mut command = Command::new(alloc, program.name)
         .version(program.version)
         .about(program.about)

@@ -27,7 +27,7 @@ pub enum CommandName {
 
 /// The program: the texts of its help, and its commands.
 #[derive(Clone, Copy)]
-pub struct Program {
+pub struct Program<'p> {
     /// Its name.
     pub name: &'static str,
     /// The version that it prints.
@@ -37,7 +37,7 @@ pub struct Program {
     /// What its help prints after the commands.
     pub after_help: &'static str,
     /// Its commands, in the order of the help.
-    pub subcommands: &'static [Subcommand],
+    pub subcommands: &'p [Subcommand],
 }
 
 /// A command: its arguments, and the texts of its help.
