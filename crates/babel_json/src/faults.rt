@@ -4,7 +4,7 @@ use crate::keys::key_in;
 use crate::objects::Object;
 use crate::places::Sentence;
 use crate::words::Words;
-use crate::writers::text_in;
+use crate::writers::{split_line, text_in};
 use std::alloc::Global;
 use std::io::{self, IsTerminal, Write};
 use std::mem::swap;
@@ -70,15 +70,14 @@ impl<'a, 'b, E: Write + IsTerminal> FaultWriter<'a, 'b, E> {
     }
 
     fn take(&mut self, text: &[u8]) -> io::Result<()> {
-        for octet in text {
-            if *octet == b'\n' {
-                self.end_line()?;
-                self.line.clear();
-            } else {
-                self.line.push(*octet)?;
-            }
+        let mut rest = text;
+        while let Some((part, after)) = split_line(rest) {
+            self.line.extend_from_slice(part)?;
+            self.end_line()?;
+            self.line.clear();
+            rest = after;
         }
-        Ok(())
+        Ok(self.line.extend_from_slice(rest)?)
     }
 
     fn end_line(&mut self) -> io::Result<()> {

@@ -1,8 +1,11 @@
 //! The writer through which the standard output goes.
 
+ghost use Rattle.std.specs.Prelude.{◌<◌, length, IfSome};
+
 use crate::reports::{Origin, Report, datagram_object, object_of};
 use crate::shortening::push_short;
 use crate::words::Words;
+use memchr::memchr;
 use std::alloc::Global;
 use std::io::{self, ErrorKind, Write};
 use std::mem::swap;
@@ -71,14 +74,14 @@ impl<W: Write + Drop> FormWriter<W> {
     /// Writes each whole line of the text in the form.
     fn convert(&mut self, text: &[u8]) -> io::Result<()> {
         self.made.clear();
-        for octet in text {
-            if *octet == b'\n' {
-                self.end_line()?;
-                self.line.clear();
-            } else {
-                self.line.push(*octet)?;
-            }
+        let mut rest = text;
+        while let Some((part, after)) = split_line(rest) {
+            self.line.extend_from_slice(part)?;
+            self.end_line()?;
+            self.line.clear();
+            rest = after;
         }
+        self.line.extend_from_slice(rest)?;
         self.inner.write_all(self.made.as_slice())
     }
 
@@ -124,6 +127,15 @@ impl<W: Write + Drop> FormWriter<W> {
             &mut self.made,
         )
     }
+}
+
+/// The octets before the first line feed, and those after it. It is searched by words, not octet by
+/// octet.
+pub(crate) fn split_line(text: &[u8]) -> Option<(&[u8], &[u8])>
+    ensures { IfSome result (λ parts. length parts.1.now < length text.now) }
+{
+    let at = memchr(b'\n', text)?;
+    Some((&text[..at], &text[at + 1..]))
 }
 
 /// The octets as text, which every line is.
