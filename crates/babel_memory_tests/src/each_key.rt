@@ -1,9 +1,4 @@
-//! A file with each key, what is read of it, and a scenario with an event of each kind.
-
-use babel_state::Interface;
-use babel_value::{Addr, Family, Prefix};
-use std::process::Abort;
-use std::test::Fail;
+//! A file with each key, and a scenario with an event of each kind.
 
 /// A file that has each key once.
 pub(crate) const EACH_KEY: &[u8] = br#"
@@ -36,40 +31,3 @@ router-id = "0000000000000001"
 [[node]]
 router-id = "ffffffffffffffff"
 "#;
-
-pub(crate) fn check_each_key(rt: &impl Abort, config: &babel_state::Config) -> Result<(), Fail> {
-    assert!(rt; config.router_id == [0, 0, 0, 0, 0, 0, 0, 0xab]);
-    assert!(rt; config.seqno == 65535);
-    assert!(rt; config.collect);
-    let fd00 = "fd00::".parse::<Addr>()?;
-    let prefixes = [
-        Prefix::new(Addr::V4([10, 1, 0, 0]), 16).ok_or("at most 32")?,
-        Prefix::new(fd00, 8).ok_or("at most 128")?,
-    ];
-    assert!(rt; config.prefixes.as_slice() == prefixes.as_slice());
-    assert!(rt; config.interfaces.len() == 2);
-    check_first(rt, &config.interfaces[0]);
-    check_second(rt, &config.interfaces[1]);
-    Ok(())
-}
-
-fn check_first(rt: &impl Abort, first: &Interface) {
-    let mut link_local = [0; 16];
-    link_local[0] = 0xfe;
-    link_local[1] = 0x80;
-    link_local[15] = 2;
-    assert!(rt; first.transport == Family::Ipv6);
-    assert!(rt; first.ipv4 == Some(([192, 168, 0, 2], 255)));
-    assert!(rt; first.ipv6 == Some(link_local));
-    link_local[15] = 1;
-    let peers = [Addr::V6(link_local), Addr::V4([10, 0, 0, 1])];
-    assert!(rt; first.peers.as_slice() == peers.as_slice());
-    assert!(rt; (first.cost, first.hello) == (0, 65535));
-}
-
-fn check_second(rt: &impl Abort, second: &Interface) {
-    assert!(rt; second.transport == Family::Ipv4);
-    assert!(rt; (second.ipv4, second.ipv6) == (None, None));
-    assert!(rt; second.peers.is_empty());
-    assert!(rt; (second.cost, second.hello) == (96, 400));
-}

@@ -1,5 +1,5 @@
 //! A network among routers of others: a datagram that is heard out of memory changes nothing, and
-//! each refusal of a speaker.
+//! neither does an event of ours.
 
 use crate::network_memory::{configs, ten};
 use babel_net::{
@@ -73,117 +73,36 @@ fn selects(net: &mut MixedNetwork) -> bool {
         && observe(net) == (true, 1)
 }
 
-/// The route is over no node of ours, and its router-id is 9.
+/// Whether the selected route of node 1 is over the router of others.
 fn is_foreign(net: &MixedNetwork) -> bool {
-    net.next_hop(1, &ten()).is_none()
-        && net.gateway(1, &ten()).is_none()
-        && net
-            .router(1, &ten())
-            .is_some_and(|router| router.octets()[7] == 9)
-        && net
-            .selected(1, &ten())
-            .is_some_and(|route| route.next_hop == OTHER)
-        && net
-            .heard()
-            .iter()
-            .all(|update| update.distance.seqno.0 == 7)
+    match net.selected(1, &ten()) {
+        Some(route) => route.next_hop == OTHER,
+        None => false,
+    }
 }
 
+/// Node 1 restarts. If an allocation fails, the fault is N6, nothing has changed, and it restarts
+/// when that is asked again.
+fn restarts(net: &mut MixedNetwork) -> bool {
+    let restart = Event::Restart { node: 1, now: 500 };
+    let before = observe(net);
+    match net.step(&restart) {
+        Ok(()) => true,
+        Err(fault) => fault == StepFault::Memory
+            && observe(net) == before
+            && net.step(&restart).is_ok(),
+    }
+}
+
+/// What was heard stays after the restart.
 #[test]
-fn heard_datagrams_out_of_memory_change_nothing(rt: HostRuntime) {
+fn calls_out_of_memory_change_nothing(rt: HostRuntime) {
     let net = made(rt.alloc());
     assert!(rt; net.is_some());
     if let Some(mut net) = net {
         assert!(rt; selects(&mut net));
         assert!(rt; is_foreign(&net));
-    }
-}
-
-/// The faults of `hear`, in their order: each is the first of those that hold.
-fn first_faults(net: &mut MixedNetwork) -> [Option<HearFault>; 3] {
-    let own = Addr::V4([192, 168, 0, 1]);
-    let mut faults = [None; 3];
-    faults[0] = net
-        .hear(&Heard {
-            node: 2,
-            iface: 1,
-            source: own,
-            octets: &HELLO,
-            now: 0,
-        })
-        .err();
-    faults[1] = net
-        .hear(&Heard {
-            node: 2,
-            iface: 1,
-            source: OTHER,
-            octets: &HELLO,
-            now: 0,
-        })
-        .err();
-    faults[2] = net
-        .hear(&Heard {
-            node: 1,
-            iface: 1,
-            source: OTHER,
-            octets: &HELLO,
-            now: 0,
-        })
-        .err();
-    faults
-}
-
-#[test]
-fn hearing_is_refused_by_the_first_cause(rt: HostRuntime) {
-    if let Some(mut net) = made(rt.alloc()) {
-        let faults = [
-            HearFault::OwnAddress,
-            HearFault::NoNode,
-            HearFault::NoInterface,
-        ]
-        .map(Some);
-        assert!(rt; first_faults(&mut net) == faults);
-        assert!(rt; observe(&net) == (false, 0));
-    }
-}
-
-/// Octets that can't be read, by P1 to P5: a header that is cut, another first octet, another
-/// version, a body that is longer than the rest, and a TLV that is longer than the rest of the body.
-const UNREADABLE: [&[u8]; 5] = [
-    &[0x2a, 2, 0],
-    &[0x2b, 2, 0, 8, 4, 6, 0, 0, 0, 1, 1, 0x90],
-    &[0x2a, 3, 0, 8, 4, 6, 0, 0, 0, 1, 1, 0x90],
-    &[0x2a, 2, 0, 9, 4, 6, 0, 0, 0, 1, 1, 0x90],
-    &[0x2a, 2, 0, 8, 4, 7, 0, 0, 0, 1, 1, 0x90],
-];
-
-/// What the speaker refuses changes nothing, and is no fault: from another link, and octets that
-/// can't be read. Its own addresses are refused as N8 already.
-#[test]
-fn what_the_speaker_refuses_is_not_heard(rt: HostRuntime) {
-    if let Some(mut net) = made(rt.alloc()) {
-        assert!(rt; is_heard(&mut net, &heard(OTHER, &HELLO, 0)));
-        assert!(rt; is_heard(&mut net, &heard(Addr::V4([10, 0, 0, 9]), &UPDATE, 400)));
-        for octets in UNREADABLE {
-            assert!(rt; is_heard(&mut net, &heard(OTHER, octets, 400)));
-        }
-        assert!(rt; observe(&net) == (false, 0));
-        assert!(rt; is_heard(&mut net, &heard(OTHER, &UPDATE, 400)));
-        assert!(rt; observe(&net) == (true, 1));
-    }
-}
-
-/// An event of ours that is refused changes nothing of what was heard.
-#[test]
-fn steps_go_on_among_others(rt: HostRuntime) {
-    if let Some(mut net) = made(rt.alloc()) {
-        assert!(rt; selects(&mut net));
-        let restart = Event::Restart { node: 1, now: 500 };
-        let stepped = net.step(&restart);
-        assert!(rt;
-            stepped.is_ok() || (stepped == Err(StepFault::Memory) && net.step(&restart).is_ok())
-        );
-        assert!(rt; net.step(&Event::Raise { node: 2 }) == Err(StepFault::NoNode));
+        assert!(rt; restarts(&mut net));
         assert!(rt; observe(&net) == (false, 1));
     }
 }

@@ -4,33 +4,22 @@ use crate::logs::{FIRST_ROUTE, LOG_B, ROUTES_B, config_b, prefix, report_before}
 use babel_replay::{LineFault, ReplayFault, explain, replay};
 use babel_state::{Config, ConfigFault};
 use std::alloc::Global;
-use std::io;
+use std::io::Cursor;
 use std::process::Abort;
 use std::test::Fail;
 
-/// A writer into room that is there.
-#[derive(Drop)]
-struct ArrayWriter {
-    octets: [u8; 2048],
-    count: usize,
+/// Room for a report.
+type Room = Cursor<[u8; 2048]>;
+
+/// Room that nothing was written to.
+fn room() -> Room {
+    Cursor::new([0; 2048])
 }
 
-impl io::Write for ArrayWriter {
-    fn write(&mut self, buf: &[u8]) -> io::Result<usize> {
-        let mut written = 0usize;
-        for octet in buf {
-            if let Some(place) = self.octets.get_mut(self.count) {
-                *place = *octet;
-                self.count = self.count.saturating_add(1);
-                written = written.saturating_add(1);
-            }
-        }
-        Ok(written.min(buf.len()))
-    }
-
-    fn flush(&mut self) -> io::Result<()> {
-        Ok(())
-    }
+/// Whether this was written to the room, and nothing after it.
+fn has(room: &Room, report: &str) -> bool {
+    let len = report.len();
+    room.position() == len as u64 && room.get_ref().get(..len) == Some(report.as_bytes())
 }
 
 /// The configuration; if an allocation fails, it is made again.
@@ -38,14 +27,6 @@ fn config(alloc: Global) -> Result<Config, Fail> {
     match config_b(alloc) {
         Ok(config) => Ok(config),
         Err(_) => Ok(config_b(alloc)?),
-    }
-}
-
-/// No octets yet.
-fn writer() -> ArrayWriter {
-    ArrayWriter {
-        octets: [0; 2048],
-        count: 0,
     }
 }
 
@@ -66,12 +47,12 @@ fn line_of(rt: &impl Abort, ended: Result<(), ReplayFault>) -> u64 {
 
 #[test]
 fn memory_runs_out_in_replay(rt: HostRuntime) -> Result<(), Fail> {
-    let mut out = writer();
+    let mut out = room();
     let mut log = LOG_B.as_bytes();
     let config = config(rt.alloc())?;
     let ended = replay(rt.alloc(), config, &mut log, &mut out);
     let report = report_before(line_of(&rt, ended));
-    assert!(rt; out.octets.get(..out.count) == Some(report.as_bytes()));
+    assert!(rt; has(&out, report));
     Ok(())
 }
 
@@ -86,11 +67,11 @@ fn routes_before(number: u64) -> &'static str {
 
 #[test]
 fn memory_runs_out_in_explain(rt: HostRuntime) -> Result<(), Fail> {
-    let mut out = writer();
+    let mut out = room();
     let mut log = LOG_B.as_bytes();
     let config = config(rt.alloc())?;
     let ended = explain(rt.alloc(), config, &mut log, prefix()?, &mut out);
     let routes = routes_before(line_of(&rt, ended));
-    assert!(rt; out.octets.get(..out.count) == Some(routes.as_bytes()));
+    assert!(rt; has(&out, routes));
     Ok(())
 }
