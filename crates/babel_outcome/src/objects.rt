@@ -89,24 +89,29 @@ fn write_change<W: Write>(shown: &Shown<'_>, change: &HopChange, out: &mut W) ->
 fn write_phase<W: Write>(phase: &Phase, out: &mut W) -> io::Result<()> {
     write!(
         out,
-        "{{\"type\":\"phase\",\"from\":{},\"until\":{},\"steps\":{},\"changes\":{},\"settled_after\":{}",
-        phase.from, phase.until, phase.steps, phase.changes, phase.settled_after
-    )?;
-    write!(
-        out,
-        ",\"datagrams\":{},\"octets\":{},\"all_datagrams\":{},\"all_octets\":{}",
-        phase.datagrams, phase.octets, phase.all_datagrams, phase.all_octets
+        "{{\"type\":\"phase\",\"from\":{},\"until\":{},\"steps\":{},\"changes\":{},\
+\"settled_after\":{},\"datagrams\":{},\"octets\":{},\"all_datagrams\":{},\"all_octets\":{}",
+        phase.from,
+        phase.until,
+        phase.steps,
+        phase.changes,
+        phase.settled_after,
+        phase.datagrams,
+        phase.octets,
+        phase.all_datagrams,
+        phase.all_octets
     )?;
     let quality = phase.quality;
     write!(
         out,
-        ",\"shortest\":{},\"longer\":{},\"missing\":{}",
-        quality.shortest, quality.longer, quality.missing
-    )?;
-    write!(
-        out,
-        ",\"unreachable\":{},\"broken\":{},\"loops\":{}",
-        quality.unreachable, quality.broken, quality.loops
+        ",\"shortest\":{},\"longer\":{},\"missing\":{},\
+\"unreachable\":{},\"broken\":{},\"loops\":{}",
+        quality.shortest,
+        quality.longer,
+        quality.missing,
+        quality.unreachable,
+        quality.broken,
+        quality.loops
     )
 }
 
@@ -250,11 +255,10 @@ impl fmt::Display for Escaped<'_> {
     fn fmt<W: fmt::Write>(&self, f: &mut fmt::Formatter<W>) -> fmt::Result {
         for letter in self.0.chars() {
             match letter {
-                '"' => f.write_str("\\\"")?,
-                '\\' => f.write_str("\\\\")?,
-                letter if letter < ' ' => write!(f, "\\u{:04x}", u32::from(letter))?,
-                letter => f.write_char(letter)?,
-            }
+                '"' | '\\' => write!(f, "\\{letter}"),
+                letter if letter < ' ' => write!(f, "\\u{:04x}", u32::from(letter)),
+                letter => f.write_char(letter),
+            }?;
         }
         Ok(())
     }

@@ -4,7 +4,7 @@ use crate::outcome::{Counts, HopChange, HopKind, Phase, Quality, Route, RouteKin
 use crate::shown::{Counted, HopText, Seconds, Shown, StepText};
 use crate::tables::{Column, Side, Table};
 use babel_topology::{NextHop, Step};
-use std::alloc::{AllocError, Global};
+use std::alloc::Global;
 use std::fmt;
 use std::io::{self, Write};
 
@@ -93,47 +93,41 @@ fn write_head<W: Write>(shown: &Shown<'_>, out: &mut W) -> io::Result<()> {
 /// Writes the next hops that changed, and the steps between them.
 fn write_timeline<W: Write>(alloc: Global, shown: &Shown<'_>, out: &mut W) -> io::Result<()> {
     let mut table = Table::new(alloc, &TIMELINE);
-    push_timeline(shown, &mut table)?;
+    push_timeline(shown, &mut table);
     if table.is_empty() {
         return writeln!(out, "\nNext hops:\nnone");
     }
     table.write("Next hops", out)
 }
 
-fn push_timeline(shown: &Shown<'_>, table: &mut Table<'_>) -> Result<(), AllocError> {
+fn push_timeline(shown: &Shown<'_>, table: &mut Table<'_>) {
     let mut next = 0usize;
     for change in &shown.outcome.changes {
         let steps = shown.steps_until(next, change.at);
-        push_steps(shown, steps, table)?;
+        push_steps(shown, steps, table);
         next = next.saturating_add(steps.len());
-        push_change(shown, change, table)?;
+        push_change(shown, change, table);
     }
-    push_steps(shown, shown.steps_until(next, u64::MAX), table)
+    push_steps(shown, shown.steps_until(next, u64::MAX), table);
 }
 
-fn push_steps(shown: &Shown<'_>, steps: &[Step], table: &mut Table<'_>) -> Result<(), AllocError> {
+fn push_steps(shown: &Shown<'_>, steps: &[Step], table: &mut Table<'_>) {
     for step in steps {
-        table.push(Seconds(step.at))?;
-        table.push("")?;
-        table.push("")?;
-        table.push(Happened(shown.step(step.action)))?;
+        table.push(Seconds(step.at));
+        table.push("");
+        table.push("");
+        table.push(Happened(shown.step(step.action)));
     }
-    Ok(())
 }
 
 /// Adds a next hop that changed, if its prefix is shown.
-fn push_change(
-    shown: &Shown<'_>,
-    change: &HopChange,
-    table: &mut Table<'_>,
-) -> Result<(), AllocError> {
-    let Some(prefix) = shown.prefix(change.prefix) else {
-        return Ok(());
-    };
-    table.push(Seconds(change.at))?;
-    table.push(shown.name(change.node))?;
-    table.push(prefix)?;
-    table.push(Changed(shown.hop(change.hop), change.kind))
+fn push_change(shown: &Shown<'_>, change: &HopChange, table: &mut Table<'_>) {
+    if let Some(prefix) = shown.prefix(change.prefix) {
+        table.push(Seconds(change.at));
+        table.push(shown.name(change.node));
+        table.push(prefix);
+        table.push(Changed(shown.hop(change.hop), change.kind));
+    }
 }
 
 /// A step between the next hops that changed, as it is written.
@@ -163,7 +157,7 @@ impl fmt::Display for Changed<'_> {
 fn write_phases<W: Write>(alloc: Global, shown: &Shown<'_>, out: &mut W) -> io::Result<()> {
     let mut table = Table::new(alloc, &PHASES);
     for phase in &shown.outcome.phases {
-        push_phase(shown, phase, &mut table)?;
+        push_phase(shown, phase, &mut table);
     }
     table.write(
         "Until no next hop changed any more, after each change of the plan",
@@ -171,17 +165,17 @@ fn write_phases<W: Write>(alloc: Global, shown: &Shown<'_>, out: &mut W) -> io::
     )
 }
 
-fn push_phase(shown: &Shown<'_>, phase: &Phase, table: &mut Table<'_>) -> Result<(), AllocError> {
-    table.push(Seconds(phase.from))?;
-    table.push(Seconds(phase.settled_after))?;
-    table.push(phase.changes)?;
-    table.push(phase.datagrams)?;
-    table.push(phase.octets)?;
-    table.push(QualityText(phase.quality))?;
+fn push_phase(shown: &Shown<'_>, phase: &Phase, table: &mut Table<'_>) {
+    table.push(Seconds(phase.from));
+    table.push(Seconds(phase.settled_after));
+    table.push(phase.changes);
+    table.push(phase.datagrams);
+    table.push(phase.octets);
+    table.push(QualityText(phase.quality));
     table.push(BeginText {
         shown,
         phase: *phase,
-    })
+    });
 }
 
 /// What ways are worth, as it is written.
@@ -233,7 +227,7 @@ impl fmt::Display for BeginText<'_> {
 fn write_not_shortest<W: Write>(alloc: Global, shown: &Shown<'_>, out: &mut W) -> io::Result<()> {
     let mut table = Table::new(alloc, &NOT_SHORTEST);
     for (number, phase) in shown.outcome.phases.iter().enumerate() {
-        push_ways(shown, phase.from, shown.not_shortest(number), &mut table)?;
+        push_ways(shown, phase.from, shown.not_shortest(number), &mut table);
     }
     if table.is_empty() {
         return Ok(());
@@ -245,19 +239,14 @@ fn write_not_shortest<W: Write>(alloc: Global, shown: &Shown<'_>, out: &mut W) -
 }
 
 /// Adds the ways that are not shortest at the end of a phase, if one of them is shown.
-fn push_ways(
-    shown: &Shown<'_>,
-    from: u64,
-    ways: &[Route],
-    table: &mut Table<'_>,
-) -> Result<(), AllocError> {
+fn push_ways(shown: &Shown<'_>, from: u64, ways: &[Route], table: &mut Table<'_>) {
     for way in ways {
         if shown.prefix(way.prefix).is_some() {
-            table.push(Seconds(from))?;
-            return table.push(WaysText { shown, ways });
+            table.push(Seconds(from));
+            table.push(WaysText { shown, ways });
+            return;
         }
     }
-    Ok(())
 }
 
 /// The nodes and prefixes of the first of these ways, and how many more there are.
@@ -291,30 +280,30 @@ impl fmt::Display for WaysText<'_> {
 fn write_routes<W: Write>(alloc: Global, shown: &Shown<'_>, out: &mut W) -> io::Result<()> {
     let mut table = Table::new(alloc, &ROUTES);
     for route in &shown.outcome.routes {
-        push_route(shown, route, &mut table)?;
+        push_route(shown, route, &mut table);
     }
     table.write("Ways at the end", out)
 }
 
 /// Adds a way, if its prefix is shown.
-fn push_route(shown: &Shown<'_>, route: &Route, table: &mut Table<'_>) -> Result<(), AllocError> {
+fn push_route(shown: &Shown<'_>, route: &Route, table: &mut Table<'_>) {
     let Some(prefix) = shown.prefix(route.prefix) else {
-        return Ok(());
+        return;
     };
     let hop = match route.kind {
         RouteKind::Own => "itself",
         RouteKind::Down => "down",
         _ => shown.hop(route.hop),
     };
-    table.push(shown.name(route.node))?;
-    table.push(prefix)?;
-    table.push(hop)?;
-    table.push(CostText(route.cost))?;
-    table.push(CostText(route.shortest))?;
+    table.push(shown.name(route.node));
+    table.push(prefix);
+    table.push(hop);
+    table.push(CostText(route.cost));
+    table.push(CostText(route.shortest));
     table.push(WayText {
         shown,
         route: *route,
-    })
+    });
 }
 
 /// The cost of a way, if there is one, as it is written.
@@ -361,19 +350,19 @@ impl fmt::Display for WayText<'_> {
 fn write_counts<W: Write>(alloc: Global, shown: &Shown<'_>, out: &mut W) -> io::Result<()> {
     let mut table = Table::new(alloc, &COUNTS);
     for (node, counts) in shown.outcome.counts.iter().enumerate() {
-        push_counts(shown.name(node), counts, &mut table)?;
+        push_counts(shown.name(node), counts, &mut table);
     }
     table.write("Datagrams, and what changed, at each node", out)
 }
 
-fn push_counts(name: &str, counts: &Counts, table: &mut Table<'_>) -> Result<(), AllocError> {
-    table.push(name)?;
-    table.push(counts.datagrams)?;
-    table.push(counts.octets)?;
-    table.push(counts.received)?;
-    table.push(counts.lost)?;
-    table.push(counts.changes)?;
-    table.push(counts.raises)
+fn push_counts(name: &str, counts: &Counts, table: &mut Table<'_>) {
+    table.push(name);
+    table.push(counts.datagrams);
+    table.push(counts.octets);
+    table.push(counts.received);
+    table.push(counts.lost);
+    table.push(counts.changes);
+    table.push(counts.raises);
 }
 
 /// Writes what was expected, and what was there.

@@ -2,7 +2,7 @@
 
 use babel_machine::Event;
 use babel_state::{Config, Interface};
-use babel_value::Addr;
+use babel_value::{Addr, Prefix};
 use std::fmt;
 use std::io::{self, Write};
 
@@ -16,12 +16,11 @@ pub fn write_scenario<W: Write>(
     events: &[Event],
     out: &mut W,
 ) -> io::Result<()> {
-    writeln!(out, "# The events of a run of babel simulate.")?;
-    writeln!(out, "events = [")?;
+    writeln!(out, "# The events of a run of babel simulate.\nevents = [")?;
     for event in events.iter() {
         writeln!(out, "  \"{}\",", EventText(*event))?;
     }
-    writeln!(out, "]")?;
+    out.write_all(b"]\n")?;
     for config in configs.iter() {
         write_config(config, out)?;
     }
@@ -53,29 +52,35 @@ impl fmt::Display for EventText {
 }
 
 fn write_config<W: Write>(config: &Config, out: &mut W) -> io::Result<()> {
-    writeln!(out, "\n[[node]]")?;
-    write!(out, "router-id = \"")?;
-    for octet in config.router_id.iter() {
-        write!(out, "{:02x}", *octet)?;
-    }
-    writeln!(out, "\"")?;
-    write!(out, "prefixes = [")?;
-    for (index, prefix) in config.prefixes.iter().enumerate() {
-        if index > 0 {
-            write!(out, ", ")?;
-        }
-        write!(out, "\"{prefix}\"")?;
-    }
-    writeln!(out, "]")?;
+    let router_id = u64::from_be_bytes(config.router_id);
+    let prefixes = Listed(&config.prefixes);
+    writeln!(
+        out,
+        "\n[[node]]\nrouter-id = \"{router_id:016x}\"\nprefixes = [{prefixes}]"
+    )?;
     for interface in config.interfaces.iter() {
         write_interface(interface, out)?;
     }
     Ok(())
 }
 
+/// Prefixes, as the items of a list.
+#[derive(Clone, Copy)]
+struct Listed<'a>(&'a [Prefix]);
+
+impl fmt::Display for Listed<'_> {
+    fn fmt<W: fmt::Write>(&self, f: &mut fmt::Formatter<W>) -> fmt::Result {
+        let mut separator = "";
+        for prefix in self.0 {
+            write!(f, "{separator}\"{prefix}\"")?;
+            separator = ", ";
+        }
+        Ok(())
+    }
+}
+
 fn write_interface<W: Write>(interface: &Interface, out: &mut W) -> io::Result<()> {
-    writeln!(out, "[[node.interface]]")?;
-    writeln!(out, "transport = \"ipv6\"")?;
+    writeln!(out, "[[node.interface]]\ntransport = \"ipv6\"")?;
     let ipv4 = interface.ipv4;
     if let Some(network) = ipv4 {
         let octets = network.0;
@@ -87,6 +92,9 @@ fn write_interface<W: Write>(interface: &Interface, out: &mut W) -> io::Result<(
         let address = Addr::V6(octets);
         writeln!(out, "ipv6 = \"{address}\"")?;
     }
-    writeln!(out, "cost = {}", interface.cost)?;
-    writeln!(out, "hello = {}", interface.hello)
+    writeln!(
+        out,
+        "cost = {}\nhello = {}",
+        interface.cost, interface.hello
+    )
 }

@@ -1,6 +1,6 @@
 -- Lists of nodes and links with one more.
-use Rattle.std.proofs.Common.{◌≡◌, ◌<◌, ◌≤◌, ℕ, List, [], ◌∷◌, ◌++◌, Bool, false, Some, None, length, get_or, take, sym, subst, arith}
-use Rattle.std.specs.List.{position, position_or_len}
+use Rattle.std.proofs.Common.{◌≡◌, ◌<◌, ◌≤◌, ℕ, List, [], ◌∷◌, ◌++◌, Bool, true, false, refl, Some, None, length, get_or, take, sym, subst, arith}
+use Rattle.std.specs.List.{position, position_or_len, AllWithin}
 use Rattle.std.specs.Prelude.{All}
 use Rattle.std.specs.String.{string_bytes}
 use Rattle.std.specs.Str.{bytes_eq}
@@ -9,7 +9,7 @@ use Rattle.std.proofs.Math.ListN.{set}
 use Rattle.std.proofs.lemmas.List.{take_at}
 use Rattle.std.proofs.lemmas.List.Elements.{All-push}
 use Rattle.std.proofs.lemmas.List.Quantifiers.{all_pairs_push}
-use Rattle.std.proofs.lemmas.List.Sums.{fails_before_first}
+use Rattle.std.proofs.lemmas.List.Sums.{fails_before_first, position_or_len_is}
 use Rattle.babel_topology.specs.declared.topology.Node.{Node}
 use Rattle.babel_topology.specs.declared.topology.Link.{Link}
 use Rattle.babel_topology.specs.Names.{node_named, joins, link_between}
@@ -77,3 +77,17 @@ pub once_whole : (read links others rest : List Link) (n : ℕ) → links ≡ re
 once_whole read links others rest n seen whole same distinct =
     let P : List Link → Type 0 = λ xs. HasDistinctLinks xs in
     subst P (sym (take_at others rest n whole)) (same_distinct links others same (subst P (sym seen) distinct))
+
+-- The first element that passes, and none.
+pub found_first : {X : Type 0} → (p : X → Bool) (xs : List X) (i : ℕ) (d : X) → AllWithin (λ x. p x ≡ false) xs 0 i → i < length xs
+    → p (get_or xs i d) ≡ true → position p xs ≡ Some i
+found_first p xs i d none low passes =
+    let is : position_or_len p xs ≡ i = position_or_len_is p xs i d (omega arith) (λ k lower. none k d (omega arith) lower) (λ h. passes) in
+    grind (arith, common_steps)
+
+pub none_found : {X : Type 0} → (p : X → Bool) (xs : List X) (n : ℕ) → length xs ≤ n → AllWithin (λ x. p x ≡ false) xs 0 n → position p xs ≡ None
+none_found p [] n end none = refl
+none_found p (x ∷ xs) n end none =
+    let is : position_or_len p (x ∷ xs) ≡ length (x ∷ xs) = position_or_len_is p (x ∷ xs) (length (x ∷ xs)) x (omega arith)
+    (λ k low. none k x (omega arith) (omega arith)) (λ h. absurd (omega arith)) in
+    grind (arith, common_steps)

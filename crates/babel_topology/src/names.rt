@@ -11,7 +11,12 @@ use crate::words::split_dash;
 pub fn find_node(nodes: &[Node], name: &str) -> Option<usize>
     ensures { result ≡ node_named nodes.now name.now }
 {
-    nodes.iter().position(|node| node.name.as_str() == name)
+    for (number, node) in nodes.iter().enumerate() {
+        if node.name.as_str() == name {
+            return Some(number);
+        }
+    }
+    None
 }
 
 impl Link {
@@ -27,7 +32,12 @@ impl Link {
 pub fn link_between(links: &[Link], a: usize, b: usize) -> Option<usize>
     ensures { result ≡ link_between links.now a b }
 {
-    links.iter().position(|link| link.joins(a, b))
+    for (number, link) in links.iter().enumerate() {
+        if link.joins(a, b) {
+            return Some(number);
+        }
+    }
+    None
 }
 
 /// The number of the link between these two nodes, if both are there.

@@ -32,21 +32,31 @@ pub(crate) fn box_width(letters: usize) -> f64 {
 
 /// Places the nodes of a picture: by the shape of the network, if it has one.
 pub(crate) fn place_nodes(alloc: Global, picture: &Picture) -> Result<Layout, AllocError> {
-    let count = picture.nodes.len();
     let mut letters = 1;
     for node in &picture.nodes {
         letters = drawn_len(&node.name).max(letters);
     }
     let step = Place::new(box_width(letters), BOX_HEIGHT).plus(GAP);
-    let form = form_of(alloc, count, &picture.links)?;
-    let places = match &form {
-        Form::Ring(order) => in_ring(alloc, order, step)?,
-        Form::Line(order) => in_rows_of(alloc, order, step)?,
-        Form::Grid(width) => in_grid(alloc, count, *width, step)?,
-        Form::Star(center) => in_star(alloc, count, *center, step)?,
-        Form::Free => place_by_forces(alloc, count, &picture.links, step)?,
-    };
+    let form = form_of(alloc, picture.nodes.len(), &picture.links)?;
+    let places = places_in(alloc, &form, picture, step)?;
     Ok(moved(places, box_width(letters)))
+}
+
+/// Where the nodes of a picture are in a network of this shape.
+fn places_in(
+    alloc: Global,
+    form: &Form,
+    picture: &Picture,
+    step: Place,
+) -> Result<Vec<Place>, AllocError> {
+    let count = picture.nodes.len();
+    match form {
+        Form::Ring(order) => in_ring(alloc, order, step),
+        Form::Line(order) => in_rows_of(alloc, order, step),
+        Form::Grid(width) => in_grid(alloc, count, *width, step),
+        Form::Star(center) => in_star(alloc, count, *center, step),
+        Form::Free => place_by_forces(alloc, count, &picture.links, step),
+    }
 }
 
 /// The radius of a circle on which so many nodes have room. Many nodes are closer to each other.

@@ -67,12 +67,10 @@ impl fmt::Display for Quoted<'_> {
     fn fmt<W: fmt::Write>(&self, f: &mut fmt::Formatter<W>) -> fmt::Result {
         f.write_char('"')?;
         for c in self.0.chars() {
-            match c {
-                '"' => f.write_str("\\\"")?,
-                '\\' => f.write_str("\\\\")?,
-                _ if c < ' ' => f.write_char(' ')?,
-                _ => f.write_char(c)?,
+            if c == '"' || c == '\\' {
+                f.write_char('\\')?;
             }
+            f.write_char(if c < ' ' { ' ' } else { c })?;
         }
         f.write_char('"')
     }

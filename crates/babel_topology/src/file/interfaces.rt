@@ -52,5 +52,10 @@ fn push_cost(costs: &mut Vec<u16>, cost: u16) -> Result<Option<usize>, AllocErro
 fn find_cost(costs: &[u16], cost: u16) -> Option<usize>
     ensures { result ≡ position (λ other. other == cost) costs.now }
 {
-    costs.iter().position(|other| *other == cost)
+    for (iface, other) in costs.iter().enumerate() {
+        if *other == cost {
+            return Some(iface);
+        }
+    }
+    None
 }

@@ -146,8 +146,11 @@ fn sharing_at(links: &[Link], node: usize) -> Sharing {
 
 /// How many links the node has.
 fn degree(links: &[Link], node: usize) -> usize {
-    links
-        .iter()
-        .filter(|link| link.a.node == node || link.b.node == node)
-        .count()
+    let mut count = 0usize;
+    for link in links {
+        if link.a.node == node || link.b.node == node {
+            count = count.saturating_add(1);
+        }
+    }
+    count
 }

@@ -92,7 +92,12 @@ fn check_node(number: usize, node: &Node, earlier: &[Node]) -> Result<(), Topolo
 }
 
 fn has_router_id(nodes: &[Node], router_id: &[u8; 8]) -> bool {
-    nodes.iter().any(|node| node.router_id == *router_id)
+    for node in nodes {
+        if node.router_id == *router_id {
+            return true;
+        }
+    }
+    false
 }
 
 fn read_prefixes(alloc: Global, items: &[Value]) -> Result<Vec<Prefix>, TopologyFault> {

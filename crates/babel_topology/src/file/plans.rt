@@ -81,10 +81,13 @@ fn shares_interface(links: &[Link], number: usize) -> bool {
 
 /// How many links end here.
 fn end_count(links: &[Link], end: End) -> usize {
-    links
-        .iter()
-        .filter(|link| link.a == end || link.b == end)
-        .count()
+    let mut count = 0usize;
+    for link in links {
+        if link.a == end || link.b == end {
+            count = count.saturating_add(1);
+        }
+    }
+    count
 }
 
 /// Reads what is expected: T18 or T19 for the first expectation that has such a fault.
