@@ -10,45 +10,64 @@ use thiserror::Error;
 
 /// Why a file of a topology is refused. Numbers count from 0 in the order of the file. The text is a phrase;
 /// [`TopologyFault::code`] has the code that the program prints.
-#[derive(Clone, Copy, Drop, Error)]
+#[derive(Clone, Copy, Debug, Drop, Error)]
 pub enum TopologyFault {
     /// T1: the octets are no TOML document.
+    #[error("the file isn't TOML")]
     NotToml,
     /// T2: a key is unknown, missing or of the wrong kind, or a number is out of range.
+    #[error("a key is unknown, missing or of the wrong kind, or a number is out of range")]
     Form,
     /// T3: a text can't be read.
+    #[error("the text of a time, a prefix or a router-id can't be read")]
     Text,
     /// T4: an allocation failed.
+    #[error("out of memory")]
     Memory,
     /// T5: the file can't be read, or has more than 1,048,576 octets.
+    #[error("the file can't be read, or has more than 1048576 octets")]
     Unreadable,
     /// T6: there is no node, or there are more than 4,096.
+    #[error("a topology has 1 to 4096 nodes")]
     NodeCount,
     /// T7: the name of this node is empty, or has a blank or a dash.
+    #[error("the name of node {0} is empty, or has a blank or a dash")]
     BadName(usize),
     /// T8: an earlier node has the name of this node.
+    #[error("node {0} has the name of an earlier node")]
     RepeatedName(usize),
     /// T9: the router-id of this node is reserved, or is that of an earlier node.
+    #[error("the router-id of node {0} is reserved, or an earlier node has it")]
     BadRouterId(usize),
     /// T10: this link names a node that isn't there.
+    #[error("link {0} names a node that isn't there")]
     UnknownEnd(usize),
     /// T11: both ends of this link are one node.
+    #[error("both ends of link {0} are one node")]
     SameEnds(usize),
     /// T12: an earlier link joins the nodes of this link.
+    #[error("link {0} joins two nodes that an earlier link joins")]
     RepeatedLink(usize),
     /// T13: a node of this link has more than 8 links, and 8 interfaces with other costs.
+    #[error("a node of link {0} has no interface left for its cost")]
     TooManyCosts(usize),
     /// T14: the text of this step can't be read, or names a node or link that isn't there.
+    #[error("the text of step {0} can't be read, or names a node or link that isn't there")]
     BadStep(usize),
     /// T15: this step is earlier than the one before it.
+    #[error("step {0} is earlier than the one before it")]
     EarlyStep(usize),
     /// T16: this step is later than the end.
+    #[error("step {0} is later than the end")]
     LateStep(usize),
     /// T17: this step changes the cost of an interface that other links share.
+    #[error("step {0} changes the cost of an interface that other links share")]
     SharedCost(usize),
     /// T18: the text of this expectation can't be read, or names a node that isn't there.
+    #[error("the text of expectation {0} can't be read, or names a node that isn't there")]
     BadExpectation(usize),
     /// T19: this expectation is later than the end.
+    #[error("expectation {0} is later than the end")]
     LateExpectation(usize),
 }
 
@@ -87,76 +106,6 @@ impl TopologyFault {
             TopologyFault::BadExpectation(expectation) => ("T18", Some(expectation)),
             TopologyFault::LateExpectation(expectation) => ("T19", Some(expectation)),
         }
-    }
-
-    /// The phrase: what comes before the number, and what after it.
-    fn phrase(self) -> (&'static str, &'static str) {
-        match self {
-            TopologyFault::NotToml => ("the file isn't TOML", ""),
-            TopologyFault::Form => (
-                "a key is unknown, missing or of the wrong kind, or a number is out of range",
-                "",
-            ),
-            TopologyFault::Text => (
-                "the text of a time, a prefix or a router-id can't be read",
-                "",
-            ),
-            TopologyFault::Memory => ("out of memory", ""),
-            TopologyFault::Unreadable => (
-                "the file can't be read, or has more than 1048576 octets",
-                "",
-            ),
-            TopologyFault::NodeCount => ("a topology has 1 to 4096 nodes", ""),
-            TopologyFault::BadName(_) => {
-                ("the name of node ", " is empty, or has a blank or a dash")
-            }
-            TopologyFault::RepeatedName(_) => ("node ", " has the name of an earlier node"),
-            TopologyFault::BadRouterId(_) => (
-                "the router-id of node ",
-                " is reserved, or an earlier node has it",
-            ),
-            TopologyFault::UnknownEnd(_) => ("link ", " names a node that isn't there"),
-            TopologyFault::SameEnds(_) => ("both ends of link ", " are one node"),
-            TopologyFault::RepeatedLink(_) => {
-                ("link ", " joins two nodes that an earlier link joins")
-            }
-            TopologyFault::TooManyCosts(_) => {
-                ("a node of link ", " has no interface left for its cost")
-            }
-            TopologyFault::BadStep(_) => (
-                "the text of step ",
-                " can't be read, or names a node or link that isn't there",
-            ),
-            TopologyFault::EarlyStep(_) => ("step ", " is earlier than the one before it"),
-            TopologyFault::LateStep(_) => ("step ", " is later than the end"),
-            TopologyFault::SharedCost(_) => (
-                "step ",
-                " changes the cost of an interface that other links share",
-            ),
-            TopologyFault::BadExpectation(_) => (
-                "the text of expectation ",
-                " can't be read, or names a node that isn't there",
-            ),
-            TopologyFault::LateExpectation(_) => ("expectation ", " is later than the end"),
-        }
-    }
-}
-
-/// The phrase.
-impl fmt::Display for TopologyFault {
-    fn fmt<W: fmt::Write>(&self, f: &mut fmt::Formatter<W>) -> fmt::Result {
-        let (before, after) = self.phrase();
-        match self.code_parts().1 {
-            Some(number) => write!(f, "{before}{number}{after}"),
-            None => f.write_str(before),
-        }
-    }
-}
-
-/// The code names the fault as well as its variant does.
-impl fmt::Debug for TopologyFault {
-    fn fmt<W: fmt::Write>(&self, f: &mut fmt::Formatter<W>) -> fmt::Result {
-        fmt::Display::fmt(&self.code(), f)
     }
 }
 
