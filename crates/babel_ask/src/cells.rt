@@ -15,23 +15,21 @@ pub(crate) enum Cell<'l> {
 
 /// The cell of a line in a column. A cost of 65535 is infinite.
 pub(crate) fn cell_of<'l>(answer: &'l str, line: &'l str, column: &Column) -> Cell<'l> {
-    if column.kind == ColumnKind::Expiry {
-        return match expiry_of(answer, line) {
+    match (column.kind, field(line, column.field)) {
+        (ColumnKind::Expiry, _) => match expiry_of(answer, line) {
             Some(rest) => Cell::Centiseconds(rest),
             None => Cell::Text("-"),
-        };
-    }
-    match field(line, column.field) {
-        Some("65535") if column.kind == ColumnKind::Number => Cell::Text("infinite"),
-        Some(text) => Cell::Text(text),
-        None => Cell::Text("-"),
+        },
+        (ColumnKind::Number, Some("65535")) => Cell::Text("infinite"),
+        (_, Some(text)) => Cell::Text(text),
+        (_, None) => Cell::Text("-"),
     }
 }
 
 /// After how many centiseconds the neighbour or the route of the line is given up, if a line of the reply has that.
 pub(crate) fn expiry_of(answer: &str, line: &str) -> Option<u64> {
     for other in answer.lines() {
-        if word(other, 0) == Some("expires") && is_same_thing(other, line) {
+        if matches!(word(other, 0), Some("expires")) && is_same_thing(other, line) {
             return field(other, "in")?.parse::<u64>().ok();
         }
     }

@@ -1,7 +1,7 @@
 //! Which fields are shown.
 
 /// What a column has.
-#[derive(Clone, Copy, PartialEq, Eq)]
+#[derive(Clone, Copy)]
 pub(crate) enum ColumnKind {
     /// Texts.
     Text,

@@ -66,7 +66,10 @@ impl<'l> Fields<'l> {
 
 /// Whether the line is one of this kind: `add KIND ..`.
 pub(crate) fn is_of(line: &str, kind: &str) -> bool {
-    word(line, 0) == Some("add") && word(line, 1) == Some(kind)
+    match (word(line, 0), word(line, 1)) {
+        (Some("add"), Some(word)) => word == kind,
+        _ => false,
+    }
 }
 
 /// The name of the interface with this number: that of the line `add interface NAME` that so many others come before.

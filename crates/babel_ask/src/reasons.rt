@@ -38,9 +38,9 @@ impl fmt::Display for ShortAddress<'_> {
 
 /// The route of a line, if it is one.
 fn route_of<'l>(answer: &'l str, line: &'l str) -> Option<Route<'l>> {
-    if word(line, 1) != Some("via") {
+    let Some("via") = word(line, 1) else {
         return None;
-    }
+    };
     let mut fields = Fields::new(line);
     let route = Route {
         prefix: fields.word(0),
@@ -123,11 +123,14 @@ fn write_ignored<W: Write>(answer: &str, out: &mut W) -> io::Result<bool> {
 /// more.
 fn has_route_of(answer: &str, ignored: &Ignored<'_>) -> bool {
     for line in answer.lines() {
-        if word(line, 1) == Some("via")
-            && word(line, 2) == Some(ignored.interface)
-            && word(line, 3) == Some(ignored.address)
-        {
-            return true;
+        if let (Some("via"), Some(interface), Some(address)) = (
+            word(line, 1),
+            word(line, 2),
+            word(line, 3),
+        ) {
+            if interface == ignored.interface && address == ignored.address {
+                return true;
+            }
         }
     }
     false
@@ -181,9 +184,9 @@ struct Ignored<'l> {
 }
 
 fn ignored_of<'l>(answer: &'l str, line: &'l str) -> Option<Ignored<'l>> {
-    if word(line, 1) != Some("from") || word(line, 4) != Some("ignored") {
+    let (Some("from"), Some("ignored")) = (word(line, 1), word(line, 4)) else {
         return None;
-    }
+    };
     let mut fields = Fields::new(line);
     let ignored = Ignored {
         prefix: fields.word(0),
@@ -233,20 +236,12 @@ fn write_reason<W: Write>(route: &Route<'_>, out: &mut W) -> io::Result<()> {
             out,
             "not used, since the neighbour retracted {prefix} or advertises it no longer"
         ),
-        "unreachable" => write_unreachable(route, out),
+        "unreachable" if route.cost == "65535" => {
+            writeln!(out, "not used, since the link to the neighbour is down")
+        }
+        "unreachable" => write_too_far(route, out),
         _ => write_unfeasible(route, out),
     }
-}
-
-fn write_unreachable<W: Write>(route: &Route<'_>, out: &mut W) -> io::Result<()> {
-    if is_infinite(route.cost) {
-        return writeln!(out, "not used, since the link to the neighbour is down");
-    }
-    write_too_far(route, out)
-}
-
-fn is_infinite(cost: &str) -> bool {
-    cost == "65535"
 }
 
 fn write_too_far<W: Write>(route: &Route<'_>, out: &mut W) -> io::Result<()> {

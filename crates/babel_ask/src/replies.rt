@@ -85,11 +85,12 @@ fn write_answer<W: Write>(
     answer: &str,
     out: &mut W,
 ) -> io::Result<()> {
-    match form {
-        AnswerForm::Text => write_text(question, Colours::Hidden, answer, out)?,
-        AnswerForm::Coloured => write_text(question, Colours::Shown, answer, out)?,
-        AnswerForm::Json => write_json(question, answer, out)?,
-    }
+    let written = match form {
+        AnswerForm::Text => write_text(question, Colours::Hidden, answer, out),
+        AnswerForm::Coloured => write_text(question, Colours::Shown, answer, out),
+        AnswerForm::Json => write_json(question, answer, out),
+    };
+    written?;
     out.flush()
 }
 

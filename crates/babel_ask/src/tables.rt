@@ -68,8 +68,8 @@ pub(crate) fn write_table<W: Write>(
 /// How wide each column is.
 fn widths_of(answer: &str, kind: &str, columns: &[Column; COLUMNS]) -> [usize; COLUMNS] {
     let mut widths = [0usize; COLUMNS];
-    for (width, column) in widths.iter_mut().zip(columns.iter()) {
-        *width = width_of(answer, kind, column);
+    for number in 0..COLUMNS {
+        widths[number] = width_of(answer, kind, &columns[number]);
     }
     widths
 }
@@ -90,15 +90,14 @@ fn write_row<'t, W: Write>(table: &Table<'t>, row: Row<'t>, out: &mut W) -> io::
         _ => ("", ""),
     };
     write!(out, "{begin}")?;
-    let answer = table.answer;
-    let columns = table.columns;
     let mut gap = 0;
-    for (column, width) in columns.iter().zip(table.widths.iter()) {
+    for number in 0..COLUMNS {
+        let column = &table.columns[number];
         let cell = match row {
             Row::Head => Cell::Text(column.head),
-            Row::Line(line) => cell_of(answer, line, column),
+            Row::Line(line) => cell_of(table.answer, line, column),
         };
-        gap = write_cell(cell, column.kind, *width, gap, out)?;
+        gap = write_cell(cell, column.kind, table.widths[number], gap, out)?;
     }
     writeln!(out, "{end}")
 }
@@ -108,13 +107,15 @@ fn colour_of(row: Row<'_>) -> Option<&'static str> {
     let Row::Line(line) = row else {
         return Some(BOLD);
     };
-    if field(line, "installed") == Some("yes") {
-        return Some(GREEN);
+    match (
+        field(line, "installed"),
+        field(line, "cost"),
+        field(line, "metric"),
+    ) {
+        (Some("yes"), _, _) => Some(GREEN),
+        (_, Some("65535"), _) | (_, _, Some("65535")) => Some(RED),
+        _ => None,
     }
-    if field(line, "cost") == Some("65535") || field(line, "metric") == Some("65535") {
-        return Some(RED);
-    }
-    None
 }
 
 /// Writes a cell after the gap, and returns how many blanks come before the next one. Numbers and times are at the right of it.

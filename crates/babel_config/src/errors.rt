@@ -40,7 +40,7 @@ impl FileFault {
 }
 
 /// The code of a fault as text: `F1` to `F6`, with the number of the event after `F6`.
-#[derive(Clone, Copy, Debug, PartialEq, Eq)]
+#[derive(Clone, Copy)]
 pub struct FileFaultCode {
     /// The fault.
     pub fault: FileFault,
@@ -54,14 +54,14 @@ impl fmt::Display for FileFaultCode {
     ghost output = { λ code. Some (fault_text code.fault) };
 
     fn fmt<W: fmt::Write>(&self, f: &mut fmt::Formatter<W>) -> fmt::Result {
-        match self.fault {
-            FileFault::NotToml => f.write_str("F1"),
-            FileFault::Form => f.write_str("F2"),
-            FileFault::Text => f.write_str("F3"),
-            FileFault::Memory => f.write_str("F4"),
-            FileFault::Unreadable => f.write_str("F5"),
-            FileFault::Event(number) => write!(f, "F6 {number}"),
-        }
+        f.write_str(match self.fault {
+            FileFault::NotToml => "F1",
+            FileFault::Form => "F2",
+            FileFault::Text => "F3",
+            FileFault::Memory => "F4",
+            FileFault::Unreadable => "F5",
+            FileFault::Event(number) => return write!(f, "F6 {number}"),
+        })
     }
 }
 

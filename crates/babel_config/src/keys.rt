@@ -35,30 +35,27 @@ impl TableKind {
 fn is_scenario_key(key: &str) -> bool
     ensures { result ≡ is_key_of Scenario key.now }
 {
-    key == "events" || key == "node"
+    matches!(key, "events" | "node")
 }
 
 /// Whether it is a key of a configuration.
 fn is_config_key(key: &str) -> bool
     ensures { result ≡ is_key_of Config key.now }
 {
-    key == "router-id"
-        || key == "seqno"
-        || key == "collect"
-        || key == "prefixes"
-        || key == "interface"
+    matches!(
+        key,
+        "router-id" | "seqno" | "collect" | "prefixes" | "interface"
+    )
 }
 
 /// Whether it is a key of an interface.
 fn is_interface_key(key: &str) -> bool
     ensures { result ≡ is_key_of Interface key.now }
 {
-    key == "transport"
-        || key == "ipv4"
-        || key == "ipv6"
-        || key == "peers"
-        || key == "cost"
-        || key == "hello"
+    matches!(
+        key,
+        "transport" | "ipv4" | "ipv6" | "peers" | "cost" | "hello"
+    )
 }
 
 /// Whether the value is a table of this kind, without other keys.

@@ -6,7 +6,7 @@ ghost use Rattle.babel_control.specs.Commands.{shows_tables_by, monitoring_by, l
 ghost use Rattle.babel_control.specs.Lines.{greeting, line_end};
 ghost use Rattle.babel_control.specs.Replies.{IsReply};
 
-use crate::replies::{logging_over, monitoring_after, push_answer, push_welcome, shows_tables};
+use crate::replies::{logging_after, monitoring_after, push_answer, push_welcome, shows_tables};
 use crate::{
     Changes, Command, InputLine, Logging, Output, Tables, TakenOctet, View, parse_command,
 };
@@ -293,7 +293,7 @@ impl Client {
         let written = push_answer(&mut text, command, view, changes);
         self.push(written, &text);
         self.monitoring = monitoring_after(command, self.monitoring);
-        self.logging = logging_over(view.log, command, self.logging);
+        self.logging = logging_after(view.log, command, self.logging);
         match command {
             Command::Quit => {
                 self.note_end();

@@ -1,15 +1,15 @@
 //! The lines of the protocol, as babeld writes them.
 
-ghost use Rattle.std.specs.Prelude.{◌≡◌, ◌++◌, Some, OnOk, false};
-ghost use Rattle.std.specs.Fmt.{digits};
+ghost use Rattle.std.specs.Prelude.{◌≡◌, ◌++◌, Some, OnOk};
 ghost use Rattle.std.specs.String.{string_bytes};
 ghost use Rattle.babel_control.specs.Lines.{cost_fields, metric_fields, route_fields, link_fields, state_field, ipv6_field, ipv4_field, event_text, name_at, greeting, interface_line, neighbour_line, xroute_line, route_line, neighbour_expiry_line, route_expiry_line};
 
-use crate::texts::{AddrText, PrefixText, RouterText, SourcesText};
+use crate::texts::{AddrText, PrefixText, RouterText, all_sources};
 use crate::{DeviceAddresses, DeviceView, NeighbourRow, RouteRow};
-use babel_value::{Addr, Peer, Prefix, RouterId};
+use babel_value::{Peer, Prefix, RouterId};
 use std::alloc::AllocError;
 use std::fmt::{self, Write};
+use std::net::{Ipv4Addr, Ipv6Addr};
 
 /// What a line means for the thing that it names.
 #[derive(Clone, Copy)]
@@ -47,34 +47,6 @@ fn name_of<'v>(devices: &[DeviceView<'v>], iface: u8) -> &'v str
     }
 }
 
-/// The name of the device of the peer's interface.
-#[derive(Clone, Copy)]
-struct NameText<'t> {
-    devices: &'t [DeviceView<'t>],
-    iface: u8,
-}
-
-impl fmt::Display for NameText<'_> {
-    ghost output = { λ text. Some (name_at text.devices.now text.iface) };
-
-    fn fmt<W: fmt::Write>(&self, f: &mut fmt::Formatter<W>) -> fmt::Result {
-        f.write_str(name_of(self.devices, self.iface))
-    }
-}
-
-/// A number as hexadecimal digits.
-#[derive(Clone, Copy)]
-struct IdText(u64);
-
-impl fmt::Display for IdText {
-    ghost output = { λ id. Some (digits 16 false id.0) };
-
-    fn fmt<W: fmt::Write>(&self, f: &mut fmt::Formatter<W>) -> fmt::Result {
-        let id = self.0;
-        write!(f, "{id:x}")
-    }
-}
-
 /// The lines that a client of this version of the program gets first.
 pub(crate) fn push_greeting(
     out: &mut String,
@@ -101,8 +73,7 @@ impl fmt::Display for Ipv6Field<'_> {
     fn fmt<W: fmt::Write>(&self, f: &mut fmt::Formatter<W>) -> fmt::Result {
         match self.0 {
             Some(octets) => {
-                let addr = Addr::V6(*octets);
-                let addr = AddrText(&addr);
+                let addr = Ipv6Addr::from_octets(*octets);
                 write!(f, " ipv6 {addr}")
             }
             None => Ok(()),
@@ -120,8 +91,7 @@ impl fmt::Display for Ipv4Field<'_> {
     fn fmt<W: fmt::Write>(&self, f: &mut fmt::Formatter<W>) -> fmt::Result {
         match self.0 {
             Some(octets) => {
-                let addr = Addr::V4(*octets);
-                let addr = AddrText(&addr);
+                let addr = Ipv4Addr::from_octets(*octets);
                 write!(f, " ipv4 {addr}")
             }
             None => Ok(()),
@@ -204,7 +174,7 @@ impl fmt::Display for CostFields<'_> {
 pub(crate) fn push_xroute(out: &mut String, event: Event, prefix: &Prefix) -> Result<(), AllocError>
     ensures { OnOk result (string_bytes out.new ≡ string_bytes out.old ++ xroute_line event prefix.now) }
 {
-    let from = SourcesText(prefix);
+    let from = all_sources(prefix);
     let prefix = PrefixText(prefix);
     writeln!(
         out,
@@ -222,13 +192,12 @@ pub(crate) fn push_route(
 ) -> Result<(), AllocError>
     ensures { OnOk result (string_bytes out.new ≡ string_bytes out.old ++ route_line event id row.now devices.now) }
 {
-    let id = IdText(id);
     let fields = RouteFields(row);
     let link = LinkFields {
         peer: &row.peer,
         devices,
     };
-    writeln!(out, "{event} route {id}{fields}{link}")
+    writeln!(out, "{event} route {id:x}{fields}{link}")
 }
 
 /// What a route advertises, whether it is selected, and its metrics.
@@ -240,7 +209,7 @@ impl fmt::Display for RouteFields<'_> {
 
     #[tactic(auto, unfolding(crate::specs::Lines::route_fields))]
     fn fmt<W: fmt::Write>(&self, f: &mut fmt::Formatter<W>) -> fmt::Result {
-        let from = SourcesText(&self.0.prefix);
+        let from = all_sources(&self.0.prefix);
         let prefix = PrefixText(&self.0.prefix);
         let installed = self.0.installed;
         let metrics = MetricFields(self.0);
@@ -264,10 +233,7 @@ impl fmt::Display for LinkFields<'_> {
     #[tactic(auto, unfolding(crate::specs::Lines::link_fields))]
     fn fmt<W: fmt::Write>(&self, f: &mut fmt::Formatter<W>) -> fmt::Result {
         let via = AddrText(&self.peer.addr);
-        let name = NameText {
-            devices: self.devices,
-            iface: self.peer.iface,
-        };
+        let name = name_of(self.devices, self.peer.iface);
         write!(f, " via {via} if {name}")
     }
 }

@@ -2,7 +2,7 @@
 
 ghost use Rattle.std.specs.Prelude.{◌≡◌, ◌++◌, ℕ, List, [], OnOk};
 ghost use Rattle.std.specs.String.{string_bytes};
-ghost use Rattle.babel_control.specs.Commands.{monitoring_by, logging_by, logging_with, shows_tables_by};
+ghost use Rattle.babel_control.specs.Commands.{monitoring_by, logging_with, shows_tables_by};
 ghost use Rattle.babel_control.specs.Lines.{greeting};
 ghost use Rattle.babel_control.specs.declared.clients.Access.TheVariants.{All};
 ghost use Rattle.babel_control.specs.Replies.{counts_reply, keeping_reply, logging_reply, ok_line, IsReply};
@@ -108,20 +108,22 @@ fn push_counts(
 fn push_keeping(out: &mut String, keeping: Keeping) -> Result<(), AllocError>
     ensures { OnOk result (string_bytes out.new ≡ string_bytes out.old ++ keeping_reply keeping) }
 {
-    match keeping {
-        Keeping::Kept => writeln!(out, "ok"),
-        Keeping::Failed => writeln!(out, "no the snapshot can't be kept"),
-        Keeping::Never => writeln!(out, "no the speaker runs without --keep"),
-    }
+    let reply = match keeping {
+        Keeping::Kept => "ok",
+        Keeping::Failed => "no the snapshot can't be kept",
+        Keeping::Never => "no the speaker runs without --keep",
+    };
+    writeln!(out, "{reply}")
 }
 
 fn push_logging(out: &mut String, logging: Logging, log: LogSource) -> Result<(), AllocError>
     ensures { OnOk result (string_bytes out.new ≡ string_bytes out.old ++ logging_reply logging log) }
 {
-    match (logging, log) {
-        (Logging::On, LogSource::Nothing) => writeln!(out, "no this speaker has no log"),
-        _ => writeln!(out, "ok"),
-    }
+    let reply = match (logging, log) {
+        (Logging::On, LogSource::Nothing) => "no this speaker has no log",
+        _ => "ok",
+    };
+    writeln!(out, "{reply}")
 }
 
 /// Whether the reply shows the tables.
@@ -142,22 +144,12 @@ pub(crate) fn monitoring_after(command: &Command, before: Monitoring) -> Monitor
     }
 }
 
-/// Whether a client is sent the log after a command.
-fn logging_after(command: &Command, before: Logging) -> Logging
-    ensures { result ≡ logging_by command.now before }
-{
-    match command {
-        Command::Log(logging) => *logging,
-        _ => before,
-    }
-}
-
-/// The same, if there may be no log to send.
-pub(crate) fn logging_over(log: LogSource, command: &Command, before: Logging) -> Logging
+/// Whether a client is sent the log after a command, if there may be no log to send.
+pub(crate) fn logging_after(log: LogSource, command: &Command, before: Logging) -> Logging
     ensures { result ≡ logging_with log command.now before }
 {
-    match log {
-        LogSource::Speaker => logging_after(command, before),
-        LogSource::Nothing => before,
+    match (log, command) {
+        (LogSource::Speaker, Command::Log(logging)) => *logging,
+        _ => before,
     }
 }

@@ -1,7 +1,7 @@
 //! Addresses, prefixes and router-ids, as babeld writes them.
 
 ghost use Rattle.std.specs.Prelude.{◌≡◌, Some};
-ghost use Rattle.babel_control.specs.Texts.{addr_text, prefix_text, all_sources as sources_of, octet_text, four_text, router_text};
+ghost use Rattle.babel_control.specs.Texts.{addr_text, prefix_text, all_sources as sources_of, four_text, router_text};
 
 use babel_value::{Addr, Prefix, RouterId};
 use std::fmt;
@@ -38,38 +38,12 @@ impl fmt::Display for PrefixText<'_> {
 }
 
 /// The prefix of all sources, in the family of this one.
-fn all_sources(prefix: &Prefix) -> &'static str
+pub(crate) fn all_sources(prefix: &Prefix) -> &'static str
     ensures { result.now ≡ sources_of prefix.now.addr }
 {
     match prefix.addr() {
         Addr::V4(_) => "0.0.0.0/0",
         Addr::V6(_) => "::/0",
-    }
-}
-
-/// The prefix of all sources, in the family of a prefix.
-#[derive(Clone, Copy)]
-pub(crate) struct SourcesText<'t>(pub(crate) &'t Prefix);
-
-impl fmt::Display for SourcesText<'_> {
-    ghost output = { λ text. Some (sources_of text.0.now.addr) };
-
-    fn fmt<W: fmt::Write>(&self, f: &mut fmt::Formatter<W>) -> fmt::Result {
-        f.write_str(all_sources(self.0))
-    }
-}
-
-/// An octet: two lower case hexadecimal digits.
-#[derive(Clone, Copy)]
-struct OctetText(u8);
-
-impl fmt::Display for OctetText {
-    ghost output = { λ text. Some (octet_text text.0) };
-
-    #[tactic(auto, unfolding(crate::specs::Texts::octet_text))]
-    fn fmt<W: fmt::Write>(&self, f: &mut fmt::Formatter<W>) -> fmt::Result {
-        let octet = self.0;
-        write!(f, "{octet:02x}")
     }
 }
 
@@ -81,38 +55,23 @@ impl fmt::Display for RouterText {
     ghost output = { λ text. Some (router_text text.0) };
 
     fn fmt<W: fmt::Write>(&self, f: &mut fmt::Formatter<W>) -> fmt::Result {
-        OctetsText(self.0.octets()).fmt(f)
-    }
-}
-
-/// The octets of a router-id.
-#[derive(Clone, Copy)]
-struct OctetsText([u8; 8]);
-
-impl fmt::Display for OctetsText {
-    ghost output = { λ text. Some (router_text text.0) };
-
-    fn fmt<W: fmt::Write>(&self, f: &mut fmt::Formatter<W>) -> fmt::Result {
-        let [a, b, c, d, e, g, h, i] = self.0;
+        let [a, b, c, d, e, g, h, i] = self.0.octets();
         let first = FourText(a, b, c, d);
         let last = FourText(e, g, h, i);
         write!(f, "{first}:{last}")
     }
 }
 
-/// Four octets with colons between them.
+/// Four octets, each as two lower case hexadecimal digits, with colons between them.
 #[derive(Clone, Copy)]
 struct FourText(u8, u8, u8, u8);
 
 impl fmt::Display for FourText {
     ghost output = { λ text. Some (four_text text.0 text.1 text.2 text.3) };
 
-    #[tactic(auto, unfolding(crate::specs::Texts::four_text))]
+    #[tactic(auto, unfolding(crate::specs::Texts::four_text, crate::specs::Texts::octet_text))]
     fn fmt<W: fmt::Write>(&self, f: &mut fmt::Formatter<W>) -> fmt::Result {
-        let a = OctetText(self.0);
-        let b = OctetText(self.1);
-        let c = OctetText(self.2);
-        let d = OctetText(self.3);
-        write!(f, "{a}:{b}:{c}:{d}")
+        let FourText(a, b, c, d) = *self;
+        write!(f, "{a:02x}:{b:02x}:{c:02x}:{d:02x}")
     }
 }
