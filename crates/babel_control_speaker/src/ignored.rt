@@ -37,12 +37,12 @@ impl Cause {
 
 impl fmt::Display for Cause {
     fn fmt<W: fmt::Write>(&self, f: &mut fmt::Formatter<W>) -> fmt::Result {
-        match self {
-            Cause::Unusable(reason) => reason.fmt(f),
-            Cause::OwnRouterId => f.write_str("V3"),
-            Cause::UnknownNeighbour => f.write_str("V4"),
-            Cause::TableFull => f.write_str("V5"),
-        }
+        f.write_str(match self {
+            Cause::Unusable(reason) => return reason.fmt(f),
+            Cause::OwnRouterId => "V3",
+            Cause::UnknownNeighbour => "V4",
+            Cause::TableFull => "V5",
+        })
     }
 }
 

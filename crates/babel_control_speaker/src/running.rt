@@ -112,11 +112,7 @@ impl Control {
 }
 
 fn read_host<F: Files>(alloc: Global, files: &F) -> io::Result<String> {
-    let mut text = String::new(alloc);
-    fs::open(files, HOST)?
-        .take(MAX_HOST_LEN)
-        .read_to_string(&mut text)?;
-    Ok(text)
+    io::read_to_string(alloc, fs::open(files, HOST)?.take(MAX_HOST_LEN))
 }
 
 /// Takes the socket's file away, if there is a socket and it is one of a file.

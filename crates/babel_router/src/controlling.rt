@@ -42,8 +42,7 @@ pub(crate) fn open_control<R: Net + Clock + Files, I: Read + AsRawFd>(
 ) -> Result<Option<Control>, RunFault> {
     match place {
         Some(place) => {
-            let system = wire.system();
-            match Control::open(alloc, system, place, wire.registry(), FIRST_OTHER) {
+            match Control::open(alloc, wire.system, place, wire.registry(), FIRST_OTHER) {
                 Ok(control) => Ok(Some(control)),
                 Err(_) => Err(RunFault::Control),
             }

@@ -93,11 +93,7 @@ impl Lists {
 }
 
 fn read_list<F: Files>(alloc: Global, files: &F, path: &str) -> io::Result<String> {
-    let mut text = String::new(alloc);
-    fs::open(files, path)?
-        .take(MAX_LIST_LEN)
-        .read_to_string(&mut text)?;
-    Ok(text)
+    io::read_to_string(alloc, fs::open(files, path)?.take(MAX_LIST_LEN))
 }
 
 /// The device, and whether its address is tentative, if the line is of a link-local address of the device of this
@@ -106,14 +102,23 @@ fn address_in(line: &str, name: &str) -> Option<(Device, bool)> {
     let mut fields = line.split_ascii_whitespace();
     // A field that is missing is empty, and so no number.
     let address = fields.next().unwrap_or("");
-    let scope = u32::from_str_radix(fields.next().unwrap_or(""), 16).ok()?;
+    let scope = fields.next().unwrap_or("");
     let reach = fields.nth(1).unwrap_or("");
-    let flags = u32::from_str_radix(fields.next().unwrap_or(""), 16).ok()?;
+    let flags = fields.next().unwrap_or("");
     if fields.next() != Some(name) || reach != LINK_SCOPE || !address.starts_with("fe80") {
         return None;
     }
-    let address = u128::from_str_radix(address, 16).ok()?.to_be_bytes();
-    Some((Device { scope, address }, flags & TENTATIVE != 0))
+    match (
+        u128::from_str_radix(address, 16),
+        u32::from_str_radix(scope, 16),
+        u32::from_str_radix(flags, 16),
+    ) {
+        (Ok(address), Ok(scope), Ok(flags)) => {
+            let address = address.to_be_bytes();
+            Some((Device { scope, address }, flags & TENTATIVE != 0))
+        }
+        _ => None,
+    }
 }
 
 /// Whether the line is of the group on the device of this name.

@@ -30,7 +30,7 @@ pub enum DeviceFault {
 #[derive(Clone, Copy, Debug, Error)]
 pub enum RunFault {
     /// C1 to C7: no speaker can be made of the settings.
-    #[error("{0}")]
+    #[error(transparent)]
     Config(#[from] ConfigFault),
     /// W2 to W5: the device of this number in the command line can't be used.
     #[error("device {0} {1}")]
@@ -42,13 +42,13 @@ pub enum RunFault {
     #[error("can't be made a control socket: another process listens there, or the path or port can't be used")]
     Control,
     /// K8, K9, K10 and L8: the file of the snapshot can't be read, kept or locked.
-    #[error("{0}")]
+    #[error(transparent)]
     SnapshotFile(#[from] SnapshotFileFault),
     /// K1 to K7, or C7: no speaker can be restored from the snapshot.
-    #[error("{0}")]
+    #[error(transparent)]
     Restore(#[from] RestoreFault),
     /// L7 and L8: writing failed, or an allocation failed.
-    #[error("{0}")]
+    #[error(transparent)]
     Output(#[from] LineFault),
 }
 
@@ -99,17 +99,18 @@ pub struct RunCode {
 
 impl fmt::Display for RunCode {
     fn fmt<W: fmt::Write>(&self, f: &mut fmt::Formatter<W>) -> fmt::Result {
-        match self.fault {
-            RunFault::Config(fault) => f.write_str(fault.code()),
-            RunFault::Device(_, DeviceFault::Socket) => f.write_str("W2"),
-            RunFault::Device(_, DeviceFault::NoAddress) => f.write_str("W3"),
-            RunFault::Device(_, DeviceFault::Tentative) => f.write_str("W4"),
-            RunFault::Device(_, DeviceFault::NotMember) => f.write_str("W5"),
-            RunFault::System => f.write_str("W6"),
-            RunFault::Control => f.write_str("W7"),
-            RunFault::SnapshotFile(fault) => f.write_str(fault.code()),
-            RunFault::Restore(fault) => write!(f, "{}", RestoreCode { fault }),
-            RunFault::Output(fault) => f.write_str(fault.code()),
-        }
+        let code = match self.fault {
+            RunFault::Config(fault) => fault.code(),
+            RunFault::Device(_, DeviceFault::Socket) => "W2",
+            RunFault::Device(_, DeviceFault::NoAddress) => "W3",
+            RunFault::Device(_, DeviceFault::Tentative) => "W4",
+            RunFault::Device(_, DeviceFault::NotMember) => "W5",
+            RunFault::System => "W6",
+            RunFault::Control => "W7",
+            RunFault::SnapshotFile(fault) => fault.code(),
+            RunFault::Restore(fault) => return RestoreCode { fault }.fmt(f),
+            RunFault::Output(fault) => fault.code(),
+        };
+        f.write_str(code)
     }
 }

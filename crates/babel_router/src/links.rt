@@ -40,11 +40,12 @@ const MAX_HEARD: usize = 4096;
 /// The sockets of a speaker, its clock, which begins at 0, and the input whose end stops it.
 #[derive(Drop)]
 pub(crate) struct LinkWire<'a, R: Clock, I: Read + AsRawFd> {
-    system: &'a R,
+    /// The system, with its clock and its sockets.
+    pub(crate) system: &'a R,
     input: &'a mut I,
     start: Instant,
     /// The moment that was returned last.
-    moment: u64,
+    pub(crate) moment: u64,
     port: u16,
     /// The sockets of each device, unless it can't be used now.
     links: Vec<Option<Sockets>>,
@@ -56,7 +57,8 @@ pub(crate) struct LinkWire<'a, R: Clock, I: Read + AsRawFd> {
     taken: u32,
     /// How long `recv` waits.
     wait: Duration,
-    has_ended: bool,
+    /// Whether the input has ended.
+    pub(crate) has_ended: bool,
     /// What came over the input.
     heard: Vec<u8>,
     /// Whether a socket failed since the devices were looked at.
@@ -144,22 +146,7 @@ impl<R: Clock + Net, I: Read + AsRawFd> LinkWire<'_, R, I> {
     }
 }
 
-impl<'a, R: Clock, I: Read + AsRawFd> LinkWire<'a, R, I> {
-    /// The system, with its clock and its sockets.
-    pub(crate) fn system(&self) -> &'a R {
-        self.system
-    }
-
-    /// Whether the input has ended.
-    pub(crate) fn has_ended(&self) -> bool {
-        self.has_ended
-    }
-
-    /// The moment that was returned last.
-    pub(crate) fn moment(&self) -> u64 {
-        self.moment
-    }
-
+impl<R: Clock, I: Read + AsRawFd> LinkWire<'_, R, I> {
     /// Closes the sockets of a device.
     pub(crate) fn close_link(&mut self, number: usize)
         ensures { self.new.faults ≡ self.old.faults }

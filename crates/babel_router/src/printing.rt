@@ -27,13 +27,11 @@ pub(crate) enum Note {
 
 impl fmt::Display for Note {
     fn fmt<W: fmt::Write>(&self, f: &mut fmt::Formatter<W>) -> fmt::Result {
-        match *self {
-            Note::Lost(fault) => write!(f, "{fault}"),
-            Note::Opened => f.write_str("is used again"),
-            Note::Moved => f.write_str(
-                "has another address: the speaker starts again from its snapshot",
-            ),
-        }
+        f.write_str(match *self {
+            Note::Lost(fault) => return fault.fmt(f),
+            Note::Opened => "is used again",
+            Note::Moved => "has another address: the speaker starts again from its snapshot",
+        })
     }
 }
 
@@ -113,9 +111,19 @@ impl<'s, 'a, W: Write, E: Write> Printer<'s, 'a, W, E> {
     }
 
     /// A device may have another number. `ip` keeps the numbers that it has seen; this command lets it read them again.
-    pub(crate) fn list_devices(&mut self) {
+    fn list_devices(&mut self) {
         if self.commands.is_some() && self.written.is_ok() {
             self.written = writeln!(self.out, "link show").map_err(LineFault::of_writing);
+        }
+    }
+
+    /// Says what became of the device of this number. If it was opened again, `ip` lists the devices, and the kernel is
+    /// given the routes over it again.
+    pub(crate) fn note_device(&mut self, number: usize, name: &str, note: Note) {
+        self.note(name, note);
+        if let Note::Opened = note {
+            self.list_devices();
+            self.doubt(number);
         }
     }
 

@@ -129,8 +129,10 @@ where
     match start(rt, options, devices) {
         Ok((store, mut speaker)) => {
             let mut wire = KeptWire { wire, store };
-            let speaker = &mut speaker;
-            let started = Started { speaker, devices };
+            let started = Started {
+                speaker: &mut speaker,
+                devices,
+            };
             open_and_run(rt.alloc(), options, started, &mut wire, outputs)
         }
         Err(fault) => Err(fault),
@@ -184,7 +186,7 @@ where
         last_turn: DurableReport::default(),
     };
     let ended = router.take_turns(options.turns, wire, printer);
-    remove_socket(wire.wire.system(), options.control);
+    remove_socket(wire.wire.system, options.control);
     ended
 }
 

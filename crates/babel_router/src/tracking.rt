@@ -7,7 +7,7 @@ use babel_text::parse_network;
 use babel_value::Addr;
 
 /// An IPv4 address, and the length of its network's prefix.
-type Ipv4Network = ([u8; 4], u8);
+pub(crate) type Ipv4Network = ([u8; 4], u8);
 
 /// A device of the run.
 #[derive(Clone, Copy)]
@@ -158,7 +158,8 @@ fn report_of(line: &str) -> Option<(&str, Change)> {
     }
 }
 
-fn network_of(word: Option<&str>) -> Option<Ipv4Network> {
+/// The IPv4 address that a word spells, with the length of its network's prefix.
+pub(crate) fn network_of(word: Option<&str>) -> Option<Ipv4Network> {
     match parse_network(word?)? {
         (Addr::V4(octets), length) => Some((octets, length)),
         _ => None,

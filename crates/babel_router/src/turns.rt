@@ -61,8 +61,8 @@ impl Router<'_, '_> {
     {
         printer.begin()?;
         let ended = self.take_all(turns, wire, printer);
-        if self.counts.turns == 0 {
-            ended?;
+        if ended.is_err() && self.counts.turns == 0 {
+            return ended;
         }
         // The kernel's routes are taken away also if a change couldn't be written.
         printer.end(self.speaker, self.counts)?;
@@ -80,11 +80,11 @@ impl Router<'_, '_> {
         R::File: LockFile,
     {
         for number in 0..turns {
-            if wire.wire.has_ended() || printer.has_failed() {
+            if wire.wire.has_ended || printer.has_failed() {
                 break;
             }
             if wire.wire.has_to_look() {
-                self.look_at_devices(wire, printer)?;
+                self.look_at_devices(&mut wire.wire, printer)?;
             }
             let place = place_of(number, turns);
             let Some(counted) = self.take_step(wire, printer, place) else {
@@ -95,7 +95,7 @@ impl Router<'_, '_> {
             }
             self.counts.add(counted);
             printer.note_keeping(self.last_turn);
-            if self.serve_control(wire, printer) == Wish::Stop {
+            if let Wish::Stop = self.serve_control(wire, printer) {
                 break;
             }
         }
@@ -113,6 +113,9 @@ impl Router<'_, '_> {
     where
         R::File: LockFile,
     {
+        if wire.faults() > MAX_FAULTS {
+            return None;
+        }
         let due = if self.pace.needs_due() {
             self.speaker.next_due()
         } else {
@@ -121,51 +124,21 @@ impl Router<'_, '_> {
         match self.pace.next(due, place) {
             pacing::Step::Turn(until) => {
                 wire.wire.wait_until(until);
-                self.take_turn(wire, printer)
+                let turn = drive_durable(self.speaker, self.driver, wire, printer, 1);
+                self.pace.note_turn(wire.wire.moment, turn);
+                self.last_turn = turn;
+                Some(turn)
             }
             pacing::Step::TakeIn(until) => {
                 wire.wire.pause_until(until);
-                self.take_datagram(wire, printer)
+                let report = take_in(self.speaker, self.driver, wire, printer);
+                self.pace.note_taken(wire.wire.moment, report);
+                Some(DurableReport {
+                    report,
+                    ..DurableReport::default()
+                })
             }
         }
-    }
-
-    /// Takes a turn. `None`: the wire has failed too often.
-    fn take_turn<'r, R: Net + Clock + Files, I: Read + AsRawFd, W: Write, E: Write>(
-        &mut self,
-        wire: &mut KeptWire<'r, LinkWire<'r, R, I>, R>,
-        printer: &mut Printer<'_, '_, W, E>,
-    ) -> Option<DurableReport>
-    where
-        R::File: LockFile,
-    {
-        if wire.faults() > MAX_FAULTS {
-            return None;
-        }
-        let turn = drive_durable(self.speaker, self.driver, wire, printer, 1);
-        self.pace.note_turn(wire.wire.moment(), turn);
-        self.last_turn = turn;
-        Some(turn)
-    }
-
-    /// Takes in a datagram, if one waits. `None`: the wire has failed too often.
-    fn take_datagram<'r, R: Net + Clock + Files, I: Read + AsRawFd, W: Write, E: Write>(
-        &mut self,
-        wire: &mut KeptWire<'r, LinkWire<'r, R, I>, R>,
-        printer: &mut Printer<'_, '_, W, E>,
-    ) -> Option<DurableReport>
-    where
-        R::File: LockFile,
-    {
-        if wire.faults() > MAX_FAULTS {
-            return None;
-        }
-        let report = take_in(self.speaker, self.driver, wire, printer);
-        self.pace.note_taken(wire.wire.moment(), report);
-        Some(DurableReport {
-            report,
-            ..DurableReport::default()
-        })
     }
 
     /// A run that ends leaves nothing pending.
@@ -180,8 +153,7 @@ impl Router<'_, '_> {
         if self.counts.turns == 0 || printer.has_failed() || self.speaker.next_due() > 0 {
             return;
         }
-        wire.wire.wait_until(0);
-        if let Some(turn) = self.take_turn(wire, printer) {
+        if let Some(turn) = self.take_step(wire, printer, Place::Last) {
             self.counts.add(turn);
             printer.note_keeping(turn);
         }
@@ -228,26 +200,17 @@ impl Router<'_, '_> {
     }
 
     /// Opens and closes the sockets of devices that have changed. If an address is another one, the speaker starts again.
-    fn look_at_devices<'r, R: Net + Clock + Files, I: Read + AsRawFd, W: Write, E: Write>(
+    fn look_at_devices<R: Net + Clock + Files, I: Read + AsRawFd, W: Write, E: Write>(
         &mut self,
-        wire: &mut KeptWire<'r, LinkWire<'r, R, I>, R>,
+        wire: &mut LinkWire<'_, R, I>,
         printer: &mut Printer<'_, '_, W, E>,
-    ) -> Result<(), RunFault>
-    where
-        R::File: LockFile,
-    {
-        hear(self.devices, wire.wire.heard());
+    ) -> Result<(), RunFault> {
+        hear(self.devices, wire.heard());
         // If the system's lists can't be read now, they are at the next look.
-        if let Ok(lists) = Lists::read(self.alloc, wire.wire.system()) {
-            for (number, device) in self.devices.iter_mut().enumerate() {
-                let step = device.look(&lists);
-                take_device_step(number, device, step, &mut wire.wire, printer);
-                if device.take_report() {
-                    printer.doubt(number);
-                }
-            }
+        if let Ok(lists) = Lists::read(self.alloc, wire.system) {
+            look_at_each(self.devices, &lists, wire, printer);
         }
-        wire.wire.note_look();
+        wire.note_look();
         if self.take_addresses(printer) {
             printer.note_restart();
             return self.restart(wire.now());
@@ -299,32 +262,44 @@ fn place_of(number: u64, turns: u64) -> Place {
     }
 }
 
-/// Opens or closes the sockets of a device.
-fn take_device_step<R: Clock + Net, I: Read + AsRawFd, W: Write, E: Write>(
+/// Looks at each device.
+fn look_at_each<R: Clock + Net, I: Read + AsRawFd, W: Write, E: Write>(
+    devices: &mut [Tracked<'_>],
+    lists: &Lists,
+    wire: &mut LinkWire<'_, R, I>,
+    printer: &mut Printer<'_, '_, W, E>,
+) {
+    for (number, device) in devices.iter_mut().enumerate() {
+        let step = device.look(lists);
+        if let Some(note) = take_device_step(number, device, step, wire) {
+            printer.note_device(number, device.settings.name, note);
+        }
+        if device.take_report() {
+            printer.doubt(number);
+        }
+    }
+}
+
+/// Opens or closes the sockets of a device, and returns what became of it.
+fn take_device_step<R: Clock + Net, I: Read + AsRawFd>(
     number: usize,
     device: &mut Tracked<'_>,
     step: Step,
     wire: &mut LinkWire<'_, R, I>,
-    printer: &mut Printer<'_, '_, W, E>,
-) {
+) -> Option<Note> {
     match step {
-        Step::Nothing => {}
+        Step::Nothing => None,
         Step::Close(fault) => {
             wire.close_link(number);
-            printer.note(device.settings.name, Note::Lost(fault));
+            Some(Note::Lost(fault))
         }
         Step::Open(opened) => match wire.open_link(number, opened) {
             Ok(()) => {
                 device.note_opened();
-                printer.note(device.settings.name, Note::Opened);
-                printer.list_devices();
-                printer.doubt(number);
+                Some(Note::Opened)
             }
-            Err(_) => {
-                if device.fail() {
-                    printer.note(device.settings.name, Note::Lost(DeviceFault::Socket));
-                }
-            }
+            Err(_) if device.fail() => Some(Note::Lost(DeviceFault::Socket)),
+            Err(_) => None,
         },
     }
 }

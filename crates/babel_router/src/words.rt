@@ -3,12 +3,13 @@
 use crate::controlling::place_of;
 use crate::running::{Printed, RunOptions, run};
 use crate::settings::{DeviceSettings, Settings};
+use crate::tracking::{Ipv4Network, network_of};
 use crate::{RunFault, WordsFault};
 use babel_config::{FileFault, read_file};
 use babel_router_file::{RouterFile, read_router_file};
 use babel_snapshot_file::{Kept, LockFile};
-use babel_text::{parse_network, parse_prefix, parse_router_id};
-use babel_value::{Addr, Prefix};
+use babel_text::{parse_prefix, parse_router_id};
+use babel_value::Prefix;
 use std::alloc::{AllocError, Global};
 use std::fs::{self, Files};
 use std::io::{Read, Write};
@@ -21,9 +22,6 @@ const DEFAULT_COST: u16 = 96;
 
 /// The interval between two Hellos if none is given, in centiseconds (RFC 8966, appendix B).
 const DEFAULT_HELLO: u16 = 400;
-
-/// An IPv4 address, and the length of its network's prefix.
-type Ipv4Network = ([u8; 4], u8);
 
 /// The words of the command line, as they were written.
 #[derive(Clone, Copy)]
@@ -109,39 +107,38 @@ where
         prefixes: &prefixes,
         collect: file.collect,
     };
-    let control = match place_of(words.control) {
-        Ok(control) => control,
-        Err(fault) => return Err(WordsFault::Run(fault)),
-    };
-    let options = RunOptions {
-        control,
-        ..options_of(&words, &*devices, settings)
-    };
-    let Streams { input, out, err } = streams;
-    match run(rt, options, input, out, err) {
+    match run_settings(rt, &words, &*devices, settings, streams) {
         Ok(()) => Ok(()),
         Err(fault) => Err(WordsFault::Run(fault)),
     }
 }
 
-/// The options of a run without a control socket.
-fn options_of<'x>(
+fn run_settings<'x, R, I: Read + AsRawFd, W: Write, E: Write>(
+    rt: &R,
     words: &RunWords<'x>,
     devices: &'x [DeviceSettings<'x>],
     settings: Settings<'x>,
-) -> RunOptions<'x> {
+    streams: Streams<'_, I, W, E>,
+) -> Result<(), RunFault>
+where
+    R: AllocGlobal + Net + Clock + Files,
+    R::File: LockFile,
+{
+    let control = place_of(words.control)?;
     let keep = words.keep;
-    RunOptions {
+    let options = RunOptions {
         names: words.devices,
         devices,
         settings,
         port: words.port,
         turns: words.turns,
         keep,
-        control: None,
+        control,
         routes: words.routes,
         commands: words.commands,
-    }
+    };
+    let Streams { input, out, err } = streams;
+    run(rt, options, input, out, err)
 }
 
 /// What is in the file, or nothing.
@@ -248,10 +245,7 @@ fn ipv4_of(addresses: &[&str], name: &str) -> Option<Ipv4Network> {
 
 fn address_of(text: &str) -> Option<(&str, Ipv4Network)> {
     let (name, network) = text.split_once('=')?;
-    match parse_network(network)? {
-        (Addr::V4(octets), length) => Some((name, (octets, length))),
-        _ => None,
-    }
+    Some((name, network_of(Some(network))?))
 }
 
 /// L8.

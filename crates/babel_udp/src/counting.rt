@@ -75,7 +75,7 @@ fn write_counts<W: Write>(turns: u64, report: Report, out: &mut W) -> io::Result
 }
 
 /// Whether the snapshot was kept in the last turn.
-#[derive(Clone, Copy, PartialEq, Eq)]
+#[derive(Clone, Copy)]
 pub enum LastKeep {
     /// It was, or nothing had to be kept.
     Done,
@@ -87,22 +87,16 @@ impl LastKeep {
     /// Takes a turn in, and writes if it isn't like the turn before. So it is written once that the
     /// snapshot can't be kept any more, and once that it is kept again.
     pub fn note<E: Write>(&mut self, turn: DurableReport, err: &mut E) {
-        let keep = if turn.failed_keeps > 0 {
-            LastKeep::Failed
-        } else {
-            LastKeep::Done
+        let (keep, text) = match (*self, turn.failed_keeps) {
+            (LastKeep::Failed, 0) => (LastKeep::Done, "is kept again"),
+            (LastKeep::Done, 1..) => (
+                LastKeep::Failed,
+                "can't be kept: nothing is sent until it can",
+            ),
+            _ => return,
         };
-        if keep == *self {
-            return;
-        }
         *self = keep;
         // If that can't be written, it is in the counts.
-        let _ = match keep {
-            LastKeep::Failed => writeln!(
-                err,
-                "babel: the snapshot can't be kept: nothing is sent until it can"
-            ),
-            LastKeep::Done => writeln!(err, "babel: the snapshot is kept again"),
-        };
+        let _ = writeln!(err, "babel: the snapshot {text}");
     }
 }

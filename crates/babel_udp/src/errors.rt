@@ -12,16 +12,16 @@ use thiserror::Error;
 #[derive(Clone, Copy, Debug, PartialEq, Eq, Error)]
 pub enum SpeakFault {
     /// C1 to C7: no speaker can be made of the configuration.
-    #[error("{0}")]
+    #[error(transparent)]
     Config(#[from] ConfigFault),
     /// W1: an interface has IPv6 transport.
     #[error("an interface has IPv6 transport")]
     Transport,
     /// K8, K9, K10 and L8: the file of a snapshot can't be read, written or locked.
-    #[error("{0}")]
+    #[error(transparent)]
     SnapshotFile(#[from] SnapshotFileFault),
     /// K1 to K7, or C7: no speaker can be restored from the snapshot.
-    #[error("{0}")]
+    #[error(transparent)]
     Restore(#[from] RestoreFault),
     /// W2: a socket can't be made, for instance since the address isn't one of this machine.
     #[error("a socket can't be made")]
@@ -30,7 +30,7 @@ pub enum SpeakFault {
     #[error("the control socket can't be made")]
     Control,
     /// L7 and L8: writing failed, or an allocation failed.
-    #[error("{0}")]
+    #[error(transparent)]
     Output(#[from] LineFault),
 }
 
@@ -66,14 +66,15 @@ pub struct SpeakCode {
 
 impl fmt::Display for SpeakCode {
     fn fmt<W: fmt::Write>(&self, f: &mut fmt::Formatter<W>) -> fmt::Result {
-        match self.fault {
-            SpeakFault::Config(fault) => f.write_str(fault.code()),
-            SpeakFault::Transport => f.write_str("W1"),
-            SpeakFault::SnapshotFile(fault) => f.write_str(fault.code()),
-            SpeakFault::Restore(fault) => write!(f, "{}", RestoreCode { fault }),
-            SpeakFault::Socket => f.write_str("W2"),
-            SpeakFault::Control => f.write_str("W7"),
-            SpeakFault::Output(fault) => f.write_str(fault.code()),
-        }
+        let code = match self.fault {
+            SpeakFault::Config(fault) => fault.code(),
+            SpeakFault::Transport => "W1",
+            SpeakFault::SnapshotFile(fault) => fault.code(),
+            SpeakFault::Restore(fault) => return RestoreCode { fault }.fmt(f),
+            SpeakFault::Socket => "W2",
+            SpeakFault::Control => "W7",
+            SpeakFault::Output(fault) => fault.code(),
+        };
+        f.write_str(code)
     }
 }

@@ -9,7 +9,6 @@ use babel_state::{Config, RestoreFault, Target};
 use babel_wire::{Arrival, Wire, WireFault};
 use std::alloc::Global;
 use std::fs::Files;
-use thiserror::Error;
 
 /// The moment at which a speaker is restored: the first one.
 const MOMENT: u64 = 0;
@@ -49,21 +48,19 @@ where
 {
     fn keep(&mut self, octets: &[u8]) -> Result<(), StoreFault> {
         match &self.store {
-            None => Ok(()),
-            Some(store) => store.keep(octets).map_err(|_| StoreFault),
+            Some(store) if store.keep(octets).is_err() => Err(StoreFault),
+            _ => Ok(()),
         }
     }
 }
 
 /// Why a speaker can't begin with the file in which it is kept.
-#[derive(Clone, Copy, Debug, Error)]
+#[derive(Clone, Copy)]
 pub enum StartFault {
     /// K8, K9, K10 and L8: the file can't be read, is there, or can't be locked.
-    #[error("{0}")]
-    SnapshotFile(#[from] SnapshotFileFault),
+    SnapshotFile(SnapshotFileFault),
     /// K1 to K7, or C7: no speaker can be restored from the snapshot.
-    #[error("{0}")]
-    Restore(#[from] RestoreFault),
+    Restore(RestoreFault),
 }
 
 /// Locks the file, if there is to be one, and restores a speaker of the configuration from it. Without a file, or with a new one,
@@ -82,7 +79,10 @@ where
     F::File: LockFile,
 {
     let Some(kept) = kept else {
-        return Ok((None, made(alloc, config, None)?));
+        return match made(alloc, config, None) {
+            Ok(speaker) => Ok((None, speaker)),
+            Err(fault) => Err(StartFault::Restore(fault)),
+        };
     };
     let (store, octets) = match SnapshotStore::open(alloc, files, kept) {
         Ok(opened) => opened,

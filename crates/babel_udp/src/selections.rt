@@ -32,7 +32,7 @@ struct InterfaceText<'a> {
 impl fmt::Display for InterfaceText<'_> {
     fn fmt<W: fmt::Write>(&self, f: &mut fmt::Formatter<W>) -> fmt::Result {
         match self.lines {
-            RouteLines::Numbers => write!(f, "{}", self.iface),
+            RouteLines::Numbers => self.iface.fmt(f),
             RouteLines::Names(names) | RouteLines::Commands(names) => {
                 f.write_str(names.get(usize::from(self.iface)).copied().unwrap_or("?"))
             }
