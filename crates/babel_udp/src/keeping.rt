@@ -9,6 +9,7 @@ use babel_state::{Config, RestoreFault, Target};
 use babel_wire::{Arrival, Wire, WireFault};
 use std::alloc::Global;
 use std::fs::Files;
+use thiserror::Error;
 
 /// The moment at which a speaker is restored: the first one.
 const MOMENT: u64 = 0;
@@ -55,12 +56,14 @@ where
 }
 
 /// Why a speaker can't begin with the file in which it is kept.
-#[derive(Clone, Copy)]
+#[derive(Clone, Copy, Debug, Error)]
 pub enum StartFault {
     /// K8, K9, K10 and L8: the file can't be read, is there, or can't be locked.
-    SnapshotFile(SnapshotFileFault),
+    #[error(transparent)]
+    SnapshotFile(#[from] SnapshotFileFault),
     /// K1 to K7, or C7: no speaker can be restored from the snapshot.
-    Restore(RestoreFault),
+    #[error(transparent)]
+    Restore(#[from] RestoreFault),
 }
 
 /// Locks the file, if there is to be one, and restores a speaker of the configuration from it. Without a file, or with a new one,
