@@ -5,5 +5,4 @@ pub mod Places
 pub mod Bounds
 pub mod Digits
 pub mod Firsts
-pub mod Gaps
 pub mod Revisions
