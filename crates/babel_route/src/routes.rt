@@ -24,7 +24,7 @@ use babel_choice::{
 };
 use babel_sources::{SourceEntry, SourcesOver};
 use babel_table::{
-    Full, Memory, SortedTable, Table, find_in, find_near, places_below, revise_dues, set,
+    Full, GapTable, Memory, SortedTable, Table, find_in, find_near, places_below, revise_dues, set,
 };
 use babel_value::{Addr, Distance, Peer, Prefix, RouterId, Source};
 use current::replace_near;
@@ -53,7 +53,7 @@ pub struct RoutesOver<E: Table<RouteKey, Entry>, S: Table<Prefix, Selection>> {
 pub type RouteTable = SortedTable<RouteKey, Entry>;
 
 /// The table that the selections are kept in.
-pub type SelectionTable = SortedTable<Prefix, Selection>;
+pub type SelectionTable = GapTable<Prefix, Selection>;
 
 /// The route table of a speaker.
 pub type Routes = RoutesOver<RouteTable, SelectionTable>;

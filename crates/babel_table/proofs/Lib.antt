@@ -2,6 +2,7 @@ pub mod BoundLemmas
 pub mod DigitLemmas
 pub mod DueLemmas
 pub mod FirstLemmas
+pub mod GapLemmas
 pub mod InsertionLemmas
 pub mod LookupLemmas
 pub mod NearLemmas

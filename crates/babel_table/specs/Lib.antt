@@ -5,4 +5,5 @@ pub mod Places
 pub mod Bounds
 pub mod Digits
 pub mod Firsts
+pub mod Gaps
 pub mod Revisions

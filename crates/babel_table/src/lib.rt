@@ -4,6 +4,7 @@
 //! - `steps`: counters of comparisons, which take no room at run time.
 //! - `table`: the trait `Table`, and calls over any table.
 //! - `sorted`, `plain`: the two tables.
+//! - `sequences`, `gap`: what a table in order keeps its entries in.
 //! - `revisions`, `bounds`, `dues`: walks over any table.
 //! - `near`: searches that begin where the last one ended.
 //! - `laws`: laws of the definitions.
@@ -14,11 +15,13 @@
 mod bounds;
 mod dues;
 mod errors;
+mod gap;
 mod keys;
 pub mod laws;
 mod near;
 mod plain;
 mod revisions;
+mod sequences;
 mod sorted;
 mod steps;
 mod table;
@@ -31,6 +34,6 @@ pub use keys::{Key, Sought};
 pub use near::{find_near, places_below_near, set_near};
 pub use plain::PlainTable;
 pub use revisions::{Change, Revised, Revision};
-pub use sorted::SortedTable;
+pub use sorted::{GapTable, SortedTable};
 pub use steps::Steps;
 pub use table::{Table, find_in, set};

@@ -1,10 +1,11 @@
 //! A revision of all entries of a table, in one pass.
 
-ghost use Rattle.std.specs.Prelude.{◌≡◌, ◌≤◌, ◌<◌, Option, Some, slice_get, set, vec_len, vec_capacity};
+ghost use Rattle.std.specs.Prelude.{◌≡◌, ◌≤◌, ◌<◌, Option, Some, length, slice_get, set};
 ghost use Rattle.babel_table.specs.Entries.{revised_entries};
 ghost use Rattle.babel_table.specs.Revisions.{revised_value};
 
 use crate::Key;
+use crate::sequences::Sequence;
 
 /// What becomes of a value in a revision.
 #[derive(Clone, Copy, Debug, PartialEq, Eq)]
@@ -37,21 +38,24 @@ pub trait Change<V: Copy> {
 
 /// Revises the entries in one pass. Each is moved at most once, and one that is kept where it is isn't
 /// written.
-pub(crate) fn compact<K: Key, V: Copy, R: Revision<K, V>>(entries: &mut Vec<(K, V)>, revision: &R)
-    ensures items { entries.new.items ≡ revised_entries (R.revised revision.now) entries.old.items }
-    ensures len { vec_len entries.new ≤ vec_len entries.old }
-    ensures capacity { vec_capacity entries.new ≡ vec_capacity entries.old }
+pub(crate) fn compact<K: Key, V: Copy, Q: Sequence<(K, V)>, R: Revision<K, V>>(
+    entries: &mut Q,
+    revision: &R,
+)
+    ensures items { Q.items entries.new ≡ revised_entries (R.revised revision.now) (Q.items entries.old) }
+    ensures len { length (Q.items entries.new) ≤ length (Q.items entries.old) }
+    ensures room { Q.room entries.new ≡ Q.room entries.old }
 {
     let mut kept = 0;
     for index in 0..entries.len() {
-        let (key, value) = entries[index];
+        let (key, value) = *entries.item(index);
         match revision.revise(&key, &value) {
             Revised::Kept => {
                 move_down(entries, kept, index, (key, value));
                 kept += 1;
             }
             Revised::Changed(changed) => {
-                entries[kept] = (key, changed);
+                entries.set(kept, (key, changed));
                 kept += 1;
             }
             Revised::Removed => {}
@@ -61,15 +65,14 @@ pub(crate) fn compact<K: Key, V: Copy, R: Revision<K, V>>(entries: &mut Vec<(K, 
 }
 
 /// Copies the item at an index to an index that isn't greater.
-fn move_down<T: Copy>(items: &mut Vec<T>, to: usize, from: usize, item: T)
+fn move_down<T: Copy, Q: Sequence<T>>(items: &mut Q, to: usize, from: usize, item: T)
     requires order { to ≤ from }
-    requires within { from < vec_len items.old }
-    requires item { slice_get items.old.items from ≡ Some item }
-    ensures items { items.new.items ≡ set items.old.items to item }
-    ensures len { vec_len items.new ≡ vec_len items.old }
-    ensures capacity { vec_capacity items.new ≡ vec_capacity items.old }
+    requires within { from < length (Q.items items.old) }
+    requires item { slice_get (Q.items items.old) from ≡ Some item }
+    ensures items { Q.items items.new ≡ set (Q.items items.old) to item }
+    ensures room { Q.room items.new ≡ Q.room items.old }
 {
     if to < from {
-        items[to] = item;
+        items.set(to, item);
     }
 }

@@ -1,30 +1,38 @@
-//! A table as a vector in the order of the keys.
+//! A table as a sequence in the order of the keys.
 
-ghost use Rattle.std.specs.Prelude.{◌≡◌, ℕ, ◌+◌, ◌≤◌, ◌<◌, ◌↔◌, true, take, IsTrue, IsErr, IsNone, length, vec_len, vec_capacity, IfOk, IfErr, OnOk, OnErr};
+ghost use Rattle.std.specs.Prelude.{◌≡◌, ℕ, ◌+◌, ◌≤◌, ◌<◌, ◌↔◌, true, take, IsTrue, IsErr, IsNone, length, IfOk, IfErr, OnOk, OnErr};
 ghost use Rattle.std.specs.FinMap.{find, put, is_sorted};
 ghost use Rattle.babel_table.specs.Digits.{binary_digits};
 ghost use Rattle.babel_table.specs.Places.{IsAt, IsGap, are_lesser};
 
+use crate::gap::GapVec;
 use crate::near::FAR;
 use crate::revisions::compact;
+use crate::sequences::Sequence;
 use crate::{Change, Full, Key, Memory, Revision, Sought, Steps, Table};
 use std::alloc::Global;
 use std::cmp::Ordering;
-use std::marker::Brand;
+use std::marker::{Brand, PhantomData};
 use std::sync::ledger::{Blank, Ledger};
 
-/// A table kept in the order of its keys. A look-up is a binary search.
+/// A table kept in the order of its keys, in a sequence of the type `Q`. A look-up is a binary search.
 #[derive(Debug, Drop)]
-pub struct SortedTable<K: Key, V: Copy> {
-    entries: Vec<(K, V)>,
+pub struct SortedTable<K: Key, V: Copy, Q: Sequence<(K, V)> = Vec<(K, V)>> {
+    entries: Q,
     places: usize,
-    ghost has_room: { places ≤ vec_capacity entries },
-    ghost few: { vec_len entries ≤ places },
-    ghost sorted: { IsTrue (is_sorted K.order entries.items) },
+    /// The type of an entry, which `entries` has in its bound alone.
+    entry: PhantomData<(K, V)>,
+    ghost has_room: { places ≤ Q.room entries },
+    ghost few: { length (Q.items entries) ≤ places },
+    ghost sorted: { IsTrue (is_sorted K.order (Q.items entries)) },
 }
 
-impl<K: Key, V: Copy> Table<K, V> for SortedTable<K, V> {
-    ghost entries = { λ table. table.entries.items };
+/// A table kept in the order of its keys, with a gap where the last entry was removed or inserted.
+/// Keys that rise are removed, or stored again, in one pass over the table.
+pub type GapTable<K, V> = SortedTable<K, V, GapVec<(K, V)>>;
+
+impl<K: Key, V: Copy, Q: Sequence<(K, V)>> Table<K, V> for SortedTable<K, V, Q> {
+    ghost entries = { λ table. Q.items table.entries };
 
     ghost room = { λ table. table.places };
 
@@ -32,16 +40,17 @@ impl<K: Key, V: Copy> Table<K, V> for SortedTable<K, V> {
 
     ghost ordered = { λ table. table.sorted };
 
-    fn with_room(alloc: Global, places: usize) -> Result<SortedTable<K, V>, Memory> {
+    fn with_room(alloc: Global, places: usize) -> Result<SortedTable<K, V, Q>, Memory> {
         Ok(SortedTable {
-            entries: Vec::with_capacity(alloc, places)?,
+            entries: Q::with_room(alloc, places)?,
             places,
+            entry: PhantomData,
         })
     }
 
     fn get<L: Ledger, S: Sought<L, K>>(&self, key: &S, steps: &mut Steps<L>) -> Option<V> {
         match search(self, key, steps) {
-            Ok(place) => Some(self.entries[place].1),
+            Ok(place) => Some(self.entries.item(place).1),
             Err(_) => None,
         }
     }
@@ -72,7 +81,7 @@ impl<K: Key, V: Copy> Table<K, V> for SortedTable<K, V> {
 
     fn remove(&mut self, key: &K) {
         if let Ok(place) = place_of(self, key) {
-            let _ = self.entries.remove(place);
+            self.entries.remove(place);
         }
     }
 
@@ -81,7 +90,7 @@ impl<K: Key, V: Copy> Table<K, V> for SortedTable<K, V> {
     }
 
     fn clear(&mut self) {
-        self.entries.clear();
+        self.entries.truncate(0);
     }
 
     fn len(&self) -> usize {
@@ -89,74 +98,77 @@ impl<K: Key, V: Copy> Table<K, V> for SortedTable<K, V> {
     }
 
     fn at(&self, place: usize) -> Option<(K, V)> {
-        self.entries.get(place).copied()
+        if place < self.entries.len() {
+            Some(*self.entries.item(place))
+        } else {
+            None
+        }
     }
 }
 
 /// The value at the index at which a search found the key, or none.
-fn value_at<K: Key, V: Copy>(
-    table: &SortedTable<K, V>,
+fn value_at<K: Key, V: Copy, Q: Sequence<(K, V)>>(
+    table: &SortedTable<K, V, Q>,
     key: &K,
     found: Result<usize, usize>,
 ) -> Option<V>
-    requires found { IfOk found (IsAt key.now table.now.entries.items) }
-    requires missing { IfErr found (IsGap K.order key.now table.now.entries.items) }
-    ensures { result ≡ find K.order key.now table.now.entries.items }
+    requires found { IfOk found (IsAt key.now (Q.items table.now.entries)) }
+    requires missing { IfErr found (IsGap K.order key.now (Q.items table.now.entries)) }
+    ensures { result ≡ find K.order key.now (Q.items table.now.entries) }
 {
     // The key is in the contract alone.
     let _ = key;
     match found {
-        Ok(place) => Some(table.entries[place].1),
+        Ok(place) => Some(table.entries.item(place).1),
         Err(_) => None,
     }
 }
 
 /// Stores the value at the index at which a search found the key, or found it missing, and returns the
 /// index. `Full` if and only if the key is missing and the table is full.
-fn store<K: Key, V: Copy>(
-    table: &mut SortedTable<K, V>,
+fn store<K: Key, V: Copy, Q: Sequence<(K, V)>>(
+    table: &mut SortedTable<K, V, Q>,
     found: Result<usize, usize>,
     key: K,
     value: V,
 ) -> Result<usize, Full>
-    requires found { IfOk found (IsAt key table.old.entries.items) }
-    requires missing { IfErr found (IsGap K.order key table.old.entries.items) }
-    ensures full { IsErr result ↔ (IsNone (find K.order key table.old.entries.items) × (length table.old.entries.items ≡ table.old.places)) }
-    ensures ok { OnOk result (table.new.entries.items ≡ put K.order key value table.old.entries.items) }
-    ensures err { OnErr result (table.new.entries.items ≡ table.old.entries.items) }
+    requires found { IfOk found (IsAt key (Q.items table.old.entries)) }
+    requires missing { IfErr found (IsGap K.order key (Q.items table.old.entries)) }
+    ensures full { IsErr result ↔ (IsNone (find K.order key (Q.items table.old.entries)) × (length (Q.items table.old.entries) ≡ table.old.places)) }
+    ensures ok { OnOk result (Q.items table.new.entries ≡ put K.order key value (Q.items table.old.entries)) }
+    ensures err { OnErr result (Q.items table.new.entries ≡ Q.items table.old.entries) }
     ensures places { table.new.places ≡ table.old.places }
 {
     match found {
         Ok(place) => {
-            table.entries[place] = (key, value);
+            table.entries.set(place, (key, value));
             Ok(place)
         }
         Err(place) => {
             if table.entries.len() == table.places {
                 return Err(Full);
             }
-            // There is room, so this takes no memory.
-            let _ = table.entries.insert(place, (key, value));
+            table.entries.insert(place, (key, value));
             Ok(place)
         }
     }
 }
 
 /// The index of the key, or as `Err` the index at which it would be inserted.
-fn search<L: Ledger, K: Key, V: Copy, S: Sought<L, K>>(
-    table: &SortedTable<K, V>,
+fn search<L: Ledger, K: Key, V: Copy, Q: Sequence<(K, V)>, S: Sought<L, K>>(
+    table: &SortedTable<K, V, Q>,
     key: &S,
     steps: &mut Steps<L>,
 ) -> Result<usize, usize>
-    ensures found { IfOk result (IsAt (S.key key.now) table.now.entries.items) }
-    ensures missing { IfErr result (IsGap K.order (S.key key.now) table.now.entries.items) }
-    ensures cost { steps.new ≤ steps.old + binary_digits (length table.now.entries.items) }
+    ensures found { IfOk result (IsAt (S.key key.now) (Q.items table.now.entries)) }
+    ensures missing { IfErr result (IsGap K.order (S.key key.now) (Q.items table.now.entries)) }
+    ensures cost { steps.new ≤ steps.old + binary_digits (length (Q.items table.now.entries)) }
 {
     let mut low = 0;
     let mut high = table.entries.len();
     while low < high {
         let middle = low + (high - low) / 2;
-        match key.compare_with(&table.entries[middle].0, steps) {
+        match key.compare_with(&table.entries.item(middle).0, steps) {
             Ordering::Less => high = middle,
             Ordering::Equal => return Ok(middle),
             Ordering::Greater => low = middle + 1,
@@ -166,42 +178,45 @@ fn search<L: Ledger, K: Key, V: Copy, S: Sought<L, K>>(
 }
 
 /// The same. The steps are not counted.
-fn place_of<K: Key, V: Copy>(table: &SortedTable<K, V>, key: &K) -> Result<usize, usize>
-    ensures found { IfOk result (IsAt key.now table.now.entries.items) }
-    ensures missing { IfErr result (IsGap K.order key.now table.now.entries.items) }
+fn place_of<K: Key, V: Copy, Q: Sequence<(K, V)>>(
+    table: &SortedTable<K, V, Q>,
+    key: &K,
+) -> Result<usize, usize>
+    ensures found { IfOk result (IsAt key.now (Q.items table.now.entries)) }
+    ensures missing { IfErr result (IsGap K.order key.now (Q.items table.now.entries)) }
 {
-    place_on::<Brand, K, V>(table, key, Blank::new(1))
+    place_on::<Brand, K, V, Q>(table, key, Blank::new(1))
 }
 
-fn place_on<L: Ledger, K: Key, V: Copy>(
-    table: &SortedTable<K, V>,
+fn place_on<L: Ledger, K: Key, V: Copy, Q: Sequence<(K, V)>>(
+    table: &SortedTable<K, V, Q>,
     key: &K,
     blank: Blank,
 ) -> Result<usize, usize>
     requires name { blank.name ≡ L.name }
     requires parts { blank.parts ≡ L.parts }
     requires several { 0 < blank.parts }
-    ensures found { IfOk result (IsAt key.now table.now.entries.items) }
-    ensures missing { IfErr result (IsGap K.order key.now table.now.entries.items) }
+    ensures found { IfOk result (IsAt key.now (Q.items table.now.entries)) }
+    ensures missing { IfErr result (IsGap K.order key.now (Q.items table.now.entries)) }
 {
     let mut steps = Steps::<L>::open(blank);
     search(table, key, &mut steps)
 }
 
 /// The same. It walks a few entries on from the index `near` if the key there is lesser, and searches otherwise.
-fn place_near<K: Key, V: Copy>(
-    table: &SortedTable<K, V>,
+fn place_near<K: Key, V: Copy, Q: Sequence<(K, V)>>(
+    table: &SortedTable<K, V, Q>,
     near: usize,
     key: &K,
 ) -> Result<usize, usize>
-    ensures found { IfOk result (IsAt key.now table.now.entries.items) }
-    ensures missing { IfErr result (IsGap K.order key.now table.now.entries.items) }
+    ensures found { IfOk result (IsAt key.now (Q.items table.now.entries)) }
+    ensures missing { IfErr result (IsGap K.order key.now (Q.items table.now.entries)) }
 {
-    near_on::<Brand, K, V>(table, near, key, Blank::new(1))
+    near_on::<Brand, K, V, Q>(table, near, key, Blank::new(1))
 }
 
-fn near_on<L: Ledger, K: Key, V: Copy>(
-    table: &SortedTable<K, V>,
+fn near_on<L: Ledger, K: Key, V: Copy, Q: Sequence<(K, V)>>(
+    table: &SortedTable<K, V, Q>,
     near: usize,
     key: &K,
     blank: Blank,
@@ -209,14 +224,14 @@ fn near_on<L: Ledger, K: Key, V: Copy>(
     requires name { blank.name ≡ L.name }
     requires parts { blank.parts ≡ L.parts }
     requires several { 0 < blank.parts }
-    ensures found { IfOk result (IsAt key.now table.now.entries.items) }
-    ensures missing { IfErr result (IsGap K.order key.now table.now.entries.items) }
+    ensures found { IfOk result (IsAt key.now (Q.items table.now.entries)) }
+    ensures missing { IfErr result (IsGap K.order key.now (Q.items table.now.entries)) }
 {
     let mut steps = Steps::<L>::open(blank);
     if near >= table.entries.len() {
         return search(table, key, &mut steps);
     }
-    match key.compare(&table.entries[near].0, &mut steps) {
+    match key.compare(&table.entries.item(near).0, &mut steps) {
         Ordering::Less => search(table, key, &mut steps),
         Ordering::Equal => Ok(near),
         Ordering::Greater => walk(table, near + 1, key, &mut steps),
@@ -224,23 +239,23 @@ fn near_on<L: Ledger, K: Key, V: Copy>(
 }
 
 /// The same by a walk from an index on; all keys before it are lesser.
-fn walk<L: Ledger, K: Key, V: Copy>(
-    table: &SortedTable<K, V>,
+fn walk<L: Ledger, K: Key, V: Copy, Q: Sequence<(K, V)>>(
+    table: &SortedTable<K, V, Q>,
     start: usize,
     key: &K,
     steps: &mut Steps<L>,
 ) -> Result<usize, usize>
-    requires within { start ≤ length table.now.entries.items }
-    requires lesser { are_lesser K.order key.now (take start table.now.entries.items) ≡ true }
-    ensures found { IfOk result (IsAt key.now table.now.entries.items) }
-    ensures missing { IfErr result (IsGap K.order key.now table.now.entries.items) }
+    requires within { start ≤ length (Q.items table.now.entries) }
+    requires lesser { are_lesser K.order key.now (take start (Q.items table.now.entries)) ≡ true }
+    ensures found { IfOk result (IsAt key.now (Q.items table.now.entries)) }
+    ensures missing { IfErr result (IsGap K.order key.now (Q.items table.now.entries)) }
 {
     let len = table.entries.len();
     for index in start..len {
         if index.wrapping_sub(start) > FAR {
             return search(table, key, steps);
         }
-        match key.compare(&table.entries[index].0, steps) {
+        match key.compare(&table.entries.item(index).0, steps) {
             Ordering::Less => return Err(index),
             Ordering::Equal => return Ok(index),
             Ordering::Greater => {}

@@ -6,7 +6,7 @@ use Rattle.babel_table.proofs.sorted.search.Given as goal
 
 abbrev pub invariant-loop-low : goal.invariant-loop-low
 invariant-loop-low g l =
-    let es = l.table.entries.items in
+    let es = g.Q.Sequence.items l.table.entries in
     record {
       rising : l.low ≤ l.high;
       within : l.high ≤ length es;

@@ -1,6 +1,6 @@
 -- What is at the index is the key's value; in a gap there is none.
 use Rattle.std.proofs.Common.{Some, sym, ap, subst, ◌∙◌, IfOk, IfErr}
-use Rattle.std.proofs.lemmas.Option.{get_or_from_slice_get}
+use Rattle.std.proofs.lemmas.Option.{same_Some}
 use Rattle.babel_table.specs.Places.{IsAt, IsGap}
 use Rattle.babel_table.proofs.PlaceLemmas.{find_hit, find_gap}
 use Rattle.babel_table.proofs.sorted.value_at.Goals as goal
@@ -9,13 +9,13 @@ pub returns-in-Ok : goal.returns-in-Ok
 returns-in-Ok g c =
     let table = c.args.table.now in
     let key = c.args.key.now in
-    let found = subst (λ r. IfOk r (IsAt key table.entries.items)) c.in-Ok.is c.requires.found in
-    ap (λ e. Some e.1) (c.index.ensures ∙ get_or_from_slice_get table.entries.items c.in-Ok.place (key, found.0) _ found.1)
-    ∙ sym (find_hit g.K.Key.order g.met.K.Key.total table.entries.items c.in-Ok.place (key, found.0) table.sorted found.1)
+    let found = subst (λ r. IfOk r (IsAt key (g.Q.Sequence.items table.entries))) c.in-Ok.is c.requires.found in
+    ap (λ e. Some e.1) (same_Some _ _ (sym c.item.ensures ∙ found.1))
+    ∙ sym (find_hit g.K.Key.order g.met.K.Key.total (g.Q.Sequence.items table.entries) c.in-Ok.place (key, found.0) table.sorted found.1)
 
 pub returns-in-Err : goal.returns-in-Err
 returns-in-Err g c =
     let table = c.args.table.now in
     let key = c.args.key.now in
-    let gap = subst (λ r. IfErr r (IsGap g.K.Key.order key table.entries.items)) c.in-Err.is c.requires.missing in
-    sym (find_gap g.K.Key.order key table.entries.items c.in-Err.field-0 gap.lesser gap.greater)
+    let gap = subst (λ r. IfErr r (IsGap g.K.Key.order key (g.Q.Sequence.items table.entries))) c.in-Err.is c.requires.missing in
+    sym (find_gap g.K.Key.order key (g.Q.Sequence.items table.entries) c.in-Err.field-0 gap.lesser gap.greater)

@@ -1,6 +1,5 @@
 -- What a comparison means for all entries on its side, since the keys rise.
-use Rattle.std.proofs.Common.{◌≡◌, true, ◌<◌, length, Some, refl, sym, ap, subst, ◌∙◌, arith, add-one, take}
-use Rattle.std.proofs.lemmas.Option.{slice_get_read}
+use Rattle.std.proofs.Common.{◌≡◌, true, Some, sym, ap, subst, ◌∙◌, arith, add-one, take}
 use Rattle.std.proofs.lemmas.List.{drop_all}
 use Rattle.babel_table.specs.Places.{are_lesser, are_greater}
 use Rattle.babel_table.proofs.PlaceLemmas.{lesser_through, greater_from}
@@ -8,37 +7,27 @@ use Rattle.babel_table.proofs.sorted.walk.Goals as goal
 
 pub returns-in-Less-clause-missing : goal.returns-in-Less-clause-missing
 returns-in-Less-clause-missing g c =
-    let es = c.args.table.now.entries.items in
-    let ok = c.args.table.now.entries.ok.0 in
-    let within : c.loop-index.index < length es = omega (arith, c.len-len.ensures) in
-    let at = slice_get_read es (length es) c.loop-index.index c.index.result.now refl within c.index.ensures in
+    let es = g.Q.Sequence.items c.args.table.now.entries in
     record {
       within = omega arith;
       lesser = c.loop-index.invariant;
-      greater = greater_from g.K.Key.order g.met.K.Key.total c.args.key.now es c.loop-index.index _ c.args.table.now.sorted at (sym c.in-Less.ensures.returned);
+      greater = greater_from g.K.Key.order g.met.K.Key.total c.args.key.now es c.loop-index.index _ c.args.table.now.sorted c.item.ensures (sym c.in-Less.ensures.returned);
     }
 
 pub returns-in-Equal-clause-found : goal.returns-in-Equal-clause-found
 returns-in-Equal-clause-found g c =
-    let es = c.args.table.now.entries.items in
-    let ok = c.args.table.now.entries.ok.0 in
-    let within : c.loop-index.index < length es = omega (arith, c.len-len.ensures) in
-    let e = c.index.result.now in
+    let e = c.item.result.now in
     let same = g.met.K.Key.exact c.args.key.now e.0 (sym c.in-Equal.ensures.returned) in
-    (e.1, slice_get_read es (length es) c.loop-index.index e refl within c.index.ensures ∙ ap (λ k. Some (k, e.1)) (sym same))
+    (e.1, c.item.ensures ∙ ap (λ k. Some (k, e.1)) (sym same))
 
 pub loop-index-preserved : goal.loop-index-preserved
 loop-index-preserved g c =
-    let es = c.args.table.now.entries.items in
-    let ok = c.args.table.now.entries.ok.0 in
-    let within : c.loop-index.index < length es = omega (arith, c.len-len.ensures) in
-    let at = slice_get_read es (length es) c.loop-index.index c.index.result.now refl within c.index.ensures in
-    rw (add-one c.loop-index.index) (lesser_through g.K.Key.order g.met.K.Key.total c.args.key.now es c.loop-index.index _ c.args.table.now.sorted at (sym c.in-Greater.ensures.returned))
+    let es = g.Q.Sequence.items c.args.table.now.entries in
+    rw (add-one c.loop-index.index) (lesser_through g.K.Key.order g.met.K.Key.total c.args.key.now es c.loop-index.index _ c.args.table.now.sorted c.item.ensures (sym c.in-Greater.ensures.returned))
 
 pub returns-clause-missing : goal.returns-clause-missing
 returns-clause-missing g c =
-    let es = c.args.table.now.entries.items in
-    let ok = c.args.table.now.entries.ok.0 in
+    let es = g.Q.Sequence.items c.args.table.now.entries in
     let end : c.loop-index.index ≡ c.len-len.result = omega (arith, c.requires.within, c.len-len.ensures) in
     record {
       within = omega (arith, c.len-len.ensures);

@@ -8,4 +8,4 @@ pub invariant_of-self-clause-sorted : goal.invariant_of-self-clause-sorted
 invariant_of-self-clause-sorted g c =
     let table = c.args.self.now in
     subst (λ es. is_sorted g.K.Key.order es ≡ true) (sym c.compact.ensures.items)
-    (sorted_revised g.K.Key.order (g.R.Revision.revised c.args.revision.now) table.entries.items table.sorted)
+    (sorted_revised g.K.Key.order (g.R.Revision.revised c.args.revision.now) (g.Q.Sequence.items table.entries) table.sorted)

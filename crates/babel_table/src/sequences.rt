@@ -1,0 +1,88 @@
+//! What the entries of a table in order are kept in.
+
+ghost use Rattle.std.specs.Prelude.{◌≡◌, ℕ, ◌≤◌, ◌<◌, List, [], Some, length, slice_get, set, insert, remove, take, vec_capacity, IfOk};
+
+use crate::Memory;
+use std::alloc::Global;
+
+/// Items in a row, each at an index. Contracts see them as a list.
+///
+/// A sequence takes its whole room when it is made.
+pub trait Sequence<T: Copy>: Drop {
+    ghost items: { Self → List T };
+
+    ghost room: { Self → ℕ };
+
+    /// An empty sequence with room for at least this many items.
+    fn with_room(alloc: Global, places: usize) -> Result<Self, Memory>
+        ensures items { IfOk result (λ sequence. items sequence ≡ []) }
+        ensures room { IfOk result (λ sequence. places ≤ room sequence) };
+
+    /// How many items there are.
+    fn len(&self) -> usize
+        ensures { result ≡ length (items self.now) };
+
+    /// The item at the index.
+    fn item(&self, index: usize) -> &T
+        requires { index < length (items self.now) }
+        ensures { slice_get (items self.now) index ≡ Some result.now };
+
+    /// Writes over the item at the index.
+    fn set(&mut self, index: usize, item: T)
+        requires { index < length (items self.old) }
+        ensures items { items self.new ≡ set (items self.old) index item }
+        ensures room { room self.new ≡ room self.old };
+
+    /// Inserts the item at the index. There is room, so this takes no memory.
+    fn insert(&mut self, index: usize, item: T)
+        requires within { index ≤ length (items self.old) }
+        requires room { length (items self.old) < room self.old }
+        ensures items { items self.new ≡ insert (items self.old) index item }
+        ensures room { room self.new ≡ room self.old };
+
+    /// Removes the item at the index.
+    fn remove(&mut self, index: usize)
+        requires { index < length (items self.old) }
+        ensures items { items self.new ≡ remove (items self.old) index }
+        ensures room { room self.new ≡ room self.old };
+
+    /// Removes all items from the index on.
+    fn truncate(&mut self, len: usize)
+        requires { len ≤ length (items self.old) }
+        ensures items { items self.new ≡ take len (items self.old) }
+        ensures room { room self.new ≡ room self.old };
+}
+
+impl<T: Copy> Sequence<T> for Vec<T> {
+    ghost items = { λ items. items.items };
+
+    ghost room = { λ items. vec_capacity items };
+
+    fn with_room(alloc: Global, places: usize) -> Result<Vec<T>, Memory> {
+        Ok(Vec::with_capacity(alloc, places)?)
+    }
+
+    fn len(&self) -> usize {
+        Vec::len(self)
+    }
+
+    fn item(&self, index: usize) -> &T {
+        &self[index]
+    }
+
+    fn set(&mut self, index: usize, item: T) {
+        self[index] = item;
+    }
+
+    fn insert(&mut self, index: usize, item: T) {
+        let _ = Vec::insert(self, index, item);
+    }
+
+    fn remove(&mut self, index: usize) {
+        let _ = Vec::remove(self, index);
+    }
+
+    fn truncate(&mut self, len: usize) {
+        Vec::truncate(self, len);
+    }
+}
