@@ -11,27 +11,20 @@ use raibenku::{Addr, Prefix, Selected, Speaker, drive, parse_prefix, read_config
 use std::alloc::Global;
 use std::io::{self, ErrorKind, Write};
 
-/// The configuration of A, which announces a prefix. A text in a function of its own is proved in
-/// less time than in one that does more.
-fn config_of_a() -> &'static str {
-    "router-id = \"0000000000000001\"
+const A: &str = "router-id = \"0000000000000001\"
 prefixes = [\"10.1.0.0/16\"]
 [[interface]]
 transport = \"ipv4\"
 ipv4 = \"192.168.0.1/24\"
 hello = 20
-"
-}
+";
 
-/// The configuration of B.
-fn config_of_b() -> &'static str {
-    "router-id = \"0000000000000002\"
+const B: &str = "router-id = \"0000000000000002\"
 [[interface]]
 transport = \"ipv4\"
 ipv4 = \"192.168.0.2/24\"
 hello = 20
-"
-}
+";
 
 /// How many turns both speakers have.
 const TURNS: u64 = 200;
@@ -49,8 +42,8 @@ fn run<W: Write>(alloc: Global, out: &mut W) -> io::Result<()> {
     let Some(prefix) = parse_prefix("10.1.0.0/16") else {
         return Err(io::Error::from(ErrorKind::InvalidInput));
     };
-    let mut a = End::new(alloc, config_of_a(), Addr::V4([192, 168, 0, 2]))?;
-    let mut b = End::new(alloc, config_of_b(), Addr::V4([192, 168, 0, 1]))?;
+    let mut a = End::new(alloc, A, Addr::V4([192, 168, 0, 2]))?;
+    let mut b = End::new(alloc, B, Addr::V4([192, 168, 0, 1]))?;
     take_turns(&mut a, &mut b, &prefix, out)
 }
 

@@ -76,7 +76,7 @@ fn write_record(out: &mut Vec<u8>, source: &Source, distance: Distance) -> Resul
 }
 
 /// Writes a record for each source.
-#[tactic(auto, using(crate::proofs::Appending::records_next, crate::proofs::Appending::whole_next, crate::proofs::Appending::no_gap))]
+#[tactic(auto)]
 fn write_records(out: &mut Vec<u8>, sources: &Sources) -> Result<(), AllocError>
     ensures octets { OnOk result (out.new.items ≡ out.old.items ++ records_octets (map kept_source sources.now)) }
     ensures whole { OnOk result (All IsRecord (map kept_source sources.now)) }

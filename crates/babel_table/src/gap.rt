@@ -21,12 +21,12 @@ pub struct GapVec<T: Copy> {
     ghost within: { gap + hole ≤ vec_len slots },
 }
 
-impl<T: Copy> Sequence<T> for GapVec<T> {
+impl<K: Copy, V: Copy> Sequence<K, V> for GapVec<(K, V)> {
     ghost items = { λ sequence. around sequence.gap sequence.hole sequence.slots.items };
 
     ghost room = { λ sequence. vec_capacity sequence.slots };
 
-    fn with_room(alloc: Global, places: usize) -> Result<GapVec<T>, Memory> {
+    fn with_room(alloc: Global, places: usize) -> Result<GapVec<(K, V)>, Memory> {
         Ok(GapVec {
             slots: Vec::with_capacity(alloc, places)?,
             gap: 0,
@@ -38,23 +38,23 @@ impl<T: Copy> Sequence<T> for GapVec<T> {
         self.slots.len() - self.hole
     }
 
-    fn item(&self, index: usize) -> &T {
+    fn item(&self, index: usize) -> &(K, V) {
         &self.slots[self.slot(index)]
     }
 
-    fn set(&mut self, index: usize, item: T) {
+    fn set(&mut self, index: usize, key: K, value: V) {
         let slot = self.slot(index);
-        self.slots[slot] = item;
+        self.slots[slot] = (key, value);
     }
 
-    fn insert(&mut self, index: usize, item: T) {
+    fn insert(&mut self, index: usize, key: K, value: V) {
         if self.hole == 0 {
             // There is room, so this takes no memory.
-            let _ = self.slots.insert(index, item);
+            let _ = self.slots.insert(index, (key, value));
             return;
         }
         self.move_gap(index);
-        self.slots[index] = item;
+        self.slots[index] = (key, value);
         self.gap += 1;
         self.hole -= 1;
     }

@@ -68,13 +68,6 @@ impl<K: Key, V: Copy> Table<K, V> for PlainTable<K, V> {
         }
     }
 
-    fn put_near(&mut self, near: usize, key: K, value: V) -> Result<usize, Full> {
-        match self.put(key, value) {
-            Ok(()) => Ok(near),
-            Err(full) => Err(full),
-        }
-    }
-
     fn change_near<C: Change<V>>(
         &mut self,
         near: usize,
@@ -82,15 +75,14 @@ impl<K: Key, V: Copy> Table<K, V> for PlainTable<K, V> {
         change: &C,
     ) -> Result<usize, Full> {
         let value = change.changed(value_of(self, &key));
-        self.put_near(near, key, value)
+        match self.put(key, value) {
+            Ok(()) => Ok(near),
+            Err(full) => Err(full),
+        }
     }
 
     fn revise<R: Revision<K, V>>(&mut self, revision: &R) {
         compact(&mut self.entries, revision);
-    }
-
-    fn clear(&mut self) {
-        self.entries.clear();
     }
 
     fn len(&self) -> usize {

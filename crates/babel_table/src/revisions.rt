@@ -38,7 +38,7 @@ pub trait Change<V: Copy> {
 
 /// Revises the entries in one pass. Each is moved at most once, and one that is kept where it is isn't
 /// written.
-pub(crate) fn compact<K: Key, V: Copy, Q: Sequence<(K, V)>, R: Revision<K, V>>(
+pub(crate) fn compact<K: Key, V: Copy, Q: Sequence<K, V>, R: Revision<K, V>>(
     entries: &mut Q,
     revision: &R,
 )
@@ -51,11 +51,11 @@ pub(crate) fn compact<K: Key, V: Copy, Q: Sequence<(K, V)>, R: Revision<K, V>>(
         let (key, value) = *entries.item(index);
         match revision.revise(&key, &value) {
             Revised::Kept => {
-                move_down(entries, kept, index, (key, value));
+                move_down(entries, kept, index, key, value);
                 kept += 1;
             }
             Revised::Changed(changed) => {
-                entries.set(kept, (key, changed));
+                entries.set(kept, key, changed);
                 kept += 1;
             }
             Revised::Removed => {}
@@ -65,14 +65,20 @@ pub(crate) fn compact<K: Key, V: Copy, Q: Sequence<(K, V)>, R: Revision<K, V>>(
 }
 
 /// Copies the item at an index to an index that isn't greater.
-fn move_down<T: Copy, Q: Sequence<T>>(items: &mut Q, to: usize, from: usize, item: T)
+fn move_down<K: Copy, V: Copy, Q: Sequence<K, V>>(
+    items: &mut Q,
+    to: usize,
+    from: usize,
+    key: K,
+    value: V,
+)
     requires order { to ≤ from }
     requires within { from < length (Q.items items.old) }
-    requires item { slice_get (Q.items items.old) from ≡ Some item }
-    ensures items { Q.items items.new ≡ set (Q.items items.old) to item }
+    requires item { slice_get (Q.items items.old) from ≡ Some (key, value) }
+    ensures items { Q.items items.new ≡ set (Q.items items.old) to (key, value) }
     ensures room { Q.room items.new ≡ Q.room items.old }
 {
     if to < from {
-        items.set(to, item);
+        items.set(to, key, value);
     }
 }

@@ -5,60 +5,60 @@ ghost use Rattle.std.specs.Prelude.{◌≡◌, ℕ, ◌≤◌, ◌<◌, List, []
 use crate::Memory;
 use std::alloc::Global;
 
-/// Items in a row, each at an index. Contracts see them as a list.
+/// Entries in a row, each at an index. Contracts see them as a list.
 ///
 /// A sequence takes its whole room when it is made.
-pub trait Sequence<T: Copy>: Drop {
-    ghost items: { Self → List T };
+pub trait Sequence<K: Copy, V: Copy>: Drop {
+    ghost items: { Self → List (K × V) };
 
     ghost room: { Self → ℕ };
 
-    /// An empty sequence with room for at least this many items.
+    /// An empty sequence with room for at least this many entries.
     fn with_room(alloc: Global, places: usize) -> Result<Self, Memory>
         ensures items { IfOk result (λ sequence. items sequence ≡ []) }
         ensures room { IfOk result (λ sequence. places ≤ room sequence) };
 
-    /// How many items there are.
+    /// How many entries there are.
     fn len(&self) -> usize
         ensures { result ≡ length (items self.now) };
 
-    /// The item at the index.
-    fn item(&self, index: usize) -> &T
+    /// The entry at the index.
+    fn item(&self, index: usize) -> &(K, V)
         requires { index < length (items self.now) }
         ensures { slice_get (items self.now) index ≡ Some result.now };
 
-    /// Writes over the item at the index.
-    fn set(&mut self, index: usize, item: T)
+    /// Writes over the entry at the index.
+    fn set(&mut self, index: usize, key: K, value: V)
         requires { index < length (items self.old) }
-        ensures items { items self.new ≡ set (items self.old) index item }
+        ensures items { items self.new ≡ set (items self.old) index (key, value) }
         ensures room { room self.new ≡ room self.old };
 
-    /// Inserts the item at the index. There is room, so this takes no memory.
-    fn insert(&mut self, index: usize, item: T)
+    /// Inserts the entry at the index. There is room, so this takes no memory.
+    fn insert(&mut self, index: usize, key: K, value: V)
         requires within { index ≤ length (items self.old) }
         requires room { length (items self.old) < room self.old }
-        ensures items { items self.new ≡ insert (items self.old) index item }
+        ensures items { items self.new ≡ insert (items self.old) index (key, value) }
         ensures room { room self.new ≡ room self.old };
 
-    /// Removes the item at the index.
+    /// Removes the entry at the index.
     fn remove(&mut self, index: usize)
         requires { index < length (items self.old) }
         ensures items { items self.new ≡ remove (items self.old) index }
         ensures room { room self.new ≡ room self.old };
 
-    /// Removes all items from the index on.
+    /// Removes all entries from the index on.
     fn truncate(&mut self, len: usize)
         requires { len ≤ length (items self.old) }
         ensures items { items self.new ≡ take len (items self.old) }
         ensures room { room self.new ≡ room self.old };
 }
 
-impl<T: Copy> Sequence<T> for Vec<T> {
+impl<K: Copy, V: Copy> Sequence<K, V> for Vec<(K, V)> {
     ghost items = { λ items. items.items };
 
     ghost room = { λ items. vec_capacity items };
 
-    fn with_room(alloc: Global, places: usize) -> Result<Vec<T>, Memory> {
+    fn with_room(alloc: Global, places: usize) -> Result<Vec<(K, V)>, Memory> {
         Ok(Vec::with_capacity(alloc, places)?)
     }
 
@@ -66,16 +66,16 @@ impl<T: Copy> Sequence<T> for Vec<T> {
         Vec::len(self)
     }
 
-    fn item(&self, index: usize) -> &T {
+    fn item(&self, index: usize) -> &(K, V) {
         &self[index]
     }
 
-    fn set(&mut self, index: usize, item: T) {
-        self[index] = item;
+    fn set(&mut self, index: usize, key: K, value: V) {
+        self[index] = (key, value);
     }
 
-    fn insert(&mut self, index: usize, item: T) {
-        let _ = Vec::insert(self, index, item);
+    fn insert(&mut self, index: usize, key: K, value: V) {
+        let _ = Vec::insert(self, index, (key, value));
     }
 
     fn remove(&mut self, index: usize) {

@@ -1,6 +1,6 @@
 //! A table as a sequence in the order of the keys.
 
-ghost use Rattle.std.specs.Prelude.{◌≡◌, ℕ, ◌+◌, ◌≤◌, ◌<◌, ◌↔◌, true, take, IsTrue, IsErr, IsNone, length, IfOk, IfErr, OnOk, OnErr};
+ghost use Rattle.std.specs.Prelude.{◌≡◌, ℕ, ◌+◌, ◌≤◌, ◌<◌, ◌↔◌, [], true, take, IsTrue, IsErr, IsNone, length, IfOk, IfErr, OnOk, OnErr};
 ghost use Rattle.std.specs.FinMap.{find, put, is_sorted};
 ghost use Rattle.babel_table.specs.Digits.{binary_digits};
 ghost use Rattle.babel_table.specs.Places.{IsAt, IsGap, are_lesser};
@@ -17,7 +17,7 @@ use std::sync::ledger::{Blank, Ledger};
 
 /// A table kept in the order of its keys, in a sequence of the type `Q`. A look-up is a binary search.
 #[derive(Debug, Drop)]
-pub struct SortedTable<K: Key, V: Copy, Q: Sequence<(K, V)> = Vec<(K, V)>> {
+pub struct SortedTable<K: Key, V: Copy, Q: Sequence<K, V> = Vec<(K, V)>> {
     entries: Q,
     places: usize,
     /// The type of an entry, which `entries` has in its bound alone.
@@ -31,7 +31,7 @@ pub struct SortedTable<K: Key, V: Copy, Q: Sequence<(K, V)> = Vec<(K, V)>> {
 /// Keys that rise are removed, or stored again, in one pass over the table.
 pub type GapTable<K, V> = SortedTable<K, V, GapVec<(K, V)>>;
 
-impl<K: Key, V: Copy, Q: Sequence<(K, V)>> Table<K, V> for SortedTable<K, V, Q> {
+impl<K: Key, V: Copy, Q: Sequence<K, V>> Table<K, V> for SortedTable<K, V, Q> {
     ghost entries = { λ table. Q.items table.entries };
 
     ghost room = { λ table. table.places };
@@ -63,11 +63,6 @@ impl<K: Key, V: Copy, Q: Sequence<(K, V)>> Table<K, V> for SortedTable<K, V, Q> 
         }
     }
 
-    fn put_near(&mut self, near: usize, key: K, value: V) -> Result<usize, Full> {
-        let found = place_near(self, near, &key);
-        store(self, found, key, value)
-    }
-
     fn change_near<C: Change<V>>(
         &mut self,
         near: usize,
@@ -89,10 +84,6 @@ impl<K: Key, V: Copy, Q: Sequence<(K, V)>> Table<K, V> for SortedTable<K, V, Q> 
         compact(&mut self.entries, revision);
     }
 
-    fn clear(&mut self) {
-        self.entries.truncate(0);
-    }
-
     fn len(&self) -> usize {
         self.entries.len()
     }
@@ -106,8 +97,18 @@ impl<K: Key, V: Copy, Q: Sequence<(K, V)>> Table<K, V> for SortedTable<K, V, Q> 
     }
 }
 
+impl<K: Key, V: Copy, Q: Sequence<K, V>> SortedTable<K, V, Q> {
+    /// Removes all entries.
+    pub fn clear(&mut self)
+        ensures entries { Q.items self.new.entries ≡ [] }
+        ensures places { self.new.places ≡ self.old.places }
+    {
+        self.entries.truncate(0);
+    }
+}
+
 /// The value at the index at which a search found the key, or none.
-fn value_at<K: Key, V: Copy, Q: Sequence<(K, V)>>(
+fn value_at<K: Key, V: Copy, Q: Sequence<K, V>>(
     table: &SortedTable<K, V, Q>,
     key: &K,
     found: Result<usize, usize>,
@@ -126,7 +127,7 @@ fn value_at<K: Key, V: Copy, Q: Sequence<(K, V)>>(
 
 /// Stores the value at the index at which a search found the key, or found it missing, and returns the
 /// index. `Full` if and only if the key is missing and the table is full.
-fn store<K: Key, V: Copy, Q: Sequence<(K, V)>>(
+fn store<K: Key, V: Copy, Q: Sequence<K, V>>(
     table: &mut SortedTable<K, V, Q>,
     found: Result<usize, usize>,
     key: K,
@@ -141,21 +142,21 @@ fn store<K: Key, V: Copy, Q: Sequence<(K, V)>>(
 {
     match found {
         Ok(place) => {
-            table.entries.set(place, (key, value));
+            table.entries.set(place, key, value);
             Ok(place)
         }
         Err(place) => {
             if table.entries.len() == table.places {
                 return Err(Full);
             }
-            table.entries.insert(place, (key, value));
+            table.entries.insert(place, key, value);
             Ok(place)
         }
     }
 }
 
 /// The index of the key, or as `Err` the index at which it would be inserted.
-fn search<L: Ledger, K: Key, V: Copy, Q: Sequence<(K, V)>, S: Sought<L, K>>(
+fn search<L: Ledger, K: Key, V: Copy, Q: Sequence<K, V>, S: Sought<L, K>>(
     table: &SortedTable<K, V, Q>,
     key: &S,
     steps: &mut Steps<L>,
@@ -178,7 +179,7 @@ fn search<L: Ledger, K: Key, V: Copy, Q: Sequence<(K, V)>, S: Sought<L, K>>(
 }
 
 /// The same. The steps are not counted.
-fn place_of<K: Key, V: Copy, Q: Sequence<(K, V)>>(
+fn place_of<K: Key, V: Copy, Q: Sequence<K, V>>(
     table: &SortedTable<K, V, Q>,
     key: &K,
 ) -> Result<usize, usize>
@@ -188,7 +189,7 @@ fn place_of<K: Key, V: Copy, Q: Sequence<(K, V)>>(
     place_on::<Brand, K, V, Q>(table, key, Blank::new(1))
 }
 
-fn place_on<L: Ledger, K: Key, V: Copy, Q: Sequence<(K, V)>>(
+fn place_on<L: Ledger, K: Key, V: Copy, Q: Sequence<K, V>>(
     table: &SortedTable<K, V, Q>,
     key: &K,
     blank: Blank,
@@ -204,7 +205,7 @@ fn place_on<L: Ledger, K: Key, V: Copy, Q: Sequence<(K, V)>>(
 }
 
 /// The same. It walks a few entries on from the index `near` if the key there is lesser, and searches otherwise.
-fn place_near<K: Key, V: Copy, Q: Sequence<(K, V)>>(
+fn place_near<K: Key, V: Copy, Q: Sequence<K, V>>(
     table: &SortedTable<K, V, Q>,
     near: usize,
     key: &K,
@@ -215,7 +216,7 @@ fn place_near<K: Key, V: Copy, Q: Sequence<(K, V)>>(
     near_on::<Brand, K, V, Q>(table, near, key, Blank::new(1))
 }
 
-fn near_on<L: Ledger, K: Key, V: Copy, Q: Sequence<(K, V)>>(
+fn near_on<L: Ledger, K: Key, V: Copy, Q: Sequence<K, V>>(
     table: &SortedTable<K, V, Q>,
     near: usize,
     key: &K,
@@ -239,7 +240,7 @@ fn near_on<L: Ledger, K: Key, V: Copy, Q: Sequence<(K, V)>>(
 }
 
 /// The same by a walk from an index on; all keys before it are lesser.
-fn walk<L: Ledger, K: Key, V: Copy, Q: Sequence<(K, V)>>(
+fn walk<L: Ledger, K: Key, V: Copy, Q: Sequence<K, V>>(
     table: &SortedTable<K, V, Q>,
     start: usize,
     key: &K,

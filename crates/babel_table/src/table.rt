@@ -38,17 +38,9 @@ pub trait Table<K: Key, V: Copy>: Drop {
         ensures err { OnErr result (entries self.new ≡ entries self.old) }
         ensures room { room self.new ≡ room self.old };
 
-    /// Stores the value at the key, and returns an index near that of the key. The search for the key
-    /// begins at the index `near`, which only matters for speed: keys that rise, each near the last
-    /// one, are stored in one pass. `Full` as of `put`.
-    fn put_near(&mut self, near: usize, key: K, value: V) -> Result<usize, Full>
-        ensures full { IsErr result ↔ (IsNone (find K.order key (entries self.old)) × (length (entries self.old) ≡ room self.old)) }
-        ensures ok { OnOk result (entries self.new ≡ put K.order key value (entries self.old)) }
-        ensures err { OnErr result (entries self.new ≡ entries self.old) }
-        ensures room { room self.new ≡ room self.old };
-
     /// Stores what the change makes of the value at the key, with one look-up, and returns an index near that of
-    /// the key. The look-up begins at the index `near`, as that of `put_near`. `Full` as of `put`.
+    /// the key. The look-up begins at the index `near`, which only matters for speed: keys that rise, each near
+    /// the last one, are stored in one pass. `Full` as of `put`.
     fn change_near<C: Change<V>>(&mut self, near: usize, key: K, change: &C) -> Result<usize, Full>
         ensures full { IsErr result ↔ (IsNone (find K.order key (entries self.old)) × (length (entries self.old) ≡ room self.old)) }
         ensures ok { OnOk result (entries self.new ≡ put K.order key (C.changed change.now (find K.order key (entries self.old))) (entries self.old)) }
@@ -63,11 +55,6 @@ pub trait Table<K: Key, V: Copy>: Drop {
     /// Revises all entries in one pass.
     fn revise<R: Revision<K, V>>(&mut self, revision: &R)
         ensures entries { entries self.new ≡ revised_entries (R.revised revision.now) (entries self.old) }
-        ensures room { room self.new ≡ room self.old };
-
-    /// Removes all entries.
-    fn clear(&mut self)
-        ensures entries { entries self.new ≡ [] }
         ensures room { room self.new ≡ room self.old };
 
     /// How many entries there are.

@@ -15,7 +15,7 @@ use crate::tables::{Announced, Prefixes};
 use babel_choice::Costs;
 use babel_route::{PREFIX_PLACES, Routes};
 use babel_sources::Sources;
-use babel_table::{SortedTable, Table};
+use babel_table::{SortedTable, Table, put_near};
 use babel_value::{Memory, Prefix};
 use std::alloc::Global;
 use std::marker::Model;
@@ -76,7 +76,7 @@ impl Scratch {
         requires room { length self.old < most_listed_prefixes }
         ensures { self.new ≡ put prefix_cmp prefix tt self.old }
     {
-        if let Ok(near) = self.table.put_near(self.near, prefix, ()) {
+        if let Ok(near) = put_near(&mut self.table, self.near, prefix, ()) {
             self.near = near;
         }
     }

@@ -2,7 +2,7 @@
 use Rattle.std.proofs.Common.{◌≡◌, ◌+◌, ◌-◌, take, ap, subst, ◌∙◌, arith}
 use Rattle.babel_table.specs.Gaps.{around}
 use Rattle.babel_table.proofs.GapLemmas.{shortened}
-use Rattle.babel_table.proofs.gap.GapVecSequence.truncate.Goals as goal
+use Rattle.babel_table.proofs.gap.GapVecTuple2Sequence.truncate.Goals as goal
 
 pub returns-else-len-self-clause-items : goal.returns-else-len-self-clause-items
 returns-else-len-self-clause-items g c =

@@ -1,7 +1,7 @@
 -- The slot has the item.
 use Rattle.std.proofs.Common.{sym, ◌∙◌, arith}
 use Rattle.std.proofs.lemmas.Option.{slice_get_read}
-use Rattle.babel_table.proofs.gap.GapVecSequence.item.Goals as goal
+use Rattle.babel_table.proofs.gap.GapVecTuple2Sequence.item.Goals as goal
 
 pub returns : goal.returns
 returns g c =

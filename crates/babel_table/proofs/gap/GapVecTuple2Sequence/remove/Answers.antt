@@ -2,7 +2,7 @@
 use Rattle.std.proofs.Common.{remove, ap, ◌∙◌}
 use Rattle.babel_table.specs.Gaps.{around}
 use Rattle.babel_table.proofs.GapLemmas.{widened}
-use Rattle.babel_table.proofs.gap.GapVecSequence.remove.Goals as goal
+use Rattle.babel_table.proofs.gap.GapVecTuple2Sequence.remove.Goals as goal
 
 pub returns-clause-items : goal.returns-clause-items
 returns-clause-items g c =

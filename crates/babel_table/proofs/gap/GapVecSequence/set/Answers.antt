@@ -1,5 +1,0 @@
--- A slot that is written over is its item.
-use Rattle.babel_table.proofs.gap.GapVecSequence.set.Goals as goal
-
-pub returns-clause-items : goal.returns-clause-items
-returns-clause-items g c = c.slot-slot.ensures.written c.args.item
