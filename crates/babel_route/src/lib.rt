@@ -1,6 +1,7 @@
 //! The route table of a Babel speaker (RFC 8966, section 3.2.6), with route selection (section 3.6).
 //!
 //! - `routes`: the route table with its selections.
+//! - `tables`: the tables of `babel_table` that both are kept in.
 //! - `trail`: where the next update is likely to be.
 //! - `laws`: laws of the definitions.
 //!
@@ -11,13 +12,14 @@
 
 pub mod laws;
 mod routes;
+mod tables;
 mod trail;
 
 pub use babel_choice::{Costs, Entry};
 pub use babel_sources::Sources;
 pub use babel_table::{Full, Memory, Steps, Table};
 pub use routes::{
-    OnRepeat, PREFIX_PLACES, PrefixWalk, ROUTE_PLACES, Refreshed, RouteTable, Routes, RoutesOver,
-    SelectionTable,
+    OnRepeat, PREFIX_PLACES, PrefixWalk, ROUTE_PLACES, Refreshed, Routes, RoutesOver,
 };
+pub use tables::{RouteTable, SelectionTable};
 pub use trail::Trail;

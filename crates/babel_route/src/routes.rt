@@ -23,9 +23,8 @@ use babel_choice::{
     PrefixRoutes, ReceivedUpdate, Retraction, RouteKey, Selection, Through, choose,
 };
 use babel_sources::{SourceEntry, SourcesOver};
-use babel_table::{
-    Full, GapTable, Memory, SortedTable, Table, find_in, find_near, places_below, revise_dues, set,
-};
+use crate::tables::{RouteTable, SelectionTable};
+use babel_table::{Full, Memory, Table, find_in, find_near, places_below, revise_dues, set};
 use babel_value::{Addr, Distance, Peer, Prefix, RouterId, Source};
 use current::replace_near;
 pub use prefix_walk::PrefixWalk;
@@ -48,12 +47,6 @@ pub struct RoutesOver<E: Table<RouteKey, Entry>, S: Table<Prefix, Selection>> {
     /// No route is due before this moment.
     due: u64,
 }
-
-/// The table that the entries are kept in.
-pub type RouteTable = SortedTable<RouteKey, Entry>;
-
-/// The table that the selections are kept in.
-pub type SelectionTable = GapTable<Prefix, Selection>;
 
 /// The route table of a speaker.
 pub type Routes = RoutesOver<RouteTable, SelectionTable>;

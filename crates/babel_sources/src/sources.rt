@@ -7,9 +7,10 @@ ghost use Rattle.babel_table.specs.Digits.{binary_digits};
 ghost use Rattle.babel_sources.specs.Distances.{is_feasible, improves_on, better_pair};
 ghost use Rattle.babel_sources.specs.Sources.{pair_of, lowered, collected, collected_entry};
 
+use crate::source_table::SourceTable;
 use babel_table::{
-    Change, Due, Full, Memory, Revised, Revision, SortedTable, Sought, Steps, Table, find_in,
-    find_near, revise_dues,
+    Change, Due, Full, Memory, Revised, Revision, Sought, Steps, Table, find_in, find_near,
+    revise_dues,
 };
 use babel_value::{Distance, Source};
 use std::alloc::Global;
@@ -47,9 +48,6 @@ impl Due for SourceEntry {
         self.due
     }
 }
-
-/// The table that the source table is kept in.
-pub type SourceTable = SortedTable<Source, SourceEntry>;
 
 /// The source table of a speaker.
 pub type Sources = SourcesOver<SourceTable>;
