@@ -8,7 +8,7 @@ use babel_control::{ControlPlace, parse_place};
 use babel_snapshot_file::LockFile;
 use babel_state::Config;
 use babel_udp::SpeakFault;
-use babel_udp_speaker::{KeptOptions, SpeakOptions, speak, speak_kept};
+use babel_router::{KeptOptions, SpeakOptions, speak, speak_kept};
 use clap::ArgMatches;
 use std::alloc::Global;
 use std::fs::Files;

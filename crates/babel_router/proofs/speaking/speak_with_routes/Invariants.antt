@@ -1,5 +1,5 @@
 use Rattle.std.proofs.Common.{◌≡◌, ◌*◌, ◌≤◌}
-use Rattle.babel_udp_speaker.proofs.speaking.speak_with_routes.Given as goal
+use Rattle.babel_router.proofs.speaking.speak_with_routes.Given as goal
 
 abbrev pub invariant-loop : goal.invariant-loop
 invariant-loop g l =

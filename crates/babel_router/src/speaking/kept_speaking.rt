@@ -2,7 +2,7 @@
 
 ghost use Rattle.std.specs.Prelude.{◌≡◌};
 
-use crate::desk::Desk;
+use crate::speaking::desk::Desk;
 use crate::speaking::{MAX_DATAGRAM_LEN, checked_links};
 use babel_control::{ControlPlace, Keeping, Wish};
 use babel_control_speaker::remove_socket;

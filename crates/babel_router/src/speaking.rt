@@ -1,14 +1,23 @@
-//! `babel speak CONFIG`: a speaker over UDP.
+//! `babel speak CONFIG`: a speaker over UDP and IPv4, which may be saved at its end.
+//!
+//! - `kept_speaking`: the same with a snapshot that is kept all the time.
+//! - `snapshots`: how a speaker is restored and saved.
+//! - `desk`: its control socket.
 
 ghost use Rattle.std.specs.Prelude.{◌≡◌};
 
-use crate::snapshots::{make_speaker, save};
+mod desk;
+mod kept_speaking;
+mod snapshots;
+
+use crate::speaking::snapshots::{make_speaker, save};
 use babel_durable::DurableReport;
 use babel_speaker::Speaker;
 use babel_state::Config;
 use babel_text::LineFault;
 use babel_udp::{Counts, Links, RouteLines, Selections, SpeakFault, UdpWire};
 use babel_wire::{Report, drive};
+pub use kept_speaking::{KeptOptions, speak_kept};
 use std::alloc::Global;
 use std::fs::Files;
 use std::io::{Read, Write};
