@@ -18,12 +18,12 @@ mod prefix_walk;
 mod refresh;
 mod room;
 
+use crate::tables::{RouteTable, SelectionTable};
 use babel_choice::{
     AllRoutes, AllSelections, ChoiceInputs, Costs, Cursor, DueRoutes, Entry, Expiry, Flush, Origin,
     PrefixRoutes, ReceivedUpdate, Retraction, RouteKey, Selection, Through, choose,
 };
 use babel_sources::{SourceEntry, SourcesOver};
-use crate::tables::{RouteTable, SelectionTable};
 use babel_table::{Full, Memory, Table, find_in, find_near, places_below, revise_dues, set};
 use babel_value::{Addr, Distance, Peer, Prefix, RouterId, Source};
 use current::replace_near;

@@ -32,7 +32,11 @@ impl Table<RouteKey, Entry> for RouteTable {
     }
 
     #[inline(always)]
-    fn get<L: Ledger, S: Sought<L, RouteKey>>(&self, key: &S, steps: &mut Steps<L>) -> Option<Entry> {
+    fn get<L: Ledger, S: Sought<L, RouteKey>>(
+        &self,
+        key: &S,
+        steps: &mut Steps<L>,
+    ) -> Option<Entry> {
         self.table.get(key, steps)
     }
 
@@ -95,7 +99,11 @@ impl Table<Prefix, Selection> for SelectionTable {
     }
 
     #[inline(always)]
-    fn get<L: Ledger, S: Sought<L, Prefix>>(&self, key: &S, steps: &mut Steps<L>) -> Option<Selection> {
+    fn get<L: Ledger, S: Sought<L, Prefix>>(
+        &self,
+        key: &S,
+        steps: &mut Steps<L>,
+    ) -> Option<Selection> {
         self.table.get(key, steps)
     }
 

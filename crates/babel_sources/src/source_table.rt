@@ -31,7 +31,11 @@ impl Table<Source, SourceEntry> for SourceTable {
     }
 
     #[inline(always)]
-    fn get<L: Ledger, S: Sought<L, Source>>(&self, key: &S, steps: &mut Steps<L>) -> Option<SourceEntry> {
+    fn get<L: Ledger, S: Sought<L, Source>>(
+        &self,
+        key: &S,
+        steps: &mut Steps<L>,
+    ) -> Option<SourceEntry> {
         self.table.get(key, steps)
     }
 
