@@ -1,4 +1,4 @@
-//! Links the static library of crates/babel_bench, and the toolchain's memory functions. `bench/run` gives
+//! Links the static library of bench/library, and the toolchain's memory functions. `bench/run` gives
 //! their folders.
 
 use std::env;

@@ -1,4 +1,4 @@
-//! The proved decoder, builder and speaker, through the static library of crates/babel_bench.
+//! The proved decoder, builder and speaker, through the static library of bench/library.
 
 use crate::corpus::Datagram;
 
