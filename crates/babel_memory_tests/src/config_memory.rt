@@ -50,7 +50,6 @@ fn reads_file(alloc: Global) -> bool {
 /// `tests/refused-memory` lets each allocation of this test fail in turn: nothing is read in part.
 #[test]
 fn refused_memory_is_a_fault_of_its_own(rt: HostRuntime) {
-    assert!(rt; reads_config(rt.alloc()));
-    assert!(rt; reads_scenario(rt.alloc()));
-    assert!(rt; reads_file(rt.alloc()));
+    let alloc = rt.alloc();
+    assert!(rt; reads_config(alloc) && reads_scenario(alloc) && reads_file(alloc));
 }

@@ -11,8 +11,8 @@ fn a_machine_too_large_for_memory_is_refused(rt: HostRuntime) {
     assert!(rt; machine.err() == Some(Memory));
 }
 
-/// Node 0 announces. If the allocation fails, the fault is A5, nothing has changed: what would have been sent can't be
-/// picked. The same call is then Ok.
+/// Whether node 0 announces. If the allocation fails, the fault is A5, and nothing has changed: what would have been sent
+/// can't be picked. The same call is then Ok.
 fn announces(machine: &mut Machine, raises: u64) -> bool {
     match machine.announce(0, 0, 0) {
         Ok(()) => true,
@@ -34,8 +34,8 @@ fn picks_each(machine: &mut Machine, raises: u64) -> bool {
     machine.next_hop(1, 0) == Some(0)
 }
 
-/// Node 0 announces each of 20 raises.
-fn raises(machine: &mut Machine) -> bool {
+/// Whether node 0 announces between 20 raises, and node 1 picks.
+fn goes_on(machine: &mut Machine) -> bool {
     for raises in 0..20 {
         if !announces(machine, raises)
             || !picks_each(machine, raises)
@@ -51,7 +51,7 @@ fn raises(machine: &mut Machine) -> bool {
 #[test]
 fn a_call_refused_for_memory_changes_nothing(rt: HostRuntime) {
     match one_source(rt.alloc(), 3) {
-        Ok(mut machine) => assert!(rt; raises(&mut machine)),
+        Ok(mut machine) => assert!(rt; goes_on(&mut machine)),
         Err(fault) => assert!(rt; fault == Memory && one_source(rt.alloc(), 3).err().is_none()),
     }
 }

@@ -85,17 +85,17 @@ fn is_heard(net: &mut MixedNetwork, heard: &Heard<'_>) -> bool {
     }
 }
 
-/// Node 1 restarts. If an allocation fails, the fault is N6, nothing has changed, and it restarts
-/// when that is asked again.
+/// Whether node 1 restarts: the selected route is gone, and what was heard is still there. If an allocation fails, the fault is
+/// N6, nothing has changed, and it restarts when that is asked again.
 fn restarts(net: &mut MixedNetwork) -> bool {
     let restart = Event::Restart { node: 1, now: 500 };
     let before = seen(net);
-    match net.step(&restart) {
-        Ok(()) => true,
-        Err(fault) => fault == StepFault::Memory
-            && seen(net) == before
-            && net.step(&restart).is_ok(),
+    if let Err(fault) = net.step(&restart) {
+        if fault != StepFault::Memory || seen(net) != before || net.step(&restart).is_err() {
+            return false;
+        }
     }
+    seen(net) == (false, 1, [false; 3])
 }
 
 /// Whether the selected route of node 1 is over the router of others.
@@ -115,11 +115,6 @@ fn selects(net: &mut MixedNetwork) -> bool {
         && is_foreign(net)
 }
 
-/// What was heard stays after the restart.
-fn forgets_routes(net: &mut MixedNetwork) -> bool {
-    restarts(net) && seen(net) == (false, 1, [false; 3])
-}
-
 /// Whether the network is made. If an allocation fails, the fault is that of a network of ours, and the network is made again.
 fn is_made(alloc: Global) -> bool {
     match network(alloc).err() {
@@ -128,9 +123,10 @@ fn is_made(alloc: Global) -> bool {
     }
 }
 
+/// Whether the calls do what they should, if a network is made.
 fn calls(alloc: Global) -> bool {
     match network(alloc) {
-        Ok(mut net) => selects(&mut net) && forgets_routes(&mut net),
+        Ok(mut net) => selects(&mut net) && restarts(&mut net),
         Err(_) => true,
     }
 }
@@ -157,7 +153,10 @@ fn are_run(net: &mut MixedNetwork) -> bool {
     let count = count_made(net.run(&events));
     match (SEEN.get(count), events.get(count..)) {
         (Some(stopped), Some(rest)) => {
-            seen(net) == *stopped && net.run(rest).is_ok() && seen(net) == SEEN[COUNT]
+            seen(net) == *stopped
+                && net.run(rest).is_ok()
+                && seen(net) == SEEN[COUNT]
+                && is_foreign(net)
         }
         _ => false,
     }
@@ -165,7 +164,7 @@ fn are_run(net: &mut MixedNetwork) -> bool {
 
 #[test]
 fn mixed_runs_out_of_memory_stop_before_the_event(rt: HostRuntime) {
-    if let Ok(mut net) = network(rt.alloc()) {
-        assert!(rt; are_run(&mut net) && is_foreign(&net));
+    if let Ok(net) = &mut network(rt.alloc()) {
+        assert!(rt; are_run(net));
     }
 }

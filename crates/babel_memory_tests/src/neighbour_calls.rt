@@ -49,7 +49,7 @@ fn is_up(neighbours: &Neighbours, peer: Peer) -> bool {
 fn is_between(neighbours: &Neighbours, first: Peer, last: Peer) -> bool {
     neighbours.peers().next() == Some(first)
         && neighbours.at(63) == Some(last)
-        && neighbours.at(64) == None
+        && neighbours.at(64).is_none()
 }
 
 /// How many neighbours go, since no Hello comes any more: the IHU is too old first.

@@ -126,15 +126,15 @@ fn are_made(net: &mut Network, events: &[Event]) -> bool {
     true
 }
 
-/// Whether all steps are made: node 0 sends two datagrams by them, and node 1 three. What the network returns then is tested below.
+/// Whether all steps are made, and five datagrams sent. The test of the runs compares what the network returns.
 fn all_are_made(net: &mut Network) -> bool {
     are_made(net, &EVENTS) && net.sent(4).is_some()
 }
 
 #[test]
 fn steps_out_of_memory_change_nothing(rt: HostRuntime) {
-    if let Ok(mut net) = network(rt.alloc()) {
-        assert!(rt; all_are_made(&mut net));
+    if let Ok(net) = &mut network(rt.alloc()) {
+        assert!(rt; all_are_made(net));
     }
 }
 
@@ -147,7 +147,7 @@ fn count_made(ran: Result<(), (usize, StepFault)>) -> usize {
     }
 }
 
-/// Runs the events in one network, and makes their steps in the other, where the run stops and at the end: they return the same.
+/// Runs the events in one network, and makes their steps in the other: both return the same when the run stops, and at the end.
 fn run_as_steps(ran: &mut Network, stepped: &mut Network) -> bool {
     let events = EVENTS;
     let count = count_made(ran.run(&events));

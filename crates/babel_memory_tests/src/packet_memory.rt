@@ -23,17 +23,15 @@ fn is_decoded(alloc: Global) -> bool {
     }
 }
 
-/// The fault of the datagram if its last TLV is an octet too long.
-fn fault_of_longer(alloc: Global) -> Option<Refusal> {
+/// Whether the datagram is refused for its last TLV, if that is an octet too long.
+fn is_refused(alloc: Global) -> bool {
     let mut datagram = DATAGRAM;
     datagram[31] = 0x0c;
-    decode(alloc, &datagram, SOURCE).err()
+    decode(alloc, &datagram, SOURCE).err() == Some(Refusal::Tlv(30))
 }
 
-/// With every allocation there this passes; run with the nth one refused, it is `P6` that it prints. The datagram's own fault
-/// comes before it.
+/// P6 comes only if an allocation fails, and after the datagram's own refusal.
 #[test]
 fn memory_runs_out(rt: HostRuntime) {
-    assert!(rt; is_decoded(rt.alloc()));
-    assert!(rt; fault_of_longer(rt.alloc()) == Some(Refusal::Tlv(30)));
+    assert!(rt; is_decoded(rt.alloc()) && is_refused(rt.alloc()));
 }

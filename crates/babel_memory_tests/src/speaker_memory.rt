@@ -85,8 +85,11 @@ fn selects(speaker: &mut Speaker) -> bool {
         }
 }
 
-/// A sum of the octets that the speaker sends at last.
+/// A sum of the octets that the speaker sends after it has selected the route; 0 if it does not select it.
 fn sum_of_sent(speaker: &mut Speaker) -> u64 {
+    if !selects(speaker) {
+        return 0;
+    }
     let mut octets = ArrayVec::<u8, DATAGRAM_LEN>::new();
     let mut sum = 0u64;
     speaker.tick(1200);
@@ -101,15 +104,11 @@ fn sum_of_sent(speaker: &mut Speaker) -> u64 {
     sum
 }
 
-/// The sum after the route is selected, and 0 if it is not. If no speaker is made, one is made again.
-fn sum_after_route(alloc: Global) -> u64 {
+/// That sum of a new speaker. If none is made, one is made again.
+fn sum_of_new(alloc: Global) -> u64 {
     for _ in 0..2 {
         if let Ok(mut speaker) = made(alloc) {
-            return if selects(&mut speaker) {
-                sum_of_sent(&mut speaker)
-            } else {
-                0
-            };
+            return sum_of_sent(&mut speaker);
         }
     }
     0
@@ -118,8 +117,8 @@ fn sum_after_route(alloc: Global) -> u64 {
 /// One of the two speakers receives with ample memory.
 #[test]
 fn receiving_always_out_of_memory(rt: HostRuntime) {
-    let sum = sum_after_route(rt.alloc());
-    assert!(rt; sum != 0 && sum == sum_after_route(rt.alloc()));
+    let sum = sum_of_new(rt.alloc());
+    assert!(rt; sum != 0 && sum == sum_of_new(rt.alloc()));
 }
 
 /// The speaker of the snapshot, or the fault.
