@@ -164,7 +164,7 @@ fn are_run(net: &mut MixedNetwork) -> bool {
 
 #[test]
 fn mixed_runs_out_of_memory_stop_before_the_event(rt: HostRuntime) {
-    if let Ok(net) = &mut network(rt.alloc()) {
-        assert!(rt; are_run(net));
+    if let Ok(mut net) = network(rt.alloc()) {
+        assert!(rt; are_run(&mut net));
     }
 }

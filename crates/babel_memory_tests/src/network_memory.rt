@@ -133,8 +133,8 @@ fn all_are_made(net: &mut Network) -> bool {
 
 #[test]
 fn steps_out_of_memory_change_nothing(rt: HostRuntime) {
-    if let Ok(net) = &mut network(rt.alloc()) {
-        assert!(rt; all_are_made(net));
+    if let Ok(mut net) = network(rt.alloc()) {
+        assert!(rt; all_are_made(&mut net));
     }
 }
 
