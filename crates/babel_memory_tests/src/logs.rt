@@ -1,22 +1,21 @@
-//! A worked log, its report, and the report of its first lines.
+//! A router and a prefix, and the worked log of router 2: its report, and the report of its first lines.
 
 use babel_state::{Config, Interface};
 use babel_value::{Addr, Family, Prefix};
 use std::alloc::{AllocError, Global};
-use std::test::Fail;
 
-/// A speaker with one interface, 192.168.0.2/24.
-pub(crate) fn config_b(alloc: Global) -> Result<Config, AllocError> {
+/// Router `number`, with cost 96 and a Hello every 400 centiseconds at its interface, 192.168.0.`number`/24.
+pub(crate) fn router(alloc: Global, number: u8) -> Result<Config, AllocError> {
     let interface = Interface {
         transport: Family::Ipv4,
-        ipv4: Some(([192, 168, 0, 2], 24)),
+        ipv4: Some(([192, 168, 0, number], 24)),
         ipv6: None,
         peers: Vec::new(alloc),
         cost: 96,
         hello: 400,
     };
     Ok(Config {
-        router_id: [0, 0, 0, 0, 0, 0, 0, 2],
+        router_id: [0, 0, 0, 0, 0, 0, 0, number],
         seqno: 0,
         collect: false,
         prefixes: Vec::new(alloc),
@@ -24,7 +23,7 @@ pub(crate) fn config_b(alloc: Global) -> Result<Config, AllocError> {
     })
 }
 
-/// A route comes from one neighbour, and an unfeasible one from another.
+/// Router 2: a route comes from one neighbour, and an unfeasible one from another.
 pub(crate) const LOG_B: &str = "0 in 0 192.168.0.1 2a0200080406000000000190
 400 in 0 192.168.0.1 2a02002d0406000000010190050a0100006004b0c0a80002060a00000000000000000001080b018008000640000000000a
 500 in 0 192.168.0.3 2a0200210406000000070190060a00000000000000000001080b018008000640000000600a
@@ -81,8 +80,8 @@ pub(crate) fn report_before(number: u64) -> &'static str {
 }
 
 /// 10.0.0.0/8.
-pub(crate) fn prefix() -> Result<Prefix, Fail> {
-    Ok(Prefix::new(Addr::V4([10, 0, 0, 0]), 8).ok_or("a prefix")?)
+pub(crate) fn prefix() -> Prefix {
+    Prefix::new_unchecked(Addr::V4([10, 0, 0, 0]), 8)
 }
 
 /// What `explain` writes of it after the first two lines.

@@ -1,35 +1,71 @@
 //! A network among routers of others: a datagram that is heard out of memory changes nothing, and
-//! neither does an event of ours.
+//! neither does an event of ours. If a network is not made, there is nothing to test: `is_made` makes it again.
 
-use crate::network_memory::{configs, ten};
+use crate::logs::prefix;
+use crate::network_memory::{configs, is_memory};
 use babel_net::{
     Event, HearFault, Heard, MixedEvent, MixedFault, MixedNetwork, NetFault, StepFault,
 };
 use babel_value::Addr;
 use std::alloc::Global;
 
-/// Hello 0, from a router of others.
-const HELLO: [u8; 12] = [0x2a, 2, 0, 8, 4, 6, 0, 0, 0, 0, 1, 0x90];
-
-/// Hello 1, an IHU to 192.168.0.2, the router-id 9, and an Update of 10.0.0.0/8 with seqno 7 and
-/// metric 5.
-const UPDATE: [u8; 49] = [
-    0x2a, 2, 0, 0x2d, 4, 6, 0, 0, 0, 1, 1, 0x90, 5, 10, 1, 0, 0, 0x60, 4, 0xb0, 192, 168, 0, 2, 6,
-    10, 0, 0, 0, 0, 0, 0, 0, 0, 0, 9, 8, 11, 1, 0x80, 8, 0, 6, 0x40, 0, 7, 0, 5, 10,
-];
-
 /// The address of a router of others.
 const OTHER: Addr = Addr::V4([192, 168, 0, 9]);
 
-/// What node 1 hears over its interface.
-fn heard(source: Addr, octets: &[u8], now: u64) -> Heard<'_> {
-    Heard {
-        node: 1,
-        iface: 0,
-        source,
-        octets,
-        now,
-    }
+/// Node 1 hears Hello 0 from it.
+const HELLO: Heard<'static> = Heard {
+    node: 1,
+    iface: 0,
+    source: OTHER,
+    octets: &[0x2a, 2, 0, 8, 4, 6, 0, 0, 0, 0, 1, 0x90],
+    now: 0,
+};
+
+/// Node 1 hears Hello 1, an IHU to 192.168.0.2, the router-id 9, and an Update of 10.0.0.0/8 with seqno 7
+/// and metric 5.
+const UPDATE: Heard<'static> = Heard {
+    node: 1,
+    iface: 0,
+    source: OTHER,
+    octets: &[
+        0x2a, 2, 0, 0x2d, 4, 6, 0, 0, 0, 1, 1, 0x90, 5, 10, 1, 0, 0, 0x60, 4, 0xb0, 192, 168, 0, 2,
+        6, 10, 0, 0, 0, 0, 0, 0, 0, 0, 0, 9, 8, 11, 1, 0x80, 8, 0, 6, 0x40, 0, 7, 0, 5, 10,
+    ],
+    now: 400,
+};
+
+const COUNT: usize = 5;
+
+/// Node 1 hears the route, and sends a datagram before and after it: the Tick queues a Hello, and the route an Update.
+const EVENTS: [MixedEvent<'static>; COUNT] = [
+    MixedEvent::Heard(HELLO),
+    MixedEvent::Ours(Event::Tick { node: 1, now: 0 }),
+    MixedEvent::Ours(Event::Emit { node: 1, now: 0 }),
+    MixedEvent::Heard(UPDATE),
+    MixedEvent::Ours(Event::Emit { node: 1, now: 400 }),
+];
+
+/// Whether node 1 has a selected route, how many updates were heard, and whether a first, a second and a third datagram were
+/// sent.
+type Seen = (bool, usize, [bool; 3]);
+
+/// What is seen before each of the events, and at the end.
+const SEEN: [Seen; COUNT + 1] = [
+    (false, 0, [false, false, false]),
+    (false, 0, [false, false, false]),
+    (false, 0, [false, false, false]),
+    (false, 0, [true, false, false]),
+    (true, 1, [true, false, false]),
+    (true, 1, [true, true, false]),
+];
+
+fn seen(net: &MixedNetwork) -> Seen {
+    let sent = [
+        net.sent(0).is_some(),
+        net.sent(1).is_some(),
+        net.sent(2).is_some(),
+    ];
+    (net.router(1, &prefix()).is_some(), net.heard().len(), sent)
 }
 
 /// The network of two routers, or the fault.
@@ -40,132 +76,95 @@ fn network(alloc: Global) -> Result<MixedNetwork, NetFault> {
     }
 }
 
-/// The network; if an allocation fails, it is made again.
-fn made(alloc: Global) -> Option<MixedNetwork> {
-    match network(alloc) {
-        Ok(net) => Some(net),
-        Err(_) => network(alloc).ok(),
-    }
-}
-
-/// Whether node 1 has a selected route, and how many updates were heard.
-fn observe(net: &MixedNetwork) -> (bool, usize) {
-    (net.router(1, &ten()).is_some(), net.heard().len())
-}
-
-/// Hears the datagram. If an allocation fails, the fault is N6, nothing has changed, and it is
-/// heard again.
+/// Hears the datagram. If an allocation fails, the fault is N6, nothing has changed, and it is heard again.
 fn is_heard(net: &mut MixedNetwork, heard: &Heard<'_>) -> bool {
-    let before = observe(net);
+    let before = seen(net);
     match net.hear(heard) {
         Ok(()) => true,
-        Err(fault) => fault == HearFault::Memory
-            && observe(net) == before
-            && net.hear(heard).is_ok(),
+        Err(fault) => fault == HearFault::Memory && seen(net) == before && net.hear(heard).is_ok(),
     }
 }
 
-/// Whether node 1 hears both datagrams, and selects the route of the router of others.
-fn selects(net: &mut MixedNetwork) -> bool {
-    is_heard(net, &heard(OTHER, &HELLO, 0))
-        && observe(net) == (false, 0)
-        && is_heard(net, &heard(OTHER, &UPDATE, 400))
-        && observe(net) == (true, 1)
+/// Whether node 1 restarts: the selected route is gone, and what was heard is still there. If an allocation fails, the fault is
+/// N6, nothing has changed, and it restarts when that is asked again.
+fn restarts(net: &mut MixedNetwork) -> bool {
+    let restart = Event::Restart { node: 1, now: 500 };
+    let before = seen(net);
+    if let Err(fault) = net.step(&restart) {
+        if fault != StepFault::Memory || seen(net) != before || net.step(&restart).is_err() {
+            return false;
+        }
+    }
+    seen(net) == (false, 1, [false; 3])
 }
 
 /// Whether the selected route of node 1 is over the router of others.
 fn is_foreign(net: &MixedNetwork) -> bool {
-    match net.selected(1, &ten()) {
+    match net.selected(1, &prefix()) {
         Some(route) => route.next_hop == OTHER,
         None => false,
     }
 }
 
-/// Node 1 restarts. If an allocation fails, the fault is N6, nothing has changed, and it restarts
-/// when that is asked again.
-fn restarts(net: &mut MixedNetwork) -> bool {
-    let restart = Event::Restart { node: 1, now: 500 };
-    let before = observe(net);
-    match net.step(&restart) {
-        Ok(()) => true,
-        Err(fault) => fault == StepFault::Memory
-            && observe(net) == before
-            && net.step(&restart).is_ok(),
+/// Whether node 1 hears both datagrams, and selects the route of the router of others.
+fn selects(net: &mut MixedNetwork) -> bool {
+    is_heard(net, &HELLO)
+        && seen(net) == (false, 0, [false; 3])
+        && is_heard(net, &UPDATE)
+        && seen(net) == (true, 1, [false; 3])
+        && is_foreign(net)
+}
+
+/// Whether the network is made. If an allocation fails, the fault is that of a network of ours, and the network is made again.
+fn is_made(alloc: Global) -> bool {
+    match network(alloc).err() {
+        None => true,
+        Some(fault) => is_memory(fault) && network(alloc).err().is_none(),
     }
 }
 
-/// What was heard stays after the restart.
+/// Whether the calls do what they should, if a network is made.
+fn calls(alloc: Global) -> bool {
+    match network(alloc) {
+        Ok(mut net) => selects(&mut net) && restarts(&mut net),
+        Err(_) => true,
+    }
+}
+
 #[test]
 fn calls_out_of_memory_change_nothing(rt: HostRuntime) {
-    let net = made(rt.alloc());
-    assert!(rt; net.is_some());
-    if let Some(mut net) = net {
-        assert!(rt; selects(&mut net));
-        assert!(rt; is_foreign(&net));
-        assert!(rt; restarts(&mut net));
-        assert!(rt; observe(&net) == (false, 1));
+    assert!(rt; is_made(rt.alloc()) && calls(rt.alloc()));
+}
+
+/// How many events a run makes: all, or those before the one at which an allocation fails.
+fn count_made(ran: Result<(), (usize, MixedFault)>) -> usize {
+    match ran {
+        Ok(()) => COUNT,
+        Err((index, MixedFault::Ours(StepFault::Memory) | MixedFault::Heard(HearFault::Memory))) =>
+            index,
+        Err(_) => usize::MAX,
     }
 }
 
-/// Node 1 hears the route, and sends a datagram before and after it.
-fn events() -> [MixedEvent<'static>; 5] {
-    [
-        MixedEvent::Heard(heard(OTHER, &HELLO, 0)),
-        MixedEvent::Ours(Event::Tick { node: 1, now: 0 }),
-        MixedEvent::Ours(Event::Emit { node: 1, now: 0 }),
-        MixedEvent::Heard(heard(OTHER, &UPDATE, 400)),
-        MixedEvent::Ours(Event::Emit { node: 1, now: 400 }),
-    ]
-}
-
-/// What is observed, and whether a first, a second and a third datagram were sent.
-type Seen = ((bool, usize), [bool; 3]);
-
-fn seen(net: &MixedNetwork) -> Seen {
-    let sent = [
-        net.sent(0).is_some(),
-        net.sent(1).is_some(),
-        net.sent(2).is_some(),
-    ];
-    (observe(net), sent)
-}
-
-fn is_memory(fault: MixedFault) -> bool {
-    fault == MixedFault::Ours(StepFault::Memory) || fault == MixedFault::Heard(HearFault::Memory)
-}
-
-/// Runs the events. If an allocation fails, the fault is N6 at an event, and the rest is run again:
-/// returns that event's index and what was seen then.
-fn stop_of(net: &mut MixedNetwork, events: &[MixedEvent<'_>]) -> Option<(usize, Seen)> {
-    let (index, fault) = net.run(events).err()?;
-    let stopped = seen(net);
-    let rest = events.get(index..)?;
-    if is_memory(fault) && net.run(rest).is_ok() {
-        Some((index, stopped))
-    } else {
-        None
+/// Runs the events. If an allocation fails, the fault is N6 at an event, what is seen is what it is before that event, and the
+/// rest is run again.
+fn are_run(net: &mut MixedNetwork) -> bool {
+    let events = EVENTS;
+    let count = count_made(net.run(&events));
+    match (SEEN.get(count), events.get(count..)) {
+        (Some(stopped), Some(rest)) => {
+            seen(net) == *stopped
+                && net.run(rest).is_ok()
+                && seen(net) == SEEN[COUNT]
+                && is_foreign(net)
+        }
+        _ => false,
     }
 }
 
-/// What is seen after the first events, of this number.
-fn seen_after(alloc: Global, count: usize) -> Option<Seen> {
-    let mut net = made(alloc)?;
-    let events = events();
-    net.run(events.get(..count)?).ok()?;
-    Some(seen(&net))
-}
-
-/// A network that ran the events before the refused one has seen the same. The Tick queues a Hello,
-/// and the route an Update.
 #[test]
 fn mixed_runs_out_of_memory_stop_before_the_event(rt: HostRuntime) {
-    let net = made(rt.alloc());
-    assert!(rt; net.is_some());
-    if let Some(mut net) = net {
-        if let Some((index, stopped)) = stop_of(&mut net, &events()) {
-            assert!(rt; seen_after(rt.alloc(), index) == Some(stopped));
-        }
-        assert!(rt; seen(&net) == ((true, 1), [true, true, false]));
-        assert!(rt; is_foreign(&net));
+    if let Ok(mut net) = network(rt.alloc()) {
+        assert!(rt; are_run(&mut net));
     }
 }

@@ -1,12 +1,15 @@
-//! A call that is out of memory returns that and changes nothing, and succeeds when it is made again.
+//! A call that is out of memory returns that and changes nothing, and succeeds when it is made again. If a network is not made, a
+//! test of its calls has nothing to test: `is_network_made` makes it again.
 
+use crate::logs::{prefix, router};
 use babel_net::{Event, NetFault, Network, StepFault};
-use babel_state::{Config, ConfigFault, Interface};
-use babel_value::{Addr, Family, Prefix};
+use babel_state::{Config, ConfigFault};
 use std::alloc::{AllocError, Global};
 
+const COUNT: usize = 14;
+
 /// Node 0 announces 10.0.0.0/8, and node 1 selects it.
-const EVENTS: [Event; 14] = [
+const EVENTS: [Event; COUNT] = [
     Event::Tick { node: 0, now: 0 },
     Event::Emit { node: 0, now: 0 },
     Event::Tick { node: 1, now: 0 },
@@ -43,44 +46,12 @@ const EVENTS: [Event; 14] = [
     Event::Restart { node: 1, now: 1200 },
 ];
 
-/// 10.0.0.0/8.
-pub(crate) fn ten() -> Prefix {
-    Prefix::new_unchecked(Addr::V4([10, 0, 0, 0]), 8)
-}
-
-/// 192.168.0.`number`/24, with cost 96 and a Hello every 400 centiseconds.
-fn interface(alloc: Global, number: u8) -> Interface {
-    Interface {
-        transport: Family::Ipv4,
-        ipv4: Some(([192, 168, 0, number], 24)),
-        ipv6: None,
-        peers: Vec::new(alloc),
-        cost: 96,
-        hello: 400,
-    }
-}
-
-/// The router of a number, which lists these prefixes.
-fn config(alloc: Global, number: u8, prefixes: Vec<Prefix>) -> Result<Config, AllocError> {
-    let mut interfaces = Vec::new(alloc);
-    interfaces.push(interface(alloc, number))?;
-    Ok(Config {
-        router_id: [0, 0, 0, 0, 0, 0, 0, number],
-        seqno: 0,
-        collect: false,
-        prefixes,
-        interfaces,
-    })
-}
-
-/// The routers 1 and 2 on one link.
+/// The routers 1 and 2 on one link, of which the first announces 10.0.0.0/8.
 pub(crate) fn configs(alloc: Global) -> Result<Vec<Config>, AllocError> {
-    let mut listed = Vec::new(alloc);
-    listed.push(ten())?;
-    let mut configs = Vec::new(alloc);
-    configs.push(config(alloc, 1, listed)?)?;
-    configs.push(config(alloc, 2, Vec::new(alloc))?)?;
-    Ok(configs)
+    let mut first = router(alloc, 1)?;
+    first.prefixes.push(prefix())?;
+    let second = router(alloc, 2)?;
+    Ok(vec![in alloc; first, second]?)
 }
 
 /// The network of them, or the fault.
@@ -91,16 +62,8 @@ fn network(alloc: Global) -> Result<Network, NetFault> {
     }
 }
 
-/// The network; if an allocation fails, it is made again.
-fn made(alloc: Global) -> Option<Network> {
-    match network(alloc) {
-        Ok(net) => Some(net),
-        Err(_) => network(alloc).ok(),
-    }
-}
-
 /// M6, or M7 with C7.
-fn is_memory(fault: NetFault) -> bool {
+pub(crate) fn is_memory(fault: NetFault) -> bool {
     match fault {
         NetFault::Memory => true,
         NetFault::BadConfig { fault, .. } => fault == ConfigFault::Memory,
@@ -108,12 +71,17 @@ fn is_memory(fault: NetFault) -> bool {
     }
 }
 
+/// Whether the network is made. If an allocation fails, the fault is one of these, and the network is made again.
+fn is_network_made(alloc: Global) -> bool {
+    match network(alloc).err() {
+        None => true,
+        Some(fault) => is_memory(fault) && network(alloc).err().is_none(),
+    }
+}
+
 #[test]
 fn network_always_out_of_memory(rt: HostRuntime) {
-    if let Some(fault) = network(rt.alloc()).err() {
-        assert!(rt; is_memory(fault));
-        assert!(rt; network(rt.alloc()).err().is_none());
-    }
+    assert!(rt; is_network_made(rt.alloc()));
 }
 
 /// The next hop of node 1, and for each datagram that was sent a sum of its octets.
@@ -126,7 +94,7 @@ fn observe(net: &Network) -> Returned {
             *sum = sum_of(octets);
         }
     }
-    (net.next_hop(1, &ten()), sums)
+    (net.next_hop(1, &prefix()), sums)
 }
 
 fn sum_of(octets: &[u8]) -> u64 {
@@ -137,7 +105,7 @@ fn sum_of(octets: &[u8]) -> u64 {
     sum
 }
 
-/// Makes the step. If an allocation fails, the fault is N6, nothing has changed, and the step is made again.
+/// Whether the step is made. If an allocation fails, the fault is N6, nothing has changed, and the step is made again.
 fn is_made(net: &mut Network, event: &Event) -> bool {
     let before = observe(net);
     match net.step(event) {
@@ -148,9 +116,9 @@ fn is_made(net: &mut Network, event: &Event) -> bool {
     }
 }
 
-/// Makes the steps of the first events, of this number.
-fn are_made(net: &mut Network, count: usize) -> bool {
-    for event in EVENTS.iter().take(count) {
+/// Whether the steps are made.
+fn are_made(net: &mut Network, events: &[Event]) -> bool {
+    for event in events {
         if !is_made(net, event) {
             return false;
         }
@@ -158,50 +126,54 @@ fn are_made(net: &mut Network, count: usize) -> bool {
     true
 }
 
-/// Whether a network made the first steps, and what it returns then.
-fn after_steps(alloc: Global, count: usize) -> Option<(bool, Returned)> {
-    let mut net = made(alloc)?;
-    let are_made = are_made(&mut net, count);
-    Some((are_made, observe(&net)))
+/// Whether all steps are made, and five datagrams sent. The test of the runs compares what the network returns.
+fn all_are_made(net: &mut Network) -> bool {
+    are_made(net, &EVENTS) && net.sent(4).is_some()
 }
 
-/// One of the two networks makes the steps with ample memory.
 #[test]
 fn steps_out_of_memory_change_nothing(rt: HostRuntime) {
-    let first = after_steps(rt.alloc(), 14);
-    assert!(rt; after_steps(rt.alloc(), 14) == first);
-    assert!(rt; first.is_some_and(|(are_made, (_, sums))| are_made && sums[4] != 0));
-}
-
-/// Runs the events. If an allocation fails, the fault is N6 at an event, and the rest is run again: returns that event's
-/// index and what the network returned then.
-fn stop_of(net: &mut Network) -> Option<(usize, Returned)> {
-    let (index, fault) = net.run(&EVENTS).err()?;
-    let stopped = observe(net);
-    let rest = EVENTS.get(index..)?;
-    if fault == StepFault::Memory && net.run(rest).is_ok() {
-        Some((index, stopped))
-    } else {
-        None
+    if let Ok(mut net) = network(rt.alloc()) {
+        assert!(rt; all_are_made(&mut net));
     }
 }
 
-/// Where the run of the events stopped, and what the network returns at the end.
-fn after_run(alloc: Global) -> Option<(Option<(usize, Returned)>, Returned)> {
-    let mut net = made(alloc)?;
-    let stop = stop_of(&mut net);
-    Some((stop, observe(&net)))
+/// How many events a run makes: all, or those before the one at which an allocation fails.
+fn count_made(ran: Result<(), (usize, StepFault)>) -> usize {
+    match ran {
+        Ok(()) => COUNT,
+        Err((index, StepFault::Memory)) => index,
+        Err(_) => usize::MAX,
+    }
 }
 
-/// A network that made the steps before the refused one returns the same.
+/// Runs the events in one network, and makes their steps in the other: both return the same when the run stops, and at the end.
+fn run_as_steps(ran: &mut Network, stepped: &mut Network) -> bool {
+    let events = EVENTS;
+    let count = count_made(ran.run(&events));
+    match events.split_at_checked(count) {
+        Some((before, rest)) => {
+            are_made(stepped, before)
+                && observe(ran) == observe(stepped)
+                && ran.run(rest).is_ok()
+                && are_made(stepped, rest)
+                && observe(ran) == observe(stepped)
+        }
+        None => false,
+    }
+}
+
+/// Whether a network runs as another one makes the steps. One of the two has ample memory.
+fn runs(ran: &mut Network, alloc: Global) -> bool {
+    match network(alloc) {
+        Ok(mut stepped) => run_as_steps(ran, &mut stepped),
+        Err(_) => true,
+    }
+}
+
 #[test]
 fn runs_out_of_memory_stop_before_the_event(rt: HostRuntime) {
-    let ran = after_run(rt.alloc());
-    assert!(rt; ran.is_some());
-    if let Some((stop, end)) = ran {
-        if let Some((index, stopped)) = stop {
-            assert!(rt; after_steps(rt.alloc(), index) == Some((true, stopped)));
-        }
-        assert!(rt; after_steps(rt.alloc(), 14) == Some((true, end)));
+    if let Ok(mut ran) = network(rt.alloc()) {
+        assert!(rt; runs(&mut ran, rt.alloc()));
     }
 }

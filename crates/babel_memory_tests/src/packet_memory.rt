@@ -3,6 +3,7 @@
 use babel_message::Refusal;
 use babel_packet::decode;
 use babel_value::Addr;
+use std::alloc::Global;
 
 /// A Router-Id, an Update that sets the default prefix, and one that leaves two octets to it.
 const DATAGRAM: [u8; 43] = [
@@ -14,22 +15,23 @@ const DATAGRAM: [u8; 43] = [
 
 const SOURCE: Addr = Addr::V4([192, 168, 0, 1]);
 
-/// With every allocation there this passes; run with the nth one refused, it is `P6` that it prints.
-#[test]
-fn memory_runs_out(rt: HostRuntime) {
-    let placed_of = match decode(rt.alloc(), DATAGRAM.as_slice(), SOURCE) {
-        Ok(placed) => placed.len(),
-        Err(refusal) => {
-            assert!(rt; refusal == Refusal::Memory);
-            0
-        }
-    };
-    assert!(rt; placed_of == 3 || placed_of == 0);
-    // The datagram's own refusal comes before `Refusal::Memory`.
+/// Whether all three are decoded, or memory runs out.
+fn is_decoded(alloc: Global) -> bool {
+    match decode(alloc, &DATAGRAM, SOURCE) {
+        Ok(placed) => placed.len() == 3,
+        Err(refusal) => refusal == Refusal::Memory,
+    }
+}
+
+/// Whether the datagram is refused for its last TLV, if that is an octet too long.
+fn is_refused(alloc: Global) -> bool {
     let mut datagram = DATAGRAM;
     datagram[31] = 0x0c;
-    match decode(rt.alloc(), datagram.as_slice(), SOURCE) {
-        Ok(_) => assert!(rt; false),
-        Err(refusal) => assert!(rt; refusal == Refusal::Tlv(30)),
-    }
+    decode(alloc, &datagram, SOURCE).err() == Some(Refusal::Tlv(30))
+}
+
+/// P6 comes only if an allocation fails, and after the datagram's own refusal.
+#[test]
+fn memory_runs_out(rt: HostRuntime) {
+    assert!(rt; is_decoded(rt.alloc()) && is_refused(rt.alloc()));
 }

@@ -1,13 +1,13 @@
 //! A call that is out of memory returns that and changes nothing, and succeeds when it is made again.
 
+use crate::logs::{prefix, router};
 use arrayvec::ArrayVec;
 use babel_message::Refusal;
 use babel_speaker::Speaker;
-use babel_state::{Config, ConfigFault, Interface, RecvFault, RestoreFault};
+use babel_state::{ConfigFault, RecvFault, RestoreFault};
 use babel_tlv::DATAGRAM_LEN;
-use babel_value::{Addr, Family, Memory, Metric, Prefix};
-use std::alloc::{AllocError, Global};
-use std::process::Abort;
+use babel_value::{Addr, Metric};
+use std::alloc::Global;
 
 const NEIGHBOUR: Addr = Addr::V4([192, 168, 0, 1]);
 
@@ -21,69 +21,30 @@ const ROUTE: [u8; 49] = [
 ];
 
 /// Router 2 with seqno 0, no raise and one source: 10.0.0.0/8 of router 1, with seqno 0 and metric 96.
-const SNAPSHOT: [u8; 54] = [
+const SNAPSHOT: &[u8] = &[
     0x42, 0x42, 0x53, 0x31, 0, 0, 0, 0, 0, 0, 0, 2, 0, 0, 0, 0, 0, 0, 0, 0, 0, 0, 0, 1, 1, 10, 0,
     0, 0, 0, 0, 0, 0, 0, 0, 0, 0, 0, 0, 0, 0, 8, 0, 0, 0, 0, 0, 0, 0, 1, 0, 0, 0, 0x60,
 ];
 
-/// 10.0.0.0/8.
-fn prefix() -> Prefix {
-    Prefix::new_unchecked(Addr::V4([10, 0, 0, 0]), 8)
-}
-
-/// 192.168.0.2/24 with cost 96 and a Hello every 400 centiseconds.
-fn interface(alloc: Global) -> Interface {
-    Interface {
-        transport: Family::Ipv4,
-        ipv4: Some(([192, 168, 0, 2], 24)),
-        ipv6: None,
-        peers: Vec::new(alloc),
-        cost: 96,
-        hello: 400,
+/// The speaker of router 2, or the fault.
+fn made(alloc: Global) -> Result<Speaker, ConfigFault> {
+    match router(alloc, 2) {
+        Ok(config) => Speaker::new(alloc, config),
+        Err(_) => Err(ConfigFault::Memory),
     }
 }
 
-/// Router 2.
-fn config(alloc: Global) -> Result<Config, AllocError> {
-    let mut interfaces = Vec::new(alloc);
-    interfaces.push(interface(alloc))?;
-    Ok(Config {
-        router_id: [0, 0, 0, 0, 0, 0, 0, 2],
-        seqno: 0,
-        collect: false,
-        prefixes: Vec::new(alloc),
-        interfaces,
-    })
-}
-
-/// The fault of making a speaker, if there is one.
-fn fault_of_making(alloc: Global) -> Option<ConfigFault> {
-    match config(alloc) {
-        Ok(config) => Speaker::new(alloc, config).err(),
-        Err(_) => Some(ConfigFault::Memory),
+/// Whether a speaker is made. If an allocation fails, the fault is C7, and a speaker is made again.
+fn is_made(alloc: Global) -> bool {
+    match made(alloc).err() {
+        None => true,
+        Some(fault) => fault == ConfigFault::Memory && made(alloc).err().is_none(),
     }
 }
 
 #[test]
 fn making_always_out_of_memory(rt: HostRuntime) {
-    if let Some(fault) = fault_of_making(rt.alloc()) {
-        assert!(rt; fault == ConfigFault::Memory);
-        assert!(rt; fault_of_making(rt.alloc()) == None);
-    }
-}
-
-/// A speaker, if no allocation fails.
-fn made_once(alloc: Global) -> Option<Speaker> {
-    let config = config(alloc).ok()?;
-    Speaker::new(alloc, config).ok()
-}
-
-/// A speaker; if an allocation fails, it is made again.
-fn made(alloc: Global) -> Option<Speaker> {
-    match made_once(alloc) {
-        Some(speaker) => Some(speaker),
-        None => made_once(alloc),
-    }
+    assert!(rt; is_made(rt.alloc()));
 }
 
 /// Whether the speaker has no route, and nothing is pending.
@@ -101,23 +62,37 @@ fn received(speaker: &mut Speaker, octets: &[u8]) -> Result<usize, RecvFault> {
     }
 }
 
-/// Receives from the neighbour. If an allocation fails, the refusal is P6, nothing has changed, and the
+/// Whether the datagram is received with so many notes. If an allocation fails, the refusal is P6, nothing has changed, and the
 /// datagram is received again.
-fn received_at_last(rt: &impl Abort, speaker: &mut Speaker, octets: &[u8]) -> usize {
+fn is_received(speaker: &mut Speaker, octets: &[u8], notes: usize) -> bool {
     match received(speaker, octets) {
-        Ok(notes) => notes,
+        Ok(count) => count == notes,
         Err(fault) => {
-            assert!(rt; fault == RecvFault::Refused(Refusal::Memory));
-            assert!(rt; is_untouched(speaker));
-            received(speaker, octets).unwrap_or(0)
+            fault == RecvFault::Refused(Refusal::Memory)
+                && is_untouched(speaker)
+                && received(speaker, octets) == Ok(notes)
         }
     }
 }
 
-/// A sum of the octets that the speaker sends.
+/// Whether the speaker receives the Hello, then the route, and selects it.
+fn selects(speaker: &mut Speaker) -> bool {
+    is_received(speaker, &HELLO, 1)
+        && is_received(speaker, &ROUTE, 4)
+        && match speaker.selected(&prefix()) {
+            Some(route) => route.metric == Metric(103),
+            None => false,
+        }
+}
+
+/// A sum of the octets that the speaker sends after it has selected the route; 0 if it does not select it.
 fn sum_of_sent(speaker: &mut Speaker) -> u64 {
+    if !selects(speaker) {
+        return 0;
+    }
     let mut octets = ArrayVec::<u8, DATAGRAM_LEN>::new();
     let mut sum = 0u64;
+    speaker.tick(1200);
     for _ in 0..9 {
         if speaker.next_datagram(1200, &mut octets).is_none() {
             break;
@@ -129,69 +104,65 @@ fn sum_of_sent(speaker: &mut Speaker) -> u64 {
     sum
 }
 
-/// The Hello, then the route. Returns the metric of the selected route, and the sum of what is sent next.
-fn receive_route(rt: &impl Abort, speaker: &mut Speaker) -> (Option<Metric>, u64) {
-    assert!(rt; received_at_last(rt, speaker, &HELLO) == 1);
-    assert!(rt; received_at_last(rt, speaker, &ROUTE) == 4);
-    let selected = speaker.selected(&prefix()).map(|route| route.metric);
-    speaker.tick(1200);
-    (selected, sum_of_sent(speaker))
-}
-
-/// What a speaker returned.
-fn returned(rt: &impl Abort, alloc: Global) -> Option<(Option<Metric>, u64)> {
-    let mut speaker = made(alloc)?;
-    Some(receive_route(rt, &mut speaker))
+/// That sum of a new speaker. If none is made, one is made again.
+fn sum_of_new(alloc: Global) -> u64 {
+    for _ in 0..2 {
+        if let Ok(mut speaker) = made(alloc) {
+            return sum_of_sent(&mut speaker);
+        }
+    }
+    0
 }
 
 /// One of the two speakers receives with ample memory.
 #[test]
 fn receiving_always_out_of_memory(rt: HostRuntime) {
-    let first = returned(&rt, rt.alloc());
-    assert!(rt; returned(&rt, rt.alloc()) == first);
-    assert!(rt; first.is_some_and(|(metric, _)| metric == Some(Metric(103))));
+    let sum = sum_of_new(rt.alloc());
+    assert!(rt; sum != 0 && sum == sum_of_new(rt.alloc()));
 }
 
 /// The speaker of the snapshot, or the fault.
 fn restored(alloc: Global) -> Result<Speaker, RestoreFault> {
-    match config(alloc) {
-        Ok(config) => Speaker::restore(alloc, config, 0, &SNAPSHOT),
+    match router(alloc, 2) {
+        Ok(config) => Speaker::restore(alloc, config, 0, SNAPSHOT),
         Err(_) => Err(RestoreFault::Config(ConfigFault::Memory)),
+    }
+}
+
+/// Whether the speaker is restored. If an allocation fails, the fault is C7, and the speaker is restored again.
+fn is_restored(alloc: Global) -> bool {
+    match restored(alloc).err() {
+        None => true,
+        Some(fault) => {
+            fault == RestoreFault::Config(ConfigFault::Memory) && restored(alloc).err().is_none()
+        }
     }
 }
 
 #[test]
 fn restoring_always_out_of_memory(rt: HostRuntime) {
-    if let Some(fault) = restored(rt.alloc()).err() {
-        assert!(rt; fault == RestoreFault::Config(ConfigFault::Memory));
-        assert!(rt; restored(rt.alloc()).err().is_none());
-    }
+    assert!(rt; is_restored(rt.alloc()));
 }
 
-/// What is saved; if an allocation fails, it is saved again.
-fn saved(speaker: &Speaker) -> Option<Vec<u8>> {
-    match speaker.save() {
-        Ok(octets) => Some(octets),
-        Err(Memory) => speaker.save().ok(),
+/// Whether the speaker is saved as the snapshot. If an allocation fails, it is saved again.
+fn is_saved(speaker: &Speaker) -> bool {
+    for _ in 0..2 {
+        if let Ok(octets) = speaker.save() {
+            return octets.as_slice() == SNAPSHOT;
+        }
     }
+    false
 }
 
-/// The speaker of the snapshot; if an allocation fails, it is restored again.
-fn restored_at_last(alloc: Global) -> Option<Speaker> {
+/// Whether a speaker that is restored is saved. If none is, there is nothing to save: `is_restored` restores it again.
+fn saves(alloc: Global) -> bool {
     match restored(alloc) {
-        Ok(speaker) => Some(speaker),
-        Err(_) => restored(alloc).ok(),
+        Ok(speaker) => is_saved(&speaker),
+        Err(_) => true,
     }
-}
-
-/// Whether the speaker is saved as the snapshot.
-fn is_saved(alloc: Global) -> Option<bool> {
-    let speaker = restored_at_last(alloc)?;
-    let octets = saved(&speaker)?;
-    Some(octets.as_slice() == &SNAPSHOT[..])
 }
 
 #[test]
 fn saving_always_out_of_memory(rt: HostRuntime) {
-    assert!(rt; is_saved(rt.alloc()) == Some(true));
+    assert!(rt; saves(rt.alloc()));
 }
