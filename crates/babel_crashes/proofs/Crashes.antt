@@ -8,12 +8,12 @@ use Rattle.babel_state.specs.State.{State}
 use Rattle.babel_snapshot.specs.Reading.{snapshot_in}
 use Rattle.babel_wire.specs.Calls.{Sending}
 use Rattle.babel_wire.specs.Turns.{Turn}
-use Rattle.babel_durable.proofs.Processes.{drives, taken_driven, turns_driven, first_in_all}
-use Rattle.babel_durable.proofs.Members.{AreIn, none_in, not_in_none}
-use Rattle.babel_durable.specs.Keeping.{AreOctetsOf, turns_of}
-use Rattle.babel_durable.specs.Cuts.{File, sent_in}
-use Rattle.babel_durable.specs.Lives.{IsCovered, Step, Drive, Leads, taken, turns_in}
-use Rattle.babel_durable.specs.DurableLaws.{WhatIsKeptCoversWhatWasSent}
+use Rattle.babel_wire.proofs.Processes.{drives, taken_driven, turns_driven, first_in_all}
+use Rattle.babel_wire.proofs.Members.{AreIn, none_in, not_in_none}
+use Rattle.babel_wire.specs.Keeping.{AreOctetsOf, turns_of}
+use Rattle.babel_wire.specs.Cuts.{File, sent_in}
+use Rattle.babel_wire.specs.Lives.{IsCovered, Step, Drive, Leads, taken, turns_in}
+use Rattle.babel_wire.specs.DurableLaws.{WhatIsKeptCoversWhatWasSent}
 use Rattle.babel_machine.specs.declared.events.Event.{Event}
 use Rattle.babel_machine.specs.declared.events.Event.TheVariants as events
 use Rattle.babel_machine.specs.NetworkLaws.{SoundHasNoLoop, SoundHasNoLoopWithOneOrigin}

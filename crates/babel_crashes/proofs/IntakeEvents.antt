@@ -8,10 +8,10 @@ use Rattle.babel_state.specs.State.{State}
 use Rattle.babel_state.specs.Ticks.{ticked}
 use Rattle.babel_snapshot.specs.Reading.{snapshot_in}
 use Rattle.babel_wire.specs.Calls.{Receipt, Sending}
-use Rattle.babel_durable.proofs.Members.{AreIn, none_in, not_in_none, first_in, later_in, joined_in}
-use Rattle.babel_durable.specs.Keeping.{AreOctetsOf}
-use Rattle.babel_durable.specs.Cuts.{File, sent_in}
-use Rattle.babel_durable.specs.Intakes.{DurableStep, Turning, TakingIn, Intake, IsIntake, AreSteps, receipts_in, taken_by, IsCoveredBySteps, WhatIsKeptCoversWithIntakes}
+use Rattle.babel_wire.proofs.Members.{AreIn, none_in, not_in_none, first_in, later_in, joined_in}
+use Rattle.babel_wire.specs.Keeping.{AreOctetsOf}
+use Rattle.babel_wire.specs.Cuts.{File, sent_in}
+use Rattle.babel_wire.specs.Intakes.{DurableStep, Turning, TakingIn, Intake, IsIntake, AreSteps, receipts_in, taken_by, IsCoveredBySteps, WhatIsKeptCoversWithIntakes}
 use Rattle.babel_machine.specs.declared.events.Event.{Event}
 use Rattle.babel_machine.specs.declared.events.Event.TheVariants as events
 use Rattle.babel_machine.specs.NetworkLaws.{SoundHasNoLoop, SoundHasNoLoopWithOneOrigin}

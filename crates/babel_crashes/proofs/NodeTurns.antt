@@ -2,7 +2,7 @@
 use Rattle.std.proofs.Common.{◌≡◌, ◌⊎◌, ℕ, Bool, true, false, List, [], ◌∷◌, Contains, length, refl, sym, subst, inl, inr}
 use Rattle.std.proofs.lemmas.List.Elements.{Contains-append_cases}
 use Rattle.std.proofs.lemmas.Option.{slice_get_read}
-use Rattle.babel_durable.proofs.Members.{not_in_none, in_more, first_in, later_in}
+use Rattle.babel_wire.proofs.Members.{not_in_none, in_more, first_in, later_in}
 use Rattle.babel_value.specs.declared.addresses.Addr.{Addr}
 use Rattle.babel_state.specs.declared.configs.Config.{Config}
 use Rattle.babel_state.specs.Restarts.{restarted}
@@ -11,7 +11,7 @@ use Rattle.babel_state.specs.Ticks.{ticked}
 use Rattle.babel_wire.specs.Calls.{Receipt, Nothing, Failed, Datagram, Sending}
 use Rattle.babel_speaker.specs.Sending.{draft_at}
 use Rattle.babel_wire.specs.Turns.{Turn, IsTurn, Receives, AreSent, Ends, SendsPending}
-use Rattle.babel_durable.specs.Lives.{Drive, Restart, taken, turns_in}
+use Rattle.babel_wire.specs.Lives.{Drive, Restart, taken, turns_in}
 use Rattle.babel_net.specs.Networks.{NetworkState, SentOctets, with_speaker_state}
 use Rattle.babel_crashes.specs.NodeSteps.{IsFrom, AreFrom, IsAt, IsRecorded, LeadsTo, AreEvents}
 use Rattle.babel_crashes.specs.CrashLaws.{TurnsAreEvents}

@@ -6,9 +6,9 @@ use Rattle.babel_state.specs.State.{State}
 use Rattle.babel_snapshot.specs.Reading.{snapshot_in}
 use Rattle.babel_wire.specs.Calls.{Sending, Call}
 use Rattle.babel_wire.specs.Turns.{Turn}
-use Rattle.babel_durable.specs.Keeping.{DurableTurn, AreDurableTurns, calls_of, turns_of}
-use Rattle.babel_durable.specs.Cuts.{File, IsCutOf, IsOnDisk, on_disk, sent_in}
-use Rattle.babel_durable.specs.Lives.{Step, Leads, IsReached, turns_in}
+use Rattle.babel_wire.specs.Keeping.{DurableTurn, AreDurableTurns, calls_of, turns_of}
+use Rattle.babel_wire.specs.Cuts.{File, IsCutOf, IsOnDisk, on_disk, sent_in}
+use Rattle.babel_wire.specs.Lives.{Step, Leads, IsReached, turns_in}
 use Rattle.babel_net.specs.Invariants.{IsNetwork}
 use Rattle.babel_net.specs.Networks.{NetworkState}
 use Rattle.babel_crashes.specs.NodeSteps.{IsAt, AreFrom, AreEvents, IsRestart}

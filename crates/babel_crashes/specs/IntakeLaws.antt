@@ -5,8 +5,8 @@ use Rattle.babel_state.specs.Restarts.{Snapshot, snapshot_of, restored}
 use Rattle.babel_state.specs.State.{State}
 use Rattle.babel_snapshot.specs.Reading.{snapshot_in}
 use Rattle.babel_wire.specs.Calls.{Receipt, Sending, Call}
-use Rattle.babel_durable.specs.Cuts.{File, IsCutOf, IsOnDisk, on_disk, sent_in}
-use Rattle.babel_durable.specs.Intakes.{DurableStep, AreSteps, AreDurableSteps, calls_of_steps, receipts_in, taken_by}
+use Rattle.babel_wire.specs.Cuts.{File, IsCutOf, IsOnDisk, on_disk, sent_in}
+use Rattle.babel_wire.specs.Intakes.{DurableStep, AreSteps, AreDurableSteps, calls_of_steps, receipts_in, taken_by}
 use Rattle.babel_net.specs.Invariants.{IsNetwork}
 use Rattle.babel_net.specs.Networks.{NetworkState, SentOctets}
 use Rattle.babel_crashes.specs.NodeSteps.{IsAt, IsFrom, IsRecorded, LeadsTo, IsRestart}

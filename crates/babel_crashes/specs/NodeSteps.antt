@@ -6,7 +6,7 @@ use Rattle.babel_state.specs.Calls.{first_state}
 use Rattle.babel_state.specs.State.{State}
 use Rattle.babel_wire.specs.Calls.{Receipt, Nothing, Failed, Datagram, Sending}
 use Rattle.babel_wire.specs.Turns.{Turn}
-use Rattle.babel_durable.specs.Lives.{Step, taken}
+use Rattle.babel_wire.specs.Lives.{Step, taken}
 use Rattle.babel_machine.specs.declared.events.Event.{Event}
 use Rattle.babel_machine.specs.declared.events.Event.TheVariants as events
 use Rattle.babel_net.specs.EventRefusals.{step_fault}

@@ -4,10 +4,10 @@
 ghost use Rattle.babel_crashes.specs.CrashLaws.{TurnsAreEvents, CrashesAreRestartEvents, LivesAreRestartEvents};
 ghost use Rattle.babel_crashes.specs.IntakeLaws.{StepsAreEvents, CrashesWithIntakesAreRestartEvents};
 
-use babel_durable::laws::{intakes_are_covered, what_is_kept_covers_what_was_sent};
 use babel_machine::laws::sound_networks_have_no_loop;
 use babel_net::laws::networks_go_on;
 use babel_state::laws::settings_stay;
+use babel_wire::laws::{intakes_are_covered, what_is_kept_covers_what_was_sent};
 
 /// The turns and restarts of a speaker at a node of a network are events of the network.
 pub fn turns_are_events()

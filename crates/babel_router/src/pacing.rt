@@ -2,8 +2,7 @@
 //! once. Of those that come in quick succession all that come within a short time are handled
 //! together.
 
-use babel_durable::DurableReport;
-use babel_wire::Report;
+use babel_wire::{DurableReport, Report};
 
 /// How long datagrams wait that come in quick succession, in centiseconds. RFC 8966, section 3.1,
 /// asks that what is sent waits for a short time, so that several TLVs go in one datagram.

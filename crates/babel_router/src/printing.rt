@@ -3,13 +3,12 @@
 use crate::DeviceFault;
 use crate::running::{Printed, RunOptions};
 use babel_control_speaker::LiveLog;
-use babel_durable::{DurableReport, Observer};
 use babel_speaker::Speaker;
 use babel_state::{Note as TlvNote, RecvFault, Target};
 use babel_text::LineFault;
 use babel_udp::{Counts, LastKeep, RouteLines, Selections};
 use babel_value::Peer;
-use babel_wire::{Arrival, Receipts};
+use babel_wire::{Arrival, DurableReport, Observer, Receipts};
 use std::alloc::{AllocError, Global};
 use std::fmt;
 use std::io::{self, Write};

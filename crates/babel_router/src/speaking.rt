@@ -11,12 +11,11 @@ mod kept_speaking;
 mod snapshots;
 
 use crate::speaking::snapshots::{make_speaker, save};
-use babel_durable::DurableReport;
 use babel_speaker::Speaker;
 use babel_state::Config;
 use babel_text::LineFault;
 use babel_udp::{Counts, Links, RouteLines, Selections, SpeakFault, UdpWire};
-use babel_wire::{Report, drive};
+use babel_wire::{DurableReport, Report, drive};
 pub use kept_speaking::{KeptOptions, speak_kept};
 use std::alloc::Global;
 use std::fs::Files;

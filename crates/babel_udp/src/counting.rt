@@ -1,8 +1,7 @@
 //! What was counted in turns, and the lines that say it.
 
-use babel_durable::DurableReport;
 use babel_text::LineFault;
-use babel_wire::Report;
+use babel_wire::{DurableReport, Report};
 use std::io::{self, Write};
 
 /// How many turns were taken, and what was counted in them. No count passes 2^64 - 1.

@@ -2,11 +2,10 @@
 
 ghost use Rattle.std.specs.Prelude.{◌≡◌};
 
-use babel_durable::{DurableWire, StoreFault};
 use babel_snapshot_file::{Kept, LockFile, SnapshotFileFault, SnapshotStore};
 use babel_speaker::Speaker;
 use babel_state::{Config, RestoreFault, Target};
-use babel_wire::{Arrival, Wire, WireFault};
+use babel_wire::{Arrival, DurableWire, StoreFault, Wire, WireFault};
 use std::alloc::Global;
 use std::fs::Files;
 use thiserror::Error;

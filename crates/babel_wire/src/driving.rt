@@ -11,7 +11,7 @@ use babel_speaker::Speaker;
 use babel_tlv::DATAGRAM_LEN;
 
 /// How many datagrams are sent in a turn at most.
-const MAX_SENDS: usize = 64;
+pub(crate) const MAX_SENDS: usize = 64;
 
 /// Drives a speaker over a wire for some turns. A turn takes the datagram that came, if there is one, then
 /// the speaker's tick, then sends at most 64 datagrams. The moment is asked once in a turn, after

@@ -12,9 +12,6 @@
 
 pub use babel_choice::{Entry, Selection};
 pub use babel_config::{FileFault, read_config};
-pub use babel_durable::{
-    DurableDriver, DurableReport, DurableWire, Keeper, Observer, StoreFault, drive_durable, take_in,
-};
 pub use babel_link::{History, Link, Marks, Timer};
 pub use babel_speaker::{Neighbour, Speaker};
 pub use babel_state::{
@@ -27,4 +24,7 @@ pub use babel_udp::{Links, SpeakCode, SpeakFault, UdpWire};
 pub use babel_value::{
     Addr, Distance, Family, Memory, Metric, Peer, Prefix, RouterId, Seqno, Source,
 };
-pub use babel_wire::{Arrival, NoReceipts, Receipts, Report, Wire, WireFault, drive};
+pub use babel_wire::{
+    Arrival, DurableDriver, DurableReport, DurableWire, Keeper, NoReceipts, Observer, Receipts,
+    Report, StoreFault, Wire, WireFault, drive, drive_durable, take_in,
+};

@@ -6,7 +6,6 @@ use crate::speaking::desk::Desk;
 use crate::speaking::{MAX_DATAGRAM_LEN, checked_links};
 use babel_control::{ControlPlace, Keeping, Wish};
 use babel_control_speaker::remove_socket;
-use babel_durable::{DurableDriver, DurableReport, Observer, drive_durable};
 use babel_snapshot_file::{Kept, LockFile, SnapshotFileFault};
 use babel_speaker::Speaker;
 use babel_state::{Config, Note, RecvFault, Target};
@@ -15,7 +14,7 @@ use babel_udp::{
     Counts, KeptWire, LastKeep, Links, RouteLines, Selections, SpeakFault, UdpWire, open_kept,
 };
 use babel_value::Peer;
-use babel_wire::{Arrival, Receipts, Wire};
+use babel_wire::{Arrival, DurableDriver, DurableReport, Observer, Receipts, Wire, drive_durable};
 use std::alloc::{AllocError, Global};
 use std::fs::Files;
 use std::io::Write;

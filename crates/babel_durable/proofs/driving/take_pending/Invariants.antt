@@ -1,8 +1,0 @@
-use Rattle.babel_speaker.specs.Versions.{CountsChanges}
-use Rattle.babel_durable.specs.DurableRuns.{AreTakenSoFar}
-use Rattle.babel_durable.proofs.driving.take_pending.Given as goal
-
-abbrev pub invariant-loop : goal.invariant-loop
-invariant-loop l =
-    AreTakenSoFar l.counter l.now l.initial.speaker.state l.outbox l.speaker.state
-    × CountsChanges l.initial.speaker l.speaker

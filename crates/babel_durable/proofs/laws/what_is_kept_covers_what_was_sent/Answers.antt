@@ -1,5 +1,0 @@
-use Rattle.babel_durable.proofs.Covering.{kept_covers}
-use Rattle.babel_durable.proofs.laws.what_is_kept_covers_what_was_sent.Goals as goal
-
-pub returns : goal.returns
-returns c = kept_covers

@@ -1,0 +1,14 @@
+//! Turns of a speaker that may be killed at any moment: its snapshot is kept before a datagram is sent.
+
+mod driving;
+mod intake;
+mod keeper;
+mod outbox;
+mod report;
+mod store;
+
+pub use driving::{DurableDriver, Observer, drive_durable};
+pub use intake::take_in;
+pub use keeper::Keeper;
+pub use report::DurableReport;
+pub use store::{DurableWire, StoreFault};
