@@ -2,9 +2,8 @@
 
 use crate::{IgnoredUpdates, LiveLog, SpeakerTables};
 use babel_control::{
-    ControlPlace, DeviceView, Keeping, LogSource, Logging, TurnCounts, View, Wish,
+    ControlPlace, ControlSocket, DeviceView, Keeping, LogSource, Logging, TurnCounts, View, Wish,
 };
-use babel_control_socket::ControlSocket;
 use babel_speaker::Speaker;
 use mio::Registry;
 use std::alloc::Global;

@@ -2,8 +2,7 @@
 
 use crate::asking::Refused;
 use babel_ask::{AnswerForm, show_log_line};
-use babel_control::ControlPlace;
-use babel_control_socket::local_address;
+use babel_control::{ControlPlace, local_address};
 use std::alloc::Global;
 use std::io::{self, BufRead, BufReader, Read, Write};
 use std::net::{Net, OpenStream, TcpStream};

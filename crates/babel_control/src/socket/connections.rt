@@ -1,7 +1,7 @@
 //! A client with its stream.
 
-use crate::streams::Stream;
-use babel_control::{Client, Command};
+use crate::socket::streams::Stream;
+use crate::{Client, Command};
 use mio::unix::SourceFd;
 use mio::{Interest, Registry, Token};
 use std::alloc::Global;

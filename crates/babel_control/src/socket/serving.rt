@@ -1,10 +1,8 @@
 //! All clients, served once a turn.
 
-use crate::connections::{Asked, Connection};
-use crate::listening::Listener;
-use babel_control::{
-    Changes, Client, ControlPlace, Logging, Monitoring, Tables, View, Wish, needs_tables,
-};
+use crate::socket::connections::{Asked, Connection};
+use crate::socket::listening::Listener;
+use crate::{Changes, Client, ControlPlace, Logging, Monitoring, Tables, View, Wish, needs_tables};
 use mio::unix::SourceFd;
 use mio::{Interest, Registry, Token};
 use std::alloc::{AllocError, Global};

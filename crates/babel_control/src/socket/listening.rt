@@ -1,7 +1,7 @@
 //! Where the socket listens: a file, or a port of this machine.
 
-use crate::streams::Stream;
-use babel_control::{Access, ControlPlace};
+use crate::socket::streams::Stream;
+use crate::{Access, ControlPlace};
 use mio::net::TcpListener;
 use std::fs::{self, Files};
 use std::io;
