@@ -3,9 +3,8 @@
 
 use crate::logs::prefix;
 use crate::network_memory::{configs, is_memory};
-use babel_net::{
-    Event, HearFault, Heard, MixedEvent, MixedFault, MixedNetwork, NetFault, StepFault,
-};
+use babel_mixed::{HearFault, Heard, MixedEvent, MixedFault, MixedNetwork};
+use babel_net::{Event, NetFault, StepFault};
 use babel_value::Addr;
 use std::alloc::Global;
 

@@ -1,18 +1,15 @@
-mod SeenWorlds
+pub mod SeenWorlds
 mod FewPrefixes
-mod Running
-mod HappeningEvents
-mod KeptNetworks
-mod FirstNetworks
+pub mod Running
+pub mod HappeningEvents
+pub mod KeptNetworks
+pub mod FirstNetworks
 mod SharedAddresses
 mod TableOwners
 mod AddrCmp
 mod SentOctetsLaws
 mod Recorded
-mod Chains
-mod NextHops
+pub mod Chains
+pub mod NextHops
+pub mod MakingFaults
 mod CallFaults
-mod MixedNetworks
-mod HeardUpdates
-mod HeardNetworks
-mod MixedRuns

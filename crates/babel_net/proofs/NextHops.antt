@@ -12,7 +12,6 @@ use Rattle.babel_state.specs.declared.selected.Selected.{Selected}
 use Rattle.babel_state.specs.Calls.{selected_route}
 use Rattle.babel_state.specs.Seen.{Seen, seen, heard_of}
 use Rattle.babel_state.specs.State.{State}
-use Rattle.babel_machine.specs.ForeignWorlds.{gateway_in}
 use Rattle.babel_machine.specs.NetworkLaws.{NextHopsArePicks}
 use Rattle.babel_machine.specs.Owners.{owner_of}
 use Rattle.babel_machine.specs.Worlds.{World, speaker_at, nothing, next_hop_in, router_in}
@@ -24,7 +23,7 @@ use Rattle.babel_net.specs.Promises.{IsNextHop}
 speaker_as : (n : NetworkState) (node : ℕ) → speaker_at (world_of n) node ≡ unwrap_or (option_map seen (slice_get n.speakers node)) nothing
 speaker_as n node = sym (unwrap_or-slice_get (map seen n.speakers) node nothing) ∙ ap (λ (o : Option Seen). unwrap_or o nothing) (slice_get-map seen n.speakers node)
 
-selected_as : (n : NetworkState) (node : ℕ) (prefix : PrefixValue) → option_and_then (selected_route prefix) (slice_get n.speakers node) ≡ (speaker_at (world_of n) node).selected_at prefix
+pub selected_as : (n : NetworkState) (node : ℕ) (prefix : PrefixValue) → option_and_then (selected_route prefix) (slice_get n.speakers node) ≡ (speaker_at (world_of n) node).selected_at prefix
 unfolding seen
 selected_as n node prefix = by (slice_get n.speakers node) (speaker_as n node)
   where
@@ -41,14 +40,6 @@ hop_returned n nodes node prefix selected next owners of_node returned =
     by : (o : Option Selected) → option_and_then (λ (route : Selected). get addr_cmp nodes route.peer.addr) o ≡ option_and_then (λ (route : Selected). owner_of n.configs route.peer.addr) o
     by None = refl
     by (Some route) = owners route.peer.addr
-
-pub gateway_returned : (n : NetworkState) (nodes : BTreeMap Addr ℕ) (node : ℕ) (prefix : PrefixValue) (selected : Option Selected) (next : Option ℕ) → AreOwners n.configs nodes → selected ≡ option_and_then (selected_route prefix) (slice_get n.speakers node) → next ≡ option_and_then (λ (route : Selected). get addr_cmp nodes route.next_hop) selected → next ≡ gateway_in n.configs (world_of n) prefix node
-gateway_returned n nodes node prefix selected next owners of_node returned =
-    returned ∙ by selected ∙ ap (option_and_then (λ (route : Selected). owner_of n.configs route.next_hop)) (of_node ∙ selected_as n node prefix)
-  where
-    by : (o : Option Selected) → option_and_then (λ (route : Selected). get addr_cmp nodes route.next_hop) o ≡ option_and_then (λ (route : Selected). owner_of n.configs route.next_hop) o
-    by None = refl
-    by (Some route) = owners route.next_hop
 
 pub router_returned : (n : NetworkState) (node : ℕ) (prefix : PrefixValue) (selected : Option Selected) (router : Option (List ℕ)) → selected ≡ option_and_then (selected_route prefix) (slice_get n.speakers node) → router ≡ option_map (λ (route : Selected). route.router) selected → router ≡ router_in (world_of n) prefix node
 router_returned n node prefix selected router of_node returned =

@@ -11,5 +11,3 @@ pub mod Shared
 pub mod Recording
 pub mod Hearing
 pub mod HearFaults
-pub mod Mixed
-pub mod MixedRuns

@@ -12,7 +12,6 @@ ghost use Rattle.babel_state.specs.State.{State};
 ghost use Rattle.babel_machine.specs.Acceptance.{net_fault};
 ghost use Rattle.babel_machine.specs.Worlds.{next_hop_in, router_in};
 
-use crate::acceptance::net_fault;
 use crate::laws::{networks_begin, networks_go_on};
 use crate::nodes::{Emitted, Nodes};
 use crate::owners::Owners;
@@ -64,20 +63,18 @@ impl Network {
     ///
     /// The first cause of M5, M7 with C1 to C6, M4, M1 and M2. If there is none and an allocation fails: M6, or
     /// M7 with C7 if it was a speaker's.
+    #[tactic(auto, using(crate::proofs::MakingFaults::own_memory))]
     pub fn new(alloc: Global, configs: Vec<Config>) -> Result<Network, NetFault>
         ensures ok { IfOk result (λ network. network ≡ first_network configs.items) }
         ensures valid { IsOk result → IsNone (net_fault configs.items) }
         ensures refused { IfErr result (IsMakingFault configs.items (net_fault configs.items)) }
     {
         networks_begin();
-        if let Some(fault) = net_fault(&configs) {
-            return Err(fault);
-        }
-        let owners = match Owners::new(alloc, &configs) {
+        let nodes = Nodes::new(alloc, configs)?;
+        let owners = match Owners::new(alloc, nodes.configs()) {
             Ok(owners) => owners,
             Err(_) => return Err(NetFault::Memory),
         };
-        let nodes = Nodes::new(alloc, configs)?;
         Ok(Network { nodes, owners })
     }
 
@@ -235,7 +232,7 @@ impl Network {
 }
 
 /// The node that has the address of the selected route's neighbour.
-pub(crate) fn hop_of(owners: &Owners, selected: Option<Selected>) -> Option<usize>
+pub fn hop_of(owners: &Owners, selected: Option<Selected>) -> Option<usize>
     ensures { result ≡ option_and_then (λ (route : Selected). get addr_cmp owners.now.nodes route.peer.addr) selected }
 {
     match selected {
@@ -245,7 +242,7 @@ pub(crate) fn hop_of(owners: &Owners, selected: Option<Selected>) -> Option<usiz
 }
 
 /// The router-id of the selected route.
-pub(crate) fn router_of(selected: Option<Selected>) -> Option<RouterId>
+pub fn router_of(selected: Option<Selected>) -> Option<RouterId>
     ensures { result ≡ option_map (λ (route : Selected). route.router) selected }
 {
     match selected {

@@ -1,21 +1,22 @@
 //! The nodes of a network: their speakers, and the datagrams that they sent.
 
-ghost use Rattle.std.specs.Prelude.{◌≡◌, ◌<◌, ◌≤◌, All, None, length, slice_get, map, is_some, option_map, vec_len, vec_capacity, IfOk, IfErr, IfSome, IsNone, OnOk, OnErr};
+ghost use Rattle.std.specs.Prelude.{◌≡◌, ◌<◌, ◌≤◌, All, None, length, slice_get, map, is_some, option_map, vec_len, vec_capacity, IfOk, IfErr, IfSome, IsOk, IsNone, OnOk, OnErr};
 ghost use Rattle.std.specs.Option.{option_and_then};
 ghost use Rattle.babel_value.specs.Seqnos.{seqno_modulus};
 ghost use Rattle.babel_state.specs.declared.configs.Config.{Config};
 ghost use Rattle.babel_state.specs.State.{State};
 ghost use Rattle.babel_state.specs.Calls.{first_state, selected_route};
-ghost use Rattle.babel_machine.specs.Acceptance.{first_bad_from};
+ghost use Rattle.babel_machine.specs.Acceptance.{first_bad_from, net_fault};
 ghost use Rattle.babel_net.specs.Emitting.{IsEmitted, IsDueAt};
 ghost use Rattle.babel_net.specs.EventRefusals.{deliver_fault, step_fault, IsFaultOrMemory, IsStepFault};
-ghost use Rattle.babel_net.specs.HearFaults.{place_fault};
+ghost use Rattle.babel_net.specs.HearFaults.{place_fault, IsHearFault};
 ghost use Rattle.babel_net.specs.Hearing.{HearsAt};
 ghost use Rattle.babel_net.specs.Invariants.{IsRunning};
-ghost use Rattle.babel_net.specs.Making.{IsOutOfMemory};
+ghost use Rattle.babel_net.specs.Making.{IsOutOfMemory, IsMakingFault};
 ghost use Rattle.babel_net.specs.Promises.{first_network};
 ghost use Rattle.babel_net.specs.Steps.{Makes, MakesEmit, MakesDeliver, MakesRestart};
 
+use crate::acceptance::net_fault;
 use crate::calls::{call, hear, node_of, receive, restart};
 use crate::hearing::{HearFault, Heard, Hearing};
 use crate::node_speakers::NodeSpeaker;
@@ -37,6 +38,10 @@ pub struct Emitted {
 }
 
 /// The speakers by their nodes' numbers, their configurations, and all that was ever sent, in order.
+///
+/// It makes the steps of a network, and promises nothing of its routes: a
+/// [`Network`](crate::Network) does, and so does a network of ours among routers of others
+/// (`babel_mixed`).
 #[derive(Drop)]
 pub struct Nodes {
     alloc: Global,
@@ -55,12 +60,19 @@ impl Model for Nodes {
 
 impl Nodes {
     /// A speaker for each of the configurations, and nothing sent.
+    ///
+    /// # Errors
+    ///
+    /// Those of [`Network::new`](crate::Network::new).
     pub fn new(alloc: Global, configs: Vec<Config>) -> Result<Nodes, NetFault>
-        requires { first_bad_from 0 configs.items ≡ None }
         ensures ok { IfOk result (λ nodes. nodes ≡ first_network configs.items) }
         ensures words { OnOk result (All (λ (c : Config). c.seqno < seqno_modulus) configs.items) }
-        ensures refused { IfErr result (IsOutOfMemory configs.items) }
+        ensures valid { IsOk result → IsNone (net_fault configs.items) }
+        ensures refused { IfErr result (IsMakingFault configs.items (net_fault configs.items)) }
     {
+        if let Some(fault) = net_fault(&configs) {
+            return Err(fault);
+        }
         let speakers = speakers_of(alloc, &configs)?;
         Ok(Nodes {
             alloc,
@@ -70,7 +82,11 @@ impl Nodes {
         })
     }
 
-    /// Reserves the room for this many more datagrams of the usual length.
+    /// Reserves the room for this many more datagrams of the usual length. It only matters for speed.
+    ///
+    /// # Errors
+    ///
+    /// `Memory`: an allocation failed.
     pub fn reserve(&mut self, datagrams: usize) -> Result<(), Memory>
         ensures { self.new ≡ self.old }
     {
@@ -81,6 +97,10 @@ impl Nodes {
     }
 
     /// Makes the event's step, or refuses it and changes nothing.
+    ///
+    /// # Errors
+    ///
+    /// The first cause of N1, N2, N3, N4, N5 and N7. If there is none and an allocation fails: N6.
     #[tactic(auto, unfolding(crate::specs::EventRefusals::step_fault))]
     pub fn step(&mut self, event: &Event) -> Result<(), StepFault>
         requires { IsRunning self.old }
@@ -108,7 +128,7 @@ impl Nodes {
 
     /// The node sends its next datagram, if there is one, which is recorded. Returns its number and where it goes.
     #[tactic(auto, unfolding(crate::specs::EventRefusals::step_fault))]
-    pub fn send_next(&mut self, node: usize, now: u64) -> Result<Option<Emitted>, StepFault>
+    pub(crate) fn send_next(&mut self, node: usize, now: u64) -> Result<Option<Emitted>, StepFault>
         requires { IsRunning self.old }
         ensures ok { OnOk result (Makes (Event.Emit node now) self.old self.new) }
         ensures accepted { OnOk result (step_fault (Event.Emit node now) self.old ≡ None) }
@@ -169,6 +189,10 @@ impl Nodes {
     }
 
     /// Whether the node has the interface.
+    ///
+    /// # Errors
+    ///
+    /// The first cause of N1 and N3.
     pub fn can_hear(&self, node: usize, iface: u8) -> Result<(), HearFault>
         ensures ok { OnOk result (place_fault iface (slice_get self.now.speakers node) ≡ None) }
         ensures refused { IfErr result (λ fault. place_fault iface (slice_get self.now.speakers node) ≡ Some fault) }
@@ -180,13 +204,19 @@ impl Nodes {
         }
     }
 
-    /// The node receives octets from an address that no node has.
+    /// The node receives octets from an address that no node has. Its speaker may refuse them.
+    ///
+    /// # Errors
+    ///
+    /// The first cause of N1 and N3. If there is none and an allocation fails: N6.
     pub fn hear(&mut self, heard: &Heard<'_>) -> Result<Hearing, HearFault>
-        requires { place_fault heard.now.iface (slice_get self.old.speakers heard.now.node) ≡ None }
         ensures ok { IfOk result (λ hearing. HearsAt heard.entry.now hearing self.old self.new) }
-        ensures refused { IfErr result (λ fault. fault ≡ HearFault.Memory) }
+        ensures refused { IfErr result (IsHearFault (place_fault heard.entry.now.iface (slice_get self.old.speakers heard.entry.now.node))) }
         ensures err { OnErr result (self.new ≡ self.old) }
     {
+        if heard.node >= self.speakers.len() {
+            return Err(HearFault::NoNode);
+        }
         hear(&mut self.speakers[heard.node], heard)
     }
 
@@ -221,7 +251,7 @@ impl Nodes {
     }
 
     /// The moment before which a tick of the node changes nothing; `None` if there is no such node.
-    pub fn next_due(&self, node: usize) -> Option<u64>
+    pub(crate) fn next_due(&self, node: usize) -> Option<u64>
         ensures there { is_some result ≡ is_some (slice_get self.now.speakers node) }
         ensures due { IfSome result (λ due. (speaker : State) → slice_get self.now.speakers node ≡ Some speaker → IsDueAt due speaker) }
     {

@@ -16,11 +16,16 @@ use std::collections::BTreeMap;
 /// The nodes by their addresses, in the order of the addresses.
 #[derive(Drop)]
 pub struct Owners {
-    pub(crate) nodes: BTreeMap<Addr, usize>,
+    /// The number of the node that has the address.
+    pub nodes: BTreeMap<Addr, usize>,
 }
 
 impl Owners {
     /// The owners of the addresses of the configurations.
+    ///
+    /// # Errors
+    ///
+    /// An allocation failed.
     pub fn new(alloc: Global, configs: &[Config]) -> Result<Owners, AllocError>
         ensures { IfOk result (λ owners. (addr : Addr) → get addr_cmp owners.nodes addr ≡ owner_of configs.now addr) }
     {

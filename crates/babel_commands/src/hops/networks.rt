@@ -3,7 +3,8 @@
 use babel_choice::Selection;
 use babel_config::{HeardDatagram, ScenarioEvent};
 use babel_machine::{Event, StepFault};
-use babel_net::{Emitted, HearFault, Heard, MixedNetwork, Network};
+use babel_mixed::{HearFault, Heard, MixedNetwork};
+use babel_net::{Emitted, Network};
 use babel_value::{Addr, Memory, Prefix, RouterId};
 
 /// Why an event of a scenario is refused.

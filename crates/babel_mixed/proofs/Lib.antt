@@ -1,0 +1,5 @@
+mod Gateways
+mod MixedNetworks
+mod HeardUpdates
+mod HeardNetworks
+mod MixedRuns

@@ -1,0 +1,4 @@
+pub mod MixedNetworks
+pub mod Updates
+pub mod Mixed
+pub mod MixedRuns

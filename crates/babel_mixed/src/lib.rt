@@ -1,0 +1,13 @@
+//! A network of ours among routers of others: whatever these send from their own addresses, our nodes
+//! make no loop among themselves (RFC 8966, section 2.4, and a profile).
+#![tactic(auto)]
+
+mod events;
+pub mod laws;
+mod mixed;
+mod updates;
+
+pub use babel_net::{HearFault, Heard};
+pub use events::{MixedEvent, MixedFault};
+pub use mixed::MixedNetwork;
+pub use updates::HeardUpdate;

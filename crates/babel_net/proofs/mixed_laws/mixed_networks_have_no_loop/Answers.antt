@@ -1,5 +1,0 @@
-use Rattle.babel_net.proofs.MixedNetworks.{mixed_no_loop}
-use Rattle.babel_net.proofs.mixed_laws.mixed_networks_have_no_loop.Goals as goal
-
-pub returns : goal.returns
-returns c = mixed_no_loop c.no_loop_among_foreign_routers.ensures.neighbours c.no_loop_among_foreign_routers.ensures.next_hops
