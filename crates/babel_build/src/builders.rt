@@ -24,7 +24,7 @@ use std::marker::Model;
 /// A datagram of at most 1,024 octets that is being built. It allocates nothing.
 ///
 /// A clause sees the address that it will be sent from, and the body so far.
-#[derive(Debug, Drop)]
+#[derive(Drop)]
 pub struct Builder {
     source: Addr,
     octets: Datagram,

@@ -80,7 +80,7 @@ pub(crate) fn put_message(
 }
 
 /// What the parser state may give an Update: the router-id and the next hop.
-#[derive(Clone, Copy, Debug)]
+#[derive(Clone, Copy)]
 struct Origin {
     router: RouterId,
     next_hop: Addr,

@@ -161,7 +161,7 @@ pub(crate) fn put_next_hop(datagram: &mut Datagram, next_hop: Addr) -> bool
 }
 
 /// What an Update advertises of a prefix.
-#[derive(Clone, Copy, Debug)]
+#[derive(Clone, Copy)]
 pub(crate) struct Advertised {
     /// In centiseconds.
     pub(crate) interval: u16,

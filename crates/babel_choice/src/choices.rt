@@ -19,7 +19,7 @@ use babel_value::{Metric, Peer, Prefix, Source};
 use std::cmp::Ordering;
 
 /// The criteria between the candidates of a prefix, the first field first: the least rank is selected.
-#[derive(Clone, Copy, Debug, PartialEq, Eq, PartialOrd, Ord)]
+#[derive(Clone, Copy, PartialEq, Eq, PartialOrd, Ord)]
 pub struct Rank {
     /// The metric by the neighbour's present cost.
     pub metric: Metric,

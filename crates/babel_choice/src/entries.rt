@@ -8,7 +8,7 @@ use std::cmp::Ordering;
 use std::sync::ledger::Ledger;
 
 /// A prefix, and the neighbour that advertised it. Keys are ordered by prefix, then neighbour.
-#[derive(Clone, Copy, Debug, PartialEq, Eq, PartialOrd, Ord, Hash)]
+#[derive(Clone, Copy, PartialEq, Eq, PartialOrd, Ord)]
 pub struct RouteKey {
     /// The prefix.
     pub prefix: Prefix,
@@ -31,7 +31,7 @@ impl Key for RouteKey {
 }
 
 /// An update with a finite metric (RFC 8966, section 4.6.9).
-#[derive(Clone, Copy, Debug, PartialEq, Eq)]
+#[derive(Clone, Copy)]
 pub struct ReceivedUpdate {
     /// The neighbour that sent it.
     pub peer: Peer,

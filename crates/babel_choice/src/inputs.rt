@@ -30,7 +30,7 @@ pub struct ChoiceInputs<'a, E: Table<RouteKey, Entry>, T: Table<Source, SourceEn
 }
 
 /// Who announces a prefix.
-#[derive(Clone, Copy, Debug, PartialEq, Eq)]
+#[derive(Clone, Copy)]
 pub enum Origin {
     /// The speaker itself: it selects no route to it.
     Own,

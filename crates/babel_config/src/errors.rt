@@ -40,7 +40,7 @@ impl FileFault {
 }
 
 /// The code of a fault as text: `F1` to `F6`, with the number of the event after `F6`.
-#[derive(Clone, Copy, Debug, PartialEq, Eq)]
+#[derive(Clone, Copy)]
 pub struct FileFaultCode {
     /// The fault.
     pub fault: FileFault,

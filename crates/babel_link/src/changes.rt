@@ -3,7 +3,7 @@
 use babel_value::Peer;
 
 /// What a tick would change of all that the costs of the links depend on.
-#[derive(Clone, Copy, Debug, PartialEq, Eq)]
+#[derive(Clone, Copy)]
 pub enum CostChanges {
     /// No cost, and no neighbour is flushed.
     Nothing,

@@ -22,7 +22,7 @@ pub const MAX_NEIGHBOURS: usize = 64;
 
 /// The neighbours of a speaker, at most 64. A clause sees the list of the peers with what is known
 /// of each, in the order of the peers.
-#[derive(Debug, Drop)]
+#[derive(Drop)]
 pub struct Neighbours {
     links: Vec<(Peer, Link)>,
     /// Before this moment no deadline is due.

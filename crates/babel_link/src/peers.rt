@@ -5,7 +5,7 @@ use babel_value::Peer;
 use std::marker::Model;
 
 /// The neighbours in ascending order. A clause sees the list of those that are still to come.
-#[derive(Debug, Drop)]
+#[derive(Drop)]
 pub struct Peers<'a> {
     links: &'a [(Peer, Link)],
 }

@@ -20,7 +20,7 @@ mod source;
 mod step;
 
 /// Nodes and sources, by their numbers from 0: what each node ever sent for each source, and what it picked.
-#[derive(Debug, Drop)]
+#[derive(Drop)]
 pub struct Machine {
     sources: Vec<Source>,
 }

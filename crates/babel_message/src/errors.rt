@@ -44,7 +44,7 @@ impl Refusal {
 }
 
 /// The code of a refusal as text: `P1` to `P6`, with the offset after `P5`.
-#[derive(Clone, Copy, Debug, PartialEq, Eq)]
+#[derive(Clone, Copy)]
 pub struct RefusalCode {
     /// The refusal.
     pub refusal: Refusal,

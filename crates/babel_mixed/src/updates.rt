@@ -14,7 +14,7 @@ use std::alloc::{AllocError, Global};
 use std::marker::Model;
 
 /// A finite update that was heard (RFC 8966, section 4.6.9).
-#[derive(Clone, Copy, Debug, PartialEq, Eq)]
+#[derive(Clone, Copy)]
 pub struct HeardUpdate {
     /// The prefix of the route.
     pub prefix: Prefix,

@@ -29,7 +29,7 @@ use std::alloc::Global;
 use std::marker::Model;
 
 /// What an emit sent.
-#[derive(Clone, Copy, Debug, PartialEq, Eq)]
+#[derive(Clone, Copy)]
 pub struct Emitted {
     /// The number of the recorded datagram, counted from 0.
     pub number: usize,

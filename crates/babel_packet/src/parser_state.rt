@@ -4,7 +4,7 @@ use babel_message::layout::addresses::{IPV4_LEN, IPV6_LEN, ROUTER_ID_LEN};
 use babel_value::Addr;
 
 /// What earlier TLVs of a datagram set for later ones (RFC 8966, section 4.5).
-#[derive(Clone, Copy, Debug)]
+#[derive(Clone, Copy)]
 pub struct ParserState {
     /// The default prefix for IPv4, as the octets of its address.
     pub default4: Option<[u8; IPV4_LEN]>,

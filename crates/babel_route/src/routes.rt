@@ -40,7 +40,7 @@ pub const PREFIX_PLACES: usize = 512;
 
 /// The route table with its selections, in tables of the types `E` and `S`. Clauses see both as lists
 /// in the order of their keys.
-#[derive(Debug, Drop)]
+#[derive(Drop)]
 pub struct RoutesOver<E: Table<RouteKey, Entry>, S: Table<Prefix, Selection>> {
     entries: E,
     selections: S,

@@ -11,7 +11,7 @@ use std::alloc::Global;
 use std::sync::ledger::Ledger;
 
 /// The routes in the order of their keys.
-#[derive(Debug, Drop)]
+#[derive(Drop)]
 pub struct RouteTable {
     table: SortedTable<RouteKey, Entry>,
 }
@@ -78,7 +78,7 @@ impl Table<RouteKey, Entry> for RouteTable {
 
 /// The selections in the order of their prefixes. Prefixes that are lost, or found again, in this order move no
 /// other selection.
-#[derive(Debug, Drop)]
+#[derive(Drop)]
 pub struct SelectionTable {
     table: GapTable<Prefix, Selection>,
 }

@@ -7,7 +7,7 @@ use std::alloc::Global;
 use std::fs::{self, Files};
 
 /// Whether the file is there before the process begins.
-#[derive(Clone, Copy, Debug, PartialEq, Eq)]
+#[derive(Clone, Copy)]
 pub enum StoreStart {
     /// It is: the speaker is restored from it.
     Existing,
@@ -16,7 +16,7 @@ pub enum StoreStart {
 }
 
 /// The file in which a process keeps its snapshot, and whether it is there.
-#[derive(Clone, Copy, Debug)]
+#[derive(Clone, Copy)]
 pub struct Kept<'a> {
     /// The file's name.
     pub path: &'a str,

@@ -10,7 +10,7 @@ use std::alloc::Global;
 use std::sync::ledger::Ledger;
 
 /// The entries in the order of their sources.
-#[derive(Debug, Drop)]
+#[derive(Drop)]
 pub struct SourceTable {
     table: SortedTable<Source, SourceEntry>,
 }

@@ -25,7 +25,7 @@ pub const SOURCE_PLACES: usize = 512;
 pub const COLLECTION_TIME: u64 = 18_000;
 
 /// What a source table keeps of a source: its feasibility distance, and when it may be collected.
-#[derive(Clone, Copy, Debug, PartialEq, Eq)]
+#[derive(Clone, Copy, PartialEq, Eq)]
 pub struct SourceEntry {
     /// The best distance of an update that was sent for the source.
     pub distance: Distance,
@@ -34,7 +34,7 @@ pub struct SourceEntry {
 }
 
 /// The source table: for each source its feasibility distance, in a table of the type `T`.
-#[derive(Debug, Drop)]
+#[derive(Drop)]
 pub struct SourcesOver<T: Table<Source, SourceEntry>> {
     table: T,
     /// No entry is due before this moment.

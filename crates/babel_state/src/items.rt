@@ -14,7 +14,7 @@ pub struct Target {
 
 /// Something that is queued. An item determines which message is sent, and has nothing that can change
 /// until it is: an Update's router-id, seqno and metric are read when the message is built.
-#[derive(Clone, Copy, Debug, PartialEq, Eq)]
+#[derive(Clone, Copy)]
 pub enum Item {
     /// A Hello to all on the interface (RFC 8966, section 3.4.1).
     Hello {
@@ -54,7 +54,7 @@ pub enum Item {
 }
 
 /// The message of an item at the moment at which it is sent.
-#[derive(Clone, Copy, Debug, PartialEq, Eq)]
+#[derive(Clone, Copy)]
 pub enum Outgoing {
     /// Nothing: what it was about is gone, or the interface can't carry it.
     Nothing,

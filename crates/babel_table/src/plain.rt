@@ -14,7 +14,7 @@ use std::sync::ledger::{Blank, Ledger};
 
 /// A table kept in the order in which its keys were first stored. A look-up compares the key with one
 /// after the other.
-#[derive(Debug, Drop)]
+#[derive(Drop)]
 pub struct PlainTable<K: Key, V: Copy> {
     entries: Vec<(K, V)>,
     places: usize,

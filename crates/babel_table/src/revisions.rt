@@ -8,7 +8,6 @@ use crate::Key;
 use crate::sequences::Sequence;
 
 /// What becomes of a value in a revision.
-#[derive(Clone, Copy, Debug, PartialEq, Eq)]
 pub enum Revised<V: Copy> {
     /// The value is as it was.
     Kept,

@@ -16,7 +16,7 @@ use std::marker::{Brand, PhantomData};
 use std::sync::ledger::{Blank, Ledger};
 
 /// A table kept in the order of its keys, in a sequence of the type `Q`. A look-up is a binary search.
-#[derive(Debug, Drop)]
+#[derive(Drop)]
 pub struct SortedTable<K: Key, V: Copy, Q: Sequence<K, V> = Vec<(K, V)>> {
     entries: Q,
     places: usize,

@@ -12,7 +12,7 @@ use std::marker::Model;
 /// An iterator over the TLVs of octets that a list of TLVs spells, in their order.
 ///
 /// A clause sees the list of the places that are left.
-#[derive(Debug, Drop)]
+#[derive(Drop)]
 pub struct Tlvs<'a> {
     walk: Walker<'a>,
 }

@@ -11,7 +11,7 @@ use std::marker::Model;
 /// [`Walker::fault`] returns that TLV.
 ///
 /// A clause sees the places that are ahead, the fault after them, and the end of the octets.
-#[derive(Debug, Drop)]
+#[derive(Drop)]
 pub struct Walker<'a> {
     bytes: &'a [u8],
     offset: usize,

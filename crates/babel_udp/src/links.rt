@@ -5,14 +5,14 @@ use babel_value::{Addr, Family};
 use std::alloc::{AllocError, Global};
 
 /// An interface: the IPv4 address over which it sends, if that is its transport, and its peers.
-#[derive(Debug, Drop)]
+#[derive(Drop)]
 pub(crate) struct Link {
     pub(crate) address: Option<[u8; 4]>,
     pub(crate) peers: Vec<Addr>,
 }
 
 /// What the sockets need of the interfaces of a configuration, by their numbers.
-#[derive(Debug, Drop)]
+#[derive(Drop)]
 pub struct Links {
     pub(crate) links: Vec<Link>,
 }

@@ -17,7 +17,7 @@ pub trait Receipts {
 }
 
 /// Sees nothing.
-#[derive(Clone, Copy, Debug, Default)]
+#[derive(Clone, Copy)]
 pub struct NoReceipts;
 
 impl Receipts for NoReceipts {}

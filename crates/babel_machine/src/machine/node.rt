@@ -8,7 +8,7 @@ use std::alloc::{AllocError, Global};
 use std::marker::Model;
 
 /// The pairs that the node ever sent for the source, none of them twice, and its pick.
-#[derive(Debug, Drop)]
+#[derive(Drop)]
 pub struct Node {
     sent: Vec<Pair>,
     pick: Option<Pick>,

@@ -5,7 +5,7 @@ ghost use Rattle.std.specs.Prelude.{◌≡◌, Some};
 use super::pair::Pair;
 
 /// What a node picked, and from which node.
-#[derive(Clone, Copy, Debug, PartialEq, Eq)]
+#[derive(Clone, Copy)]
 pub struct Pick {
     /// The node that sent the pair.
     pub from: usize,

@@ -11,7 +11,7 @@ use std::alloc::{AllocError, Global};
 use std::marker::Model;
 
 /// The machine of one source. The sources of a machine never touch one another.
-#[derive(Debug, Drop)]
+#[derive(Drop)]
 pub struct Source {
     owner: usize,
     raises: u64,

@@ -8,7 +8,7 @@ use crate::lines::parts::push_peer;
 use babel_value::{Line, Metric, Peer, Prefix, RouterId, Seqno};
 
 /// What is printed of a selected route.
-#[derive(Clone, Copy, Debug, PartialEq, Eq)]
+#[derive(Clone, Copy, PartialEq, Eq)]
 pub struct Choice {
     /// The neighbour that it leads over.
     pub peer: Peer,

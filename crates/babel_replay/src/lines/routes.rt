@@ -8,7 +8,7 @@ use crate::lines::parts::{push_distance, push_peer};
 use babel_value::{Distance, Line, Metric, Peer, Prefix, RouterId};
 
 /// Why a route is used or not, by the first of these that holds.
-#[derive(Clone, Copy, Debug, PartialEq, Eq)]
+#[derive(Clone, Copy, PartialEq, Eq)]
 pub enum RouteStatus {
     /// The speaker announces the prefix itself.
     Local,

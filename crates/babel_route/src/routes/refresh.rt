@@ -22,7 +22,7 @@ use babel_table::{Full, Key, Table, find_near, put_near, set_near};
 use babel_value::{Peer, Prefix, hold_time};
 
 /// What is done with an update that repeats its neighbour's entry.
-#[derive(Clone, Copy, Debug, PartialEq, Eq)]
+#[derive(Clone, Copy, PartialEq, Eq)]
 pub enum OnRepeat {
     /// The selection of its prefix is current, and only its deadline is set again.
     Refresh,

@@ -11,7 +11,7 @@ use std::marker::Model;
 ///
 /// A new one knows of none, so that the first turn of a process keeps before it sends. A file that
 /// was read may be one whose folder wasn't synced.
-#[derive(Debug, Drop)]
+#[derive(Drop)]
 pub struct Keeper {
     /// The count of the snapshot that was kept last. `None`: none was, or the last keep failed.
     version: Option<u64>,
