@@ -39,7 +39,7 @@ impl<'a> Costs for LinkCosts<'a> {
 }
 
 /// What a Hello, an IHU or a tick changed of all that selections depend on.
-#[derive(Clone, Copy, Debug, PartialEq, Eq)]
+#[derive(Clone, Copy)]
 pub enum LinkChange {
     /// Nothing.
     Nothing,
