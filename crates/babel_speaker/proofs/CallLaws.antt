@@ -1,5 +1,5 @@
--- What the laws of a state say of a call, by whether it is refused.
-use Rattle.std.specs.Prelude.{◌≡◌, ◌↔◌, ℕ, Bool, true, false, List, Option, Some, None, Result, Ok, Err, IsOk, IsErr, IsNone, IfOk, IfSome, OnOk, OnErr}
+-- What the laws of a state say of a call.
+use Rattle.std.specs.Prelude.{◌≡◌, ◌↔◌, ℕ, Bool, true, false, List, Option, Some, None, Result, Ok, Err, IsOk, IsErr, IsNone, IfSome}
 use Rattle.std.specs.Prelude.{IsSome}
 use Rattle.std.specs.Option.{option_and_then}
 use Rattle.std.proofs.Common.{refl, sym, subst, ◌∙◌}
@@ -22,36 +22,22 @@ use Rattle.babel_state.specs.State.{State, interface_at}
 use Rattle.babel_value.specs.Prefixes.{PrefixValue}
 use Rattle.babel_speaker.specs.Sending.{are_encodable, fits_by, HaveTransports, MeansFrom, draft_at}
 
--- ---- a call that isn't refused, or may be
+-- ---- a call that isn't refused
 
 -- a law of two states holds of states that are equal to them
 pub through : (R : State → State → Type 0) (old core new after : State) → core ≡ old → new ≡ after → R core after → R old new
 through R old core new after view is law = subst (λ o. R o new) view (subst (R core) (sym is) law)
 
-pub well_result : {T E : Type 0} (result : Result T E) (core new after : State) → OnOk result (new ≡ after) → OnErr result (new ≡ core) →
-    (IsOk result → IsWellFormed after) → IsWellFormed core → IsWellFormed new
-well_result (Ok x) core new after is same more well = subst IsWellFormed (sym is) (more refl)
-well_result (Err e) core new after is same more well = subst IsWellFormed (sym same) well
-
-pub through_ok : {T E : Type 0} (R : State → State → Type 0) (result : Result T E) (old core new after : State) → core ≡ old → OnOk result (new ≡ after) →
-    (IsOk result → R core after) → OnOk result (R old new)
-through_ok R (Ok x) old core new after view is law = through R old core new after view is (law refl)
-through_ok R (Err e) old core new after view is law = tt
-
 none_is : {X : Type 0} (m : Option X) → IsNone m → m ≡ None
 none_is None e = refl
 none_is (Some x) e = absurd (false≢true (sym e))
 
-pub free_if_ok : {T E X : Type 0} (result : Result T E) (m : Option X) → (IsOk result ↔ IsNone m) → IsOk result → m ≡ None
-free_if_ok result m iff ok = none_is m (iff.0 ok)
+pub free_if_ok : {T E X : Type 0} (result : Result T E) (x : T) (m : Option X) → (IsOk result ↔ IsNone m) → result ≡ Ok x → m ≡ None
+free_if_ok result x m iff is = none_is m (iff.0 (subst IsOk (sym is) refl))
 
-not_both : {T E : Type 0} (result : Result T E) → IsOk result → IsErr result → ⊥
-not_both (Ok x) ok err = false≢true err
-not_both (Err e) ok err = false≢true ok
-
-pub false_if_ok : {T E : Type 0} (result : Result T E) (b : Bool) → (IsErr result ↔ (b ≡ true)) → IsOk result → b ≡ false
-false_if_ok result true iff ok = absurd (not_both result ok (iff.1 refl))
-false_if_ok result false iff ok = refl
+pub false_if_ok : {T E : Type 0} (result : Result T E) (x : T) (b : Bool) → (IsErr result ↔ (b ≡ true)) → result ≡ Ok x → b ≡ false
+false_if_ok result x true iff is = absurd (false≢true (subst IsErr is (iff.1 refl)))
+false_if_ok result x false iff is = refl
 
 -- ---- a datagram that is received
 
@@ -67,16 +53,14 @@ pub can_decode : (placed : List Placed) → AreEncodable (messages_of placed) �
 unfolding placed_or
 can_decode placed encodable others is = subst (λ read. AreEncodable (messages_of (placed_or read placed))) is encodable
 
-pub received_well : {N E : Type 0} (result : Result N E) (items : N → List Note) (arrival : Arrival) (core new : State) →
-    PlacesMove → CanDecode arrival.read → IfOk result (λ n. Receives arrival core new (items n)) → OnErr result (new ≡ core) → IsWellFormed core → IsWellFormed new
-received_well (Ok n) items arrival core new law each r same well = subst IsWellFormed (sym r.3) (law arrival.now arrival.peer r.0 core (each r.0 r.2) well).0
-received_well (Err e) items arrival core new law each r same well = subst IsWellFormed (sym same) well
+pub received_well : (notes : List Note) (arrival : Arrival) (core new : State) → PlacesMove → CanDecode arrival.read → Receives arrival core new notes →
+    IsWellFormed core → IsWellFormed new
+received_well notes arrival core new law each r well = subst IsWellFormed (sym r.3) (law arrival.now arrival.peer r.0 core (each r.0 r.2) well).0
 
-pub received_moves : {N E : Type 0} (result : Result N E) (items : N → List Note) (arrival : Arrival) (old core new : State) →
-    PlacesMove → CanDecode arrival.read → core ≡ old → IfOk result (λ n. Receives arrival core new (items n)) → IsWellFormed core → OnOk result (MovesByDatagram arrival.peer arrival.read old new)
-received_moves (Ok n) items arrival old core new law each view r well =
+pub received_moves : (notes : List Note) (arrival : Arrival) (old core new : State) → PlacesMove → CanDecode arrival.read → core ≡ old →
+    Receives arrival core new notes → IsWellFormed core → MovesByDatagram arrival.peer arrival.read old new
+received_moves notes arrival old core new law each view r well =
     through (λ o t. MovesByDatagram arrival.peer arrival.read o t) old core new _ view r.3 (r.0, r.2, (law arrival.now arrival.peer r.0 core (each r.0 r.2) well).1)
-received_moves (Err e) items arrival old core new law each view r well = tt
 
 -- ---- a datagram that is sent
 
@@ -123,11 +107,10 @@ none_through result old core view well iff = subst (λ o. IsNone result ↔ (is_
 
 -- ---- current selections
 
-pub received_current : {N E : Type 0} (result : Result N E) (items : N → List Note) (arrival : Arrival) (old core new : State) →
-    PlacesKeepCurrent → core ≡ old → IfOk result (λ n. Receives arrival core new (items n)) → IsWellFormed core → OnOk result (KeepsCurrent old new)
-received_current (Ok n) items arrival old core new law view r well =
+pub received_current : (notes : List Note) (arrival : Arrival) (old core new : State) → PlacesKeepCurrent → core ≡ old → Receives arrival core new notes →
+    IsWellFormed core → KeepsCurrent old new
+received_current notes arrival old core new law view r well =
     through KeepsCurrent old core new _ view r.3 (law arrival.now arrival.peer r.0 core well.tables.routes.entries_in_order)
-received_current (Err e) items arrival old core new law view r well = tt
 
 abbrev IsKeptInHalf : State → State → Type 0
 IsKeptInHalf old new = (first : ℕ) (prefix : PrefixValue) → AreInHalf first prefix old → IsCurrentAt prefix old → IsCurrentAt prefix new

@@ -1,5 +1,5 @@
 -- The counts of changes.
-use Rattle.std.specs.Prelude.{◌≡◌, ◌≤◌, ◌<◌, ℕ, Bool, true, false, not, Result, Ok, Err, OnErr, IsTrue, IsFalse}
+use Rattle.std.specs.Prelude.{◌≡◌, ◌≤◌, ◌<◌, ℕ, Bool, true, false, IsFalse}
 use Rattle.std.proofs.Common.{refl, sym, ◌∙◌, ap, subst, arith, true≢false}
 use Rattle.babel_state.specs.KeptRoutes.{KeepsRoutes}
 use Rattle.babel_state.specs.Restarts.{snapshot_of}
@@ -57,17 +57,9 @@ add_up old mid new one two = record {
 pub state_of : (a b : SpeakerValue) → a ≡ b → a.state ≡ b.state
 state_of a b same = ap (λ (v : SpeakerValue). v.state) same
 
-pub err_state : {T E : Type 0} (result : Result T E) (a b : SpeakerValue) → OnErr result (a ≡ b) → OnErr result (a.state ≡ b.state)
-err_state (Ok x) a b same = tt
-err_state (Err e) a b same = state_of a b same
-
 -- What certainly changed isn't unchanged.
 pub never : {A : Type 0} → IsFalse true → A
 never is = absurd (true≢false is)
-
-pub unsettled : (b : Bool) → IsFalse (not b) → IsTrue b
-unsettled true is = refl
-unsettled false is = absurd (true≢false is)
 
 pub raised_routes : (s t : State) → t ≡ raised s → KeepsRoutes s t
 raised_routes s t is = subst (KeepsRoutes s) (sym is) (parts_routes s (raised s) (λ prefix. refl) refl)

@@ -1,13 +1,12 @@
 -- No pending item is no datagram.
-use Rattle.std.proofs.Common.{◌≡◌, ◌↔◌, ℕ, true, List, [], ◌∷◌, length, Option, IsNone, refl, subst}
+use Rattle.std.proofs.Common.{◌≡◌, ℕ, true, List, [], ◌∷◌, length, None, refl, sym, ap, subst}
 use Rattle.std.specs.List.{list_all}
 use Rattle.babel_state.specs.declared.items.Item.{Item}
 use Rattle.babel_state.specs.State.{State}
-use Rattle.babel_state.specs.NextDatagram.{Fits, drafted, next_datagram}
+use Rattle.babel_state.specs.NextDatagram.{Fits, Draft, drafted, next_datagram}
 use Rattle.babel_state.specs.OutgoingMessages.{outgoing}
 use Rattle.babel_state.specs.QueueLaws.{has_no_message, is_silent}
-use Rattle.babel_state.specs.declared.items.Target.{Target}
-use Rattle.babel_speaker.specs.Sending.{HaveTransports}
+use Rattle.babel_speaker.specs.Sending.{fits_by, draft_at}
 use Rattle.babel_speaker.specs.SentMessages.{no_draft}
 
 pub no_datagram : (now : ℕ) (fits : Fits) (s : State) → length s.pending.items ≡ 0 → next_datagram now fits s ≡ no_draft s
@@ -26,7 +25,13 @@ silent_if_empty s none = by s.pending.items none
     by [] none = refl
     by (x ∷ xs) none = cc
 
--- What holds of the core holds of what is seen of it.
-pub none_carried : (result : Option Target) (old core : State) → core ≡ old → (HaveTransports core → (IsNone result ↔ (is_silent core ≡ true))) →
-    HaveTransports old → (IsNone result ↔ (is_silent old ≡ true))
-none_carried result old core view iff = subst (λ s. HaveTransports s → (IsNone result ↔ (is_silent s ≡ true))) view iff
+-- ---- the same of what is seen of the core
+
+pub kept_state : (now : ℕ) (old core : State) → core ≡ old → length core.pending.items ≡ 0 → old ≡ (draft_at now old).state
+kept_state now old core view none = subst (λ o. o ≡ (draft_at now o).state) view (ap (λ (d : Draft). d.state) (sym (no_datagram now (fits_by core) core none)))
+
+pub no_target : (now : ℕ) (old core : State) → core ≡ old → length core.pending.items ≡ 0 → None ≡ (draft_at now old).target
+no_target now old core view none = subst (λ o. None ≡ (draft_at now o).target) view (ap (λ (d : Draft). d.target) (sym (no_datagram now (fits_by core) core none)))
+
+pub silent : (old core : State) → core ≡ old → length core.pending.items ≡ 0 → is_silent old ≡ true
+silent old core view none = subst (λ o. is_silent o ≡ true) view (silent_if_empty core none)

@@ -1,10 +1,10 @@
 -- What leaves the snapshot of a speaker as it is.
 use Rattle.std.specs.Prelude.{◌≡◌, ℕ, Bool, true, false, not, IsTrue, IsFalse, map}
 use Rattle.std.proofs.Common.{refl, sym, ◌∙◌, ap, true≢false}
-use Rattle.babel_state.specs.Restarts.{Snapshot, snapshot_of, kept_source}
+use Rattle.babel_state.specs.Restarts.{snapshot_of, kept_source}
 use Rattle.babel_state.specs.State.{State}
 use Rattle.babel_state.specs.StepLaws.{OwnValue, own_of}
-use Rattle.babel_state.specs.Ticks.{interfaces_ticked, requests_ticked, routes_selected, sources_ticked}
+use Rattle.babel_state.specs.Ticks.{interfaces_ticked, requests_ticked, routes_selected}
 use Rattle.babel_state.proofs.Keeping.{before_sources}
 
 -- ---- ticks

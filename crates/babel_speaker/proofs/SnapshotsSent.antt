@@ -1,5 +1,5 @@
 -- A message that changes no feasibility distance leaves the snapshot as it is.
-use Rattle.std.specs.Prelude.{◌≡◌, ℕ, Bool, true, false, cond, IsTrue, List, [], ◌∷◌, map, slice_set, Option, Some, None, T}
+use Rattle.std.specs.Prelude.{◌≡◌, ℕ, Bool, true, false, cond, IsTrue, [], ◌∷◌, map, slice_set, Option, Some, None, T}
 use Rattle.std.specs.Option.{option_map, option_map_or}
 use Rattle.std.specs.FinMap.{find, put, is_sorted}
 use Rattle.std.specs.FinMap.Entries.{by_order, same_entries, is_sorted-put, find-put}
@@ -9,19 +9,18 @@ use Rattle.std.specs.Ordering.{eq_by_cmp}
 use Rattle.std.proofs.Common.{refl, sym, ◌∙◌, ap, subst}
 use Rattle.babel_value.specs.declared.distances.Distance.{Distance}
 use Rattle.babel_value.specs.declared.keys.Source.{Source}
-use Rattle.babel_value.specs.Moments.{later}
 use Rattle.babel_value.specs.Orders.{source_cmp}
 use Rattle.babel_value.proofs.OrderLaws.{source_exact, source_total}
 use Rattle.babel_message.specs.declared.messages.Message.{Message}
 use Rattle.babel_message.specs.declared.messages.Message.TheVariants as messages
 use Rattle.babel_table.proofs.LookupLemmas.{equal}
 use Rattle.babel_sources.specs.declared.sources.SourceEntry.{SourceEntry}
-use Rattle.babel_sources.specs.Distances.{improves_on, better_pair}
+use Rattle.babel_sources.specs.Distances.{improves_on}
 use Rattle.babel_sources.specs.Sources.{Sources, pair_of, source_entry_after, lowered}
 use Rattle.babel_state.specs.declared.interfaces.InterfaceEntry.{InterfaceEntry}
 use Rattle.babel_state.specs.declared.items.Target.{Target}
 use Rattle.babel_state.specs.NextDatagram.{next_hello, after_message}
-use Rattle.babel_state.specs.Restarts.{Snapshot, kept_source, snapshot_of}
+use Rattle.babel_state.specs.Restarts.{kept_source, snapshot_of}
 use Rattle.babel_state.specs.State.{State, interface_at}
 use Rattle.babel_speaker.specs.SentMessages.{changes_a_pair}
 

@@ -1,5 +1,5 @@
 -- What a speaker reports of its tables (RFC 8966, section 3.2).
-use Rattle.std.specs.Prelude.{ℕ, List, map}
+use Rattle.std.specs.Prelude.{List, map}
 use Rattle.babel_value.specs.declared.keys.Peer.{Peer}
 use Rattle.babel_link.specs.declared.links.Link.{Link}
 use Rattle.babel_state.specs.State.{State, cost_at, rxcost_at}

@@ -30,21 +30,21 @@ impl Speaker {
     pub fn router_id(&self) -> RouterId
         ensures { result ≡ self.now.state.router }
     {
-        self.core.core.router
+        self.core.router
     }
 
     /// The own seqno (RFC 8966, section 3.2.2).
     pub fn seqno(&self) -> Seqno
         ensures { result ≡ self.now.state.seqno }
     {
-        self.core.core.seqno
+        self.core.seqno
     }
 
     /// The interface of the number, with its cost, its addresses and its timers (RFC 8966, section 3.2.3).
     pub fn interface(&self, iface: u8) -> Option<InterfaceEntry>
         ensures { result ≡ interface_at iface self.now.state }
     {
-        self.core.core.interfaces.get(iface)
+        self.core.interfaces.get(iface)
     }
 
     /// How many interfaces there are, at most 8. Their numbers begin at 0.
@@ -52,7 +52,7 @@ impl Speaker {
         ensures count { result ≡ length self.now.state.interfaces }
         ensures few { result ≤ most_interfaces }
     {
-        self.core.core.interfaces.len()
+        self.core.interfaces.len()
     }
 
     /// The neighbour that exactly `place` others come before (RFC 8966, section 3.2.4).
@@ -60,7 +60,7 @@ impl Speaker {
     pub fn neighbour(&self, place: usize) -> Option<Neighbour>
         ensures { result ≡ slice_get (reported_neighbours self.now.state) place }
     {
-        let core = &self.core.core;
+        let core = &self.core;
         let (peer, link) = *core.neighbours.as_slice().get(place)?;
         Some(Neighbour {
             peer,
@@ -75,14 +75,14 @@ impl Speaker {
         ensures count { result ≡ length self.now.state.neighbours }
         ensures few { result ≤ max_neighbours }
     {
-        self.core.core.neighbours.as_slice().len()
+        self.core.neighbours.as_slice().len()
     }
 
     /// The prefixes that the speaker announces itself, at most 64, in ascending order.
     pub fn prefixes(&self) -> Prefixes<'_>
         ensures { result ≡ prefixes_in self.now.state.announced }
     {
-        self.core.core.announced.prefixes()
+        self.core.announced.prefixes()
     }
 
     /// The pending request for a seqno whose source exactly `place` others come before (RFC 8966, section
@@ -90,7 +90,7 @@ impl Speaker {
     pub fn request(&self, place: usize) -> Option<(Source, PendingRequest)>
         ensures { result ≡ slice_get self.now.state.requests place }
     {
-        self.core.core.requests.at(place)
+        self.core.requests.at(place)
     }
 
     /// How many requests for a seqno are pending, at most 64.
@@ -98,6 +98,6 @@ impl Speaker {
         ensures count { result ≡ length self.now.state.requests }
         ensures few { result ≤ most_requests }
     {
-        self.core.core.requests.len()
+        self.core.requests.len()
     }
 }

@@ -1,7 +1,7 @@
 //! A speaker of the Babel routing protocol (RFC 8966). The definitions of its state and of its steps are those of
 //! `babel_state`.
 //!
-//! - `speaker`: the calls. `settled` is the state with the `hints`, which only speed it up; `inspecting` is what the calls report.
+//! - `speaker`: the calls, over the state and the `hints`, which only speed it up; `inspecting` is what the calls report.
 //! - `input`: datagrams, their messages, and the steps that each message makes.
 //! - `ticks`: what is due at a moment, and when the next thing is.
 //! - `output`: pending items, the messages that they mean, and the next datagram.
@@ -17,7 +17,6 @@ mod inspecting;
 pub mod laws;
 pub mod limits;
 mod output;
-mod settled;
 mod speaker;
 mod state;
 mod tables;

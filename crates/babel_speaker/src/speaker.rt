@@ -8,6 +8,7 @@ ghost use Rattle.babel_state.specs.Addresses.{transport_at};
 ghost use Rattle.babel_state.specs.Calls.{set_cost_fault, cost_set, first_state, is_prefix_too_many, announced_also, withdrawn, selected_route, reported_entries};
 ghost use Rattle.babel_state.specs.Configs.{config_fault};
 ghost use Rattle.babel_state.specs.Limits.{most_pending};
+ghost use Rattle.babel_state.specs.Invariants.{IsWellFormed};
 ghost use Rattle.babel_state.specs.KeptRoutes.{KeepsRoutes};
 ghost use Rattle.babel_state.specs.Messages.{arrival_of, Receives, IsRecvFault};
 ghost use Rattle.babel_state.specs.CurrentSelections.{AreCurrent, AreInHalf, IsCurrentAt, KeepsCurrent, KeepsSelections};
@@ -29,8 +30,14 @@ ghost use Rattle.babel_speaker.specs.Sending.{IsBuiltFrom, MeansFrom, draft_at};
 ghost use Rattle.babel_speaker.specs.Versions.{CountsChanges};
 
 use crate::decoded::{Decoded, decoded_are_encodable, is_encodable_again};
+use crate::hints::Hints;
+use crate::input::receiving::{receive, receive_decoded};
 use crate::input::records::Arrival;
-use crate::settled::SettledCore;
+use crate::output::datagrams::next_datagram;
+use crate::state::Core;
+use crate::state::making::make;
+use crate::state::restarts::restore;
+use crate::versions::{counted, has_grown, own_seqno};
 use arrayvec::ArrayVec;
 use babel_build::Builder;
 use babel_choice::{Entry, Selection};
@@ -54,11 +61,15 @@ use std::marker::Model;
 /// the snapshot to a disk, does so again only if the count is another, or `u64::MAX`.
 ///
 /// Its state is well formed: tables are in order and within their room, costs are positive, and each
-/// selected route is an entry of the route table and a candidate.
+/// selected route is an entry of the route table and a candidate. If it is settled, each of its selections is current:
+/// Hellos and IHUs that change no cost, and ticks in which no deadline is due, then select no route again.
 #[derive(Drop)]
 pub struct Speaker {
     alloc: Global,
-    pub(crate) core: SettledCore,
+    pub(crate) core: Core,
+    hints: Hints,
+    routes: u64,
+    snapshot: u64,
     // Each datagram is built here, so that its room isn't moved.
     builder: Builder,
 }
@@ -68,11 +79,13 @@ impl Model for Speaker {
 
     ghost Value = { SpeakerValue };
 
-    ghost view = { λ s. s.core };
+    ghost view = { λ s. record { state = s.core; routes_version = s.routes; snapshot_version = s.snapshot } };
 
+    ghost use Rattle.std.specs.Prelude.{IsTrue};
+    ghost use Rattle.babel_state.specs.CurrentSelections.{AreCurrent};
     ghost use Rattle.babel_state.specs.Invariants.{IsWellFormed};
 
-    ghost invariant = { λ s. IsWellFormed s.core.state };
+    ghost invariant = { λ s. (IsWellFormed s.core) × (IsTrue s.hints.settled → AreCurrent s.core) };
 }
 
 impl Speaker {
@@ -110,13 +123,13 @@ impl Speaker {
         selected_routes_are_good();
         let seqno = config.seqno;
         seqno_fits(seqno);
-        match SettledCore::new(alloc, config) {
-            Ok(core) => Ok(Speaker {
-                alloc,
-                core,
-                builder: Builder::new(Addr::default()),
-            }),
-            Err(fault) => Err(fault),
+        let core = match make(alloc, config) {
+            Ok(core) => core,
+            Err(fault) => return Err(fault),
+        };
+        match Speaker::over(alloc, core) {
+            Ok(speaker) => Ok(speaker),
+            Err(_) => Err(ConfigFault::Memory),
         }
     }
 
@@ -130,7 +143,7 @@ impl Speaker {
         ensures ok { IfOk result (λ octets. octets.items ≡ snapshot_octets (snapshot_of self.now.state)) }
         ensures restorable { IfOk result (λ octets. IsRead self.now.state.router octets.items (snapshot_of self.now.state)) }
     {
-        let octets = crate::state::restarts::save(&self.core.core, self.alloc)?;
+        let octets = crate::state::restarts::save(&self.core, self.alloc)?;
         Ok(octets)
     }
 
@@ -179,10 +192,29 @@ impl Speaker {
         ensures current { IfOk result (λ speaker. AreCurrent speaker.state) }
     {
         restarts_are_seen();
-        match SettledCore::restore(alloc, config, now, octets) {
-            Ok(core) => Ok(Speaker {
+        let core = match restore(alloc, config, now, octets) {
+            Ok(core) => core,
+            Err(fault) => return Err(fault),
+        };
+        match Speaker::over(alloc, core) {
+            Ok(speaker) => Ok(speaker),
+            Err(_) => Err(RestoreFault::Config(ConfigFault::Memory)),
+        }
+    }
+
+    /// A speaker in a state that is well formed. It isn't known to be settled.
+    fn over(alloc: Global, core: Core) -> Result<Speaker, Memory>
+        requires well_formed { IsWellFormed core }
+        ensures state { IfOk result (λ speaker. speaker.state ≡ core) }
+        ensures counts { IfOk result (λ speaker. (speaker.routes_version ≡ 0) × (speaker.snapshot_version ≡ 0)) }
+    {
+        match Hints::new(alloc) {
+            Ok(hints) => Ok(Speaker {
                 alloc,
                 core,
+                hints,
+                routes: 0,
+                snapshot: 0,
                 builder: Builder::new(Addr::default()),
             }),
             Err(fault) => Err(fault),
@@ -212,7 +244,16 @@ impl Speaker {
         let alloc = self.alloc;
         let addr = source;
         let peer = Peer { iface, addr };
-        self.core.receive(alloc, Arrival { now, peer }, octets)
+        let arrival = Arrival { now, peer };
+        let (seqno, raises) = own_seqno(&self.core);
+        self.hints.changed = false;
+        let notes = match receive(&mut self.core, alloc, arrival, octets, &mut self.hints) {
+            Ok(notes) => notes,
+            Err(fault) => return Err(fault),
+        };
+        self.routes = counted(self.routes, self.hints.changed);
+        self.snapshot = counted(self.snapshot, has_grown(&self.core, seqno, raises));
+        Ok(notes)
     }
 
     /// The same for a datagram that is decoded already.
@@ -238,8 +279,17 @@ impl Speaker {
             iface,
             addr: source,
         };
-        self.core
-            .receive_decoded(alloc, Arrival { now, peer }, decoded.placed())
+        let arrival = Arrival { now, peer };
+        let placed = decoded.placed();
+        let (seqno, raises) = own_seqno(&self.core);
+        self.hints.changed = false;
+        let notes = match receive_decoded(&mut self.core, alloc, arrival, placed, &mut self.hints) {
+            Ok(notes) => notes,
+            Err(fault) => return Err(fault),
+        };
+        self.routes = counted(self.routes, self.hints.changed);
+        self.snapshot = counted(self.snapshot, has_grown(&self.core, seqno, raises));
+        Ok(notes)
     }
 
     /// Takes all deadlines that are due (RFC 8966, sections 3.2.5, 3.4, 3.5.4, 3.7.1 and 3.8.2.1).
@@ -252,7 +302,11 @@ impl Speaker {
         states_are_well_formed();
         calls_move();
         selections_are_current();
-        self.core.tick(now);
+        self.core.tick(now, &mut self.hints);
+        // The snapshot changes only if a source is collected, and then the speaker isn't settled.
+        let (changed, settled) = (self.hints.changed, self.hints.settled);
+        self.routes = counted(self.routes, changed);
+        self.snapshot = counted(self.snapshot, !settled);
     }
 
     /// The moment before which a tick changes nothing: until then a caller need only wait for datagrams.
@@ -269,7 +323,7 @@ impl Speaker {
         ensures current { 0 < result → AreCurrent self.now.state }
         ensures deadline { self.now.state.pending.items ≡ [] → AreCurrent self.now.state → result ≡ next_deadline self.now.state }
     {
-        self.core.next_due()
+        crate::ticks::deadlines::next_due(&self.core, &self.hints)
     }
 
     /// Raises the speaker's own seqno by 1 (RFC 8966, section 3.2.2). Nothing is queued.
@@ -282,7 +336,9 @@ impl Speaker {
         states_are_well_formed();
         calls_move();
         selections_stay_current();
+        self.hints.settled = false;
         self.core.raise();
+        self.snapshot = counted(self.snapshot, true);
     }
 
     /// Sets the nominal cost of an interface (RFC 8966, appendix A.2.1): E1 or E2 is the first cause.
@@ -298,7 +354,14 @@ impl Speaker {
         states_are_well_formed();
         calls_move();
         selections_stay_current();
-        self.core.set_cost(iface, cost)
+        self.hints.settled = false;
+        match crate::state::settings::set_cost(&mut self.core, iface, cost) {
+            Ok(()) => {
+                self.routes = counted(self.routes, true);
+                Ok(())
+            }
+            Err(fault) => Err(fault),
+        }
     }
 
     /// Announces a prefix (RFC 8966, section 3.7): E3 if and only if it is new and 64 others are
@@ -314,7 +377,14 @@ impl Speaker {
         states_are_well_formed();
         calls_move();
         selections_stay_current();
-        self.core.announce(&prefix)
+        self.hints.settled = false;
+        match crate::state::settings::announce(&mut self.core, &prefix) {
+            Ok(()) => {
+                self.routes = counted(self.routes, true);
+                Ok(())
+            }
+            Err(fault) => Err(fault),
+        }
     }
 
     /// Announces a prefix no longer: E4 if and only if it isn't announced.
@@ -329,7 +399,14 @@ impl Speaker {
         states_are_well_formed();
         calls_move();
         selections_stay_current();
-        self.core.withdraw(&prefix)
+        self.hints.settled = false;
+        match crate::state::settings::withdraw(&mut self.core, &prefix) {
+            Ok(()) => {
+                self.routes = counted(self.routes, true);
+                Ok(())
+            }
+            Err(fault) => Err(fault),
+        }
     }
 
     /// Takes the next datagram from the pending items: its octets are written to `out`, in place of
@@ -357,7 +434,17 @@ impl Speaker {
         datagrams_send();
         selections_stay_current();
         items_mean_messages();
-        self.core.next_datagram(now, out, &mut self.builder)
+        let pending = self.core.pending_count();
+        if pending == 0 {
+            out.clear();
+            return None;
+        }
+        self.hints.lowered = false;
+        let (builder, hints) = (&mut self.builder, &mut self.hints);
+        let target = next_datagram(&mut self.core, now, out, builder, hints);
+        let lowered = self.hints.lowered;
+        self.snapshot = counted(self.snapshot, lowered);
+        target
     }
 
     /// The selected route of the prefix, with its metric by the present cost of the link (RFC 8966,
@@ -365,7 +452,7 @@ impl Speaker {
     pub fn selected(&self, prefix: &Prefix) -> Option<Selected>
         ensures { result ≡ selected_route prefix.now self.now.state }
     {
-        crate::state::settings::selected_route(&self.core.core, prefix)
+        crate::state::settings::selected_route(&self.core, prefix)
     }
 
     /// The same as `selected`, in fewer steps if the prefixes that are asked for rise. The search begins at the index
@@ -375,21 +462,21 @@ impl Speaker {
     pub fn selected_near(&self, prefix: &Prefix, near: &mut usize) -> Option<Selected>
         ensures { result ≡ selected_route prefix.now self.now.state }
     {
-        crate::state::settings::selected_route_near(&self.core.core, prefix, near)
+        crate::state::settings::selected_route_near(&self.core, prefix, near)
     }
 
     /// The selection whose prefix has exactly `place` lesser ones among the selections' prefixes.
     pub fn selection_at(&self, place: usize) -> Option<(Prefix, Selection)>
         ensures { result ≡ slice_get self.now.state.routes.selections place }
     {
-        self.core.core.selection_at(place)
+        self.core.routes.selection_at(place)
     }
 
     /// The cost of the link to a neighbour, as of now: infinite if it is none (RFC 8966, section 3.4.3).
     pub fn cost(&self, peer: &Peer) -> Metric
         ensures { result ≡ cost_at self.now.state peer.now }
     {
-        self.core.core.cost(peer)
+        self.core.cost(peer)
     }
 
     /// The least prefix greater than the one given that has an entry in the route table, or a selected
@@ -397,14 +484,14 @@ impl Speaker {
     pub fn next_prefix(&self, after: Option<&Prefix>) -> Option<Prefix>
         ensures { result ≡ prefix_after (option_map (λ prefix. prefix.now) after.entry) self.now.state.routes }
     {
-        self.core.core.next_prefix(after)
+        self.core.routes.next_prefix(after)
     }
 
     /// The feasibility distance of a source, if it has one (RFC 8966, section 3.2.5).
     pub fn source(&self, source: &Source) -> Option<Distance>
         ensures { result ≡ pair_at source.now.prefix source.now.router self.now.state }
     {
-        self.core.core.pair(source)
+        self.core.pair(source)
     }
 
     /// The entry of the prefix that exactly `index` others come before, with its neighbour and the cost
@@ -412,21 +499,21 @@ impl Speaker {
     pub fn entry(&self, prefix: &Prefix, index: usize) -> Option<(Peer, Entry, Metric)>
         ensures { result ≡ slice_get (reported_entries prefix.now self.now.state) index }
     {
-        crate::state::settings::reported_entry(&self.core.core, prefix, index)
+        crate::state::settings::reported_entry(&self.core, prefix, index)
     }
 
     /// Whether the speaker announces the prefix itself.
     pub fn announced(&self, prefix: &Prefix) -> bool
         ensures { result ≡ announces prefix.now self.now.state }
     {
-        self.core.core.announces(prefix)
+        self.core.announces(prefix)
     }
 
     /// The own address from which datagrams of the interface are sent, if the interface exists.
     pub fn transport(&self, iface: u8) -> Option<Addr>
         ensures { result ≡ transport_at iface self.now.state }
     {
-        crate::output::items::transport(&self.core.core, iface)
+        crate::output::items::transport(&self.core, iface)
     }
 
     /// A count that grows whenever a selected route may be reported otherwise. As long as it is the same, and below
@@ -435,7 +522,7 @@ impl Speaker {
     pub fn routes_version(&self) -> u64
         ensures { result ≡ self.now.routes_version }
     {
-        self.core.routes.count()
+        self.routes
     }
 
     /// A count that grows whenever what [`Speaker::save`] keeps may have changed. As long as it is the same, and below
@@ -444,14 +531,14 @@ impl Speaker {
     pub fn snapshot_version(&self) -> u64
         ensures { result ≡ self.now.snapshot_version }
     {
-        self.core.snapshot.count()
+        self.snapshot
     }
 
     /// How often the speaker's own seqno grew.
     pub fn raises(&self) -> u64
         ensures { result ≡ self.now.state.raises }
     {
-        self.core.core.raises()
+        self.core.raises
     }
 
     /// How many items are pending, at most 4,096.
@@ -459,28 +546,28 @@ impl Speaker {
         ensures count { result ≡ length self.now.state.pending.items }
         ensures few { result ≤ most_pending }
     {
-        self.core.core.pending_count()
+        self.core.pending_count()
     }
 
     /// How many entries the route table has.
     pub fn route_count(&self) -> usize
         ensures { result ≡ length self.now.state.routes.entries }
     {
-        self.core.core.route_count()
+        self.core.routes.len()
     }
 
     /// How many pending items were dropped since there was no room.
     pub fn dropped(&self) -> u64
         ensures { result ≡ self.now.state.pending.dropped }
     {
-        self.core.core.dropped()
+        self.core.pending.dropped()
     }
 
     /// How many Updates were left out since the source table had no room.
     pub fn left_out(&self) -> u64
         ensures { result ≡ self.now.state.left_out }
     {
-        self.core.core.left_out()
+        self.core.left_out
     }
 }
 

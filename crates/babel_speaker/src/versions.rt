@@ -5,56 +5,26 @@ ghost use Rattle.babel_speaker.specs.Versions.{greatest_version};
 
 use crate::state::Core;
 use babel_value::Seqno;
-use std::marker::Model;
 
-/// How often something may have changed. It stops at the greatest number of 64 bits, and from there on it shows no change.
-#[derive(Drop)]
-pub(crate) struct Version {
-    count: u64,
-}
-
-impl Model for Version {
-    ghost use Rattle.std.specs.Prelude.{ℕ};
-
-    ghost Value = { ℕ };
-
-    ghost view = { λ v. v.count };
-}
-
-impl Version {
-    /// Nothing has changed yet.
-    pub(crate) fn first() -> Version
-        ensures { result ≡ 0 }
-    {
-        Version { count: 0 }
-    }
-
-    /// Counts a change, if there may be one.
-    pub(crate) fn note(&mut self, changed: bool)
-        ensures grows { self.old ≤ self.new }
-        ensures counted { self.new ≡ self.old → self.new < greatest_version → IsFalse changed }
-    {
-        let count = self.count;
-        self.count = if changed {
-            count.saturating_add(1)
-        } else {
-            count
-        };
-    }
-
-    /// The count.
-    pub(crate) fn count(&self) -> u64
-        ensures { result ≡ self.now }
-    {
-        self.count
-    }
-}
-
-/// The own seqno.
-pub(crate) fn own_seqno(core: &Core) -> Seqno
-    ensures { result ≡ core.now.seqno }
+/// The count of what may have changed, one greater if there may be a change. It stops at the greatest number of 64 bits, and
+/// from there on it shows no change.
+pub(crate) fn counted(count: u64, changed: bool) -> u64
+    ensures grows { count ≤ result }
+    ensures counted { result ≡ count → result < greatest_version → IsFalse changed }
 {
-    core.seqno
+    if changed {
+        count.saturating_add(1)
+    } else {
+        count
+    }
+}
+
+/// The own seqno, and how often that grew.
+pub(crate) fn own_seqno(core: &Core) -> (Seqno, u64)
+    ensures seqno { result.0 ≡ core.now.seqno }
+    ensures raises { result.1 ≡ core.now.raises }
+{
+    (core.seqno, core.raises)
 }
 
 /// Whether the own seqno, or how often that grew, is another than this.

@@ -24,11 +24,21 @@ fn first(alloc: Global, router: RouterId, config: &Config) -> Option<Core>
 {
     let announced = first_announced(alloc, config)?;
     let interfaces = first_interfaces(alloc, config)?;
-    let neighbours = Neighbours::new(alloc).ok()?;
-    let sources = Sources::new(alloc).ok()?;
-    let routes = Routes::new(alloc).ok()?;
-    let requests = RequestTable::new(alloc).ok()?;
-    let pending = PendingItems::new(alloc).ok()?;
+    let Ok(neighbours) = Neighbours::new(alloc) else {
+        return None;
+    };
+    let Ok(sources) = Sources::new(alloc) else {
+        return None;
+    };
+    let Ok(routes) = Routes::new(alloc) else {
+        return None;
+    };
+    let Ok(requests) = RequestTable::new(alloc) else {
+        return None;
+    };
+    let Ok(pending) = PendingItems::new(alloc) else {
+        return None;
+    };
     Some(Core {
         router,
         collects: config.collect,

@@ -3,7 +3,7 @@
 ghost use Rattle.std.specs.Prelude.{◌≡◌};
 
 use crate::tables::{Announced, Interfaces, PendingItems, RequestTable};
-use babel_choice::{Cursor, Entry, Origin, Selection};
+use babel_choice::{Cursor, Origin, Selection};
 use babel_link::Neighbours;
 use babel_route::Routes;
 use babel_sources::Sources;
@@ -62,11 +62,10 @@ impl Model for Core {
 }
 
 impl Core {
-    ghost use Rattle.std.specs.Prelude.{◌≡◌, ◌≤◌, length, slice_get, option_map};
+    ghost use Rattle.std.specs.Prelude.{◌≡◌, ◌≤◌, length};
     ghost use Rattle.babel_choice.specs.Origins.{is_own};
-    ghost use Rattle.babel_route.specs.Selections.{prefix_after};
     ghost use Rattle.babel_state.specs.Limits.{most_pending};
-    ghost use Rattle.babel_state.specs.State.{interface_at, announces, is_neighbour, cost_at, rxcost_at, pair_at, entry_at, selected_at};
+    ghost use Rattle.babel_state.specs.State.{interface_at, announces, is_neighbour, cost_at, rxcost_at, pair_at, selected_at};
     ghost use Rattle.babel_state.specs.CurrentSelections.{AreRoutesInOrder};
     ghost use Rattle.babel_value.specs.declared.keys.Peer.{Peer};
 
@@ -128,13 +127,6 @@ impl Core {
         self.sources.pair(source)
     }
 
-    /// The neighbour's entry for the prefix.
-    pub(crate) fn entry(&self, prefix: &Prefix, peer: &Peer) -> Option<Entry>
-        ensures { result ≡ entry_at prefix.now peer.now self.now }
-    {
-        self.routes.entry(prefix, peer)
-    }
-
     /// The selected route of the prefix, as its last reselection left it (RFC 8966, section 3.6).
     pub fn selected(&self, prefix: &Prefix) -> Option<Selection>
         ensures { result ≡ selected_at prefix.now self.now }
@@ -158,54 +150,11 @@ impl Core {
         selection
     }
 
-    /// The selection whose prefix has exactly `place` lesser ones among the selections' prefixes.
-    pub fn selection_at(&self, place: usize) -> Option<(Prefix, Selection)>
-        ensures { result ≡ slice_get self.now.routes.selections place }
-    {
-        self.routes.selection_at(place)
-    }
-
-    /// The least prefix greater than the one given that has an entry in the route table, or a selected
-    /// route. With none given, the least of all.
-    pub fn next_prefix(&self, after: Option<&Prefix>) -> Option<Prefix>
-        ensures { result ≡ prefix_after (option_map (λ prefix. prefix.now) after.entry) self.now.routes }
-    {
-        self.routes.next_prefix(after)
-    }
-
-    /// How often the speaker's own seqno grew.
-    pub fn raises(&self) -> u64
-        ensures { result ≡ self.now.raises }
-    {
-        self.raises
-    }
-
     /// How many items are pending, at most 4,096.
     pub fn pending_count(&self) -> usize
         ensures count { result ≡ length self.now.pending.items }
         ensures few { result ≤ most_pending }
     {
         self.pending.len()
-    }
-
-    /// How many entries the route table has.
-    pub fn route_count(&self) -> usize
-        ensures { result ≡ length self.now.routes.entries }
-    {
-        self.routes.len()
-    }
-
-    /// How many pending items were dropped since there was no room.
-    pub fn dropped(&self) -> u64
-        ensures { result ≡ self.now.pending.dropped }
-    {
-        self.pending.dropped()
-    }
-
-    /// How many Updates were left out since the source table had no room.
-    pub fn left_out(&self) -> u64
-        ensures { result ≡ self.now.left_out }
-    {
-        self.left_out
     }
 }

@@ -56,7 +56,9 @@ pub fn first_interfaces(alloc: Global, config: &Config) -> Option<Interfaces>
     requires { IsNone (config_fault config.now) }
     ensures { IfSome result (λ interfaces. interfaces ≡ map new_interface config.now.interfaces.items) }
 {
-    let mut entries = Vec::with_capacity(alloc, config.interfaces.len()).ok()?;
+    let Ok(mut entries) = Vec::with_capacity(alloc, config.interfaces.len()) else {
+        return None;
+    };
     push_interfaces(&mut entries, &config.interfaces);
     Some(Interfaces::new(entries))
 }
@@ -94,7 +96,9 @@ pub fn first_announced(alloc: Global, config: &Config) -> Option<Announced>
     requires { IsNone (config_fault config.now) }
     ensures { IfSome result (λ announced. announced ≡ gathered config.now.prefixes.items []) }
 {
-    let mut announced = Announced::new(alloc).ok()?;
+    let Ok(mut announced) = Announced::new(alloc) else {
+        return None;
+    };
     insert_prefixes(&mut announced, &config.prefixes);
     Some(announced)
 }

@@ -2,7 +2,6 @@
 use Rattle.std.proofs.Common.{◌≡◌, sym, ◌∙◌, ap, subst}
 use Rattle.babel_speaker.specs.SentMessages.{without_front}
 use Rattle.babel_state.specs.CurrentSelections.{AreCurrent}
-use Rattle.babel_state.specs.NextDatagram.{left_out_more}
 use Rattle.babel_state.specs.State.{State}
 use Rattle.babel_speaker.specs.Sending.{IsSkipped}
 use Rattle.babel_speaker.specs.Versions.{KeepsSnapshot}

@@ -9,7 +9,9 @@ none_of : (fault : Option ConfigFault) → is_some fault ≡ false → fault ≡
 none_of None none = refl
 none_of (Some fault) none = cc
 
-pub invariant_of-result : goal.invariant_of-result
-invariant_of-result c =
-    subst IsWellFormed (sym c.in-Ok.ensures.ok)
-    (c.states_are_well_formed.ensures.new c.args.config.now c.seqno_fits.ensures (none_of (config_fault c.args.config.now) (c.in-Ok.ensures.valid refl)))
+pub over-requires : goal.over-requires
+over-requires c = record {
+  well_formed =
+      subst IsWellFormed (sym c.in-Ok.ensures.ok)
+      (c.states_are_well_formed.ensures.new c.args.config.now c.seqno_fits.ensures (none_of (config_fault c.args.config.now) (c.in-Ok.ensures.valid refl)));
+}

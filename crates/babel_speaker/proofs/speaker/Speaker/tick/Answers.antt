@@ -9,10 +9,10 @@ use Rattle.babel_speaker.proofs.speaker.Speaker.tick.Goals as goal
 
 pub returns-clause-moves : goal.returns-clause-moves
 returns-clause-moves c =
-    through (λ o t. MovesAlone 0 (seen o).announces o t) c.args.self.now.state c.self.inside.core.state c.tick.new.self.state _ (state_of _ _ c.self.view_is) c.tick.ensures.state
-    (c.calls_move.ensures.tick c.args.now c.self.inside.core.state c.self.invariant)
+    through (λ o t. MovesAlone 0 (seen o).announces o t) c.args.self.now.state c.self.inside.core c.tick.new.self _ (state_of _ _ c.self.view_is) c.tick.ensures.state
+    (c.calls_move.ensures.tick c.args.now c.self.inside.core c.self.invariant.0)
 
 pub returns-clause-current : goal.returns-clause-current
 returns-clause-current c =
-    through (λ (o t : State). o.collects ≡ false → AreCurrent t) c.args.self.now.state c.self.inside.core.state c.tick.new.self.state _ (state_of _ _ c.self.view_is) c.tick.ensures.state
-    (λ off. c.selections_are_current.ensures.tick c.args.now c.self.inside.core.state off c.self.invariant.tables.routes.entries_in_order)
+    through (λ (o t : State). o.collects ≡ false → AreCurrent t) c.args.self.now.state c.self.inside.core c.tick.new.self _ (state_of _ _ c.self.view_is) c.tick.ensures.state
+    (λ off. c.selections_are_current.ensures.tick c.args.now c.self.inside.core off c.self.invariant.0.tables.routes.entries_in_order)
