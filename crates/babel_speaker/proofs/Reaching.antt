@@ -1,5 +1,5 @@
 -- The next of the prefixes that are announced or selected.
-use Rattle.std.proofs.Common.{◌≡◌, ℕ, ◌+◌, zero, suc, Bool, true, List, [], ◌∷◌, ◌++◌, map, drop, slice_get, option_map, Option, Some, None, refl, sym, ap, subst, ◌∙◌}
+use Rattle.std.proofs.Common.{◌≡◌, ℕ, ◌+◌, ◌≤◌, zero, suc, Bool, true, List, [], ◌∷◌, ◌++◌, map, drop, length, slice_get, option_map, Option, Some, None, refl, sym, ap, subst, ◌∙◌, arith}
 use Rattle.std.specs.Prelude.{⊤}
 use Rattle.std.specs.List.{list_all}
 use Rattle.std.specs.declared.cmp.Ordering.{Ordering}
@@ -8,6 +8,7 @@ use Rattle.std.specs.Ordering.{is_lt, ordering_reverse}
 use Rattle.std.specs.FinMap.{put, is_sorted}
 use Rattle.std.specs.FinMap.Entries.{by_order}
 use Rattle.std.proofs.lemmas.Bool.{and_parts, and_from}
+use Rattle.std.proofs.lemmas.List.{length-map}
 use Rattle.babel_value.specs.Orders.{prefix_cmp}
 use Rattle.babel_value.specs.Prefixes.{PrefixValue}
 use Rattle.babel_value.proofs.OrderLaws.{prefix_total, prefix_exact}
@@ -115,6 +116,44 @@ none_at es i is = by (slice_get es i) is
     by None is = refl
     by (Some e) is = cc
 
+-- With no announced prefix they are those of the selections.
+only_selections : (es : Selections) → is_sorted prefix_cmp es ≡ true → reachable_of [] es ≡ map (λ e. e.0) es
+only_selections [] h = refl
+only_selections (e ∷ es) h =
+    ap prefixes_in (selected_first e.0 [] (map (λ e. e.0) es) refl (after_keys e.0 es (others_greater prefix_cmp e es h)))
+    ∙ ap (λ ps. e.0 ∷ ps) (only_selections es (tail_sorted prefix_cmp e es h))
+
+-- They are no fewer than the selections.
+after_first : (f : PrefixValue × Selection) (s : Selections) → is_sorted prefix_cmp (f ∷ s) ≡ true → are_after f.0 (map (λ e. e.0) s) ≡ true
+after_first f s h = after_keys f.0 s (others_greater prefix_cmp f s h)
+
+after_lesser : (p : PrefixValue) (f : PrefixValue × Selection) (s : Selections) → is_sorted prefix_cmp (f ∷ s) ≡ true → prefix_cmp f.0 p ≡ Greater → are_after p (map (λ e. e.0) s) ≡ true
+after_lesser p f s h later =
+    let greater = greater_from prefix_cmp prefix_total p (f ∷ s) 0 f h refl (turned_back prefix_total f.0 p later) in
+    after_keys p s (and_parts (is_lt (prefix_cmp p f.0)) (are_greater prefix_cmp p s) greater).1
+
+no_fewer_put : (f : PrefixValue × Selection) (s : Selections) (e : PrefixValue × ⊤) (es : PrefixSet) (o : Ordering) → is_sorted prefix_cmp (f ∷ s) ≡ true → prefix_cmp f.0 e.0 ≡ o →
+    length s ≤ length (gathered (map (λ e. e.0) s) (e ∷ es)) →
+    length s ≤ length (gathered (map (λ e. e.0) s) es) →
+    length s + 1 ≤ length (gathered (map (λ e. e.0) s) (put prefix_cmp f.0 tt es)) →
+    length s + 1 ≤ length (gathered (map (λ e. e.0) s) (by_order o ((f.0, tt) ∷ e ∷ es) ((e.0, tt) ∷ es) (e ∷ put prefix_cmp f.0 tt es)))
+no_fewer_put f s e es Less h is before same after =
+    omega (arith, before, ap length (first_stays f.0 (map (λ e. e.0) s) (e ∷ es) (after_first f s h)))
+no_fewer_put f s e es Equal h is before same after =
+    let later : are_after e.0 (map (λ e. e.0) s) ≡ true = subst (λ p. are_after p (map (λ e. e.0) s) ≡ true) (prefix_exact f.0 e.0 is) (after_first f s h) in
+    omega (arith, same, ap length (first_stays e.0 (map (λ e. e.0) s) es later))
+no_fewer_put f s e es Greater h is before same after =
+    omega (arith, after, ap length (first_stays e.0 (map (λ e. e.0) s) (put prefix_cmp f.0 tt es) (after_lesser e.0 f s h is)))
+
+no_fewer_gathered : (s : Selections) (es : PrefixSet) → is_sorted prefix_cmp s ≡ true → length s ≤ length (gathered (map (λ e. e.0) s) es)
+no_fewer_gathered [] es h = omega arith
+no_fewer_gathered (f ∷ s) [] h =
+    omega (arith, no_fewer_gathered s [] (tail_sorted prefix_cmp f s h), ap length (first_stays f.0 (map (λ e. e.0) s) [] (after_first f s h)))
+no_fewer_gathered (f ∷ s) (e ∷ es) h =
+    let rest = tail_sorted prefix_cmp f s h in
+    let more = no_fewer_put f s e es (prefix_cmp f.0 e.0) h refl (no_fewer_gathered s (e ∷ es) rest) (no_fewer_gathered s es rest) (omega (arith, no_fewer_gathered (f ∷ s) es h)) in
+    omega (arith, more)
+
 -- The prefixes that come after so many of each table.
 abbrev pub left : PrefixSet → Selections → ℕ → ℕ → List PrefixValue
 left announced selections i j = reachable_of (drop i announced) (drop j selections)
@@ -133,6 +172,22 @@ module _ (announced : PrefixSet) (selections : Selections) (i j : ℕ) where
   pub ends : option_map (λ e. e.0) (slice_get announced i) ≡ None → slice_get selections j ≡ None → left announced selections i j ≡ []
   ends own selected =
       ap (λ es. reachable_of es (drop j selections)) (drop_past announced i (none_at announced i own)) ∙ ap (reachable_of []) (drop_past selections j selected)
+
+  pub no_fewer : is_sorted prefix_cmp selections ≡ true → length (map (λ e. e.0) (drop j selections)) ≤ length (left announced selections i j)
+  no_fewer sorted =
+      let own = prefixes_in (drop i announced) in
+      let chosen = map (λ e. e.0) (drop j selections) in
+      omega (
+        arith,
+        no_fewer_gathered (drop j selections) (gathered own []) (drop_sorted selections j sorted),
+        ap length (gathered_both own chosen []),
+        length-map (drop j selections) (λ e. e.0),
+        length-map (gathered (own ++ chosen) []) (λ e. e.0),
+      )
+
+  pub rest_selected : is_sorted prefix_cmp selections ≡ true → option_map (λ e. e.0) (slice_get announced i) ≡ None → left announced selections i j ≡ map (λ e. e.0) (drop j selections)
+  rest_selected sorted own =
+      ap (λ es. reachable_of es (drop j selections)) (drop_past announced i (none_at announced i own)) ∙ only_selections (drop j selections) (drop_sorted selections j sorted)
 
   pub only_selected : (f : PrefixValue × Selection) → is_sorted prefix_cmp selections ≡ true → option_map (λ e. e.0) (slice_get announced i) ≡ None → slice_get selections j ≡ Some f → left announced selections i j ≡ f.0 ∷ left announced selections i (j + 1)
   only_selected f sorted own at = selected_step f sorted at (greater_past f.0 announced i (none_at announced i own))

@@ -17,6 +17,6 @@ pub use interfaces::Interfaces;
 pub use link_costs::{LinkChange, LinkCosts};
 pub use pending_items::PendingItems;
 pub use prefixes::Prefixes;
-pub use reachable::Reachable;
+pub use reachable::{Reachable, SelectedPrefixes};
 pub use requests::{RequestTable, SeqnoRequest};
 pub use scratch::Scratch;

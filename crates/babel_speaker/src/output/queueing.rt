@@ -1,13 +1,14 @@
 //! What is queued in several places: updates to all, and requests to the neighbours of routes.
 
-ghost use Rattle.std.specs.Prelude.{◌≡◌, map, length, filter};
+ghost use Rattle.std.specs.Prelude.{◌≡◌, [], ◌∷◌, map, length, filter};
 ghost use Rattle.std.specs.List.{range_with_len, list_any};
 ghost use Rattle.babel_choice.specs.Choices.{routes_of};
 ghost use Rattle.babel_state.specs.Queueing.{queued};
+ghost use Rattle.babel_state.specs.declared.items.Item.TheVariants.{Update};
 ghost use Rattle.babel_state.specs.Reselection.{update_to_all, update_to, request_items, is_unfeasible};
 ghost use Rattle.babel_speaker.specs.Reaching.{reachable_of};
 
-use crate::tables::{Announced, PendingItems, Reachable, SeqnoRequest};
+use crate::tables::{Announced, PendingItems, Reachable, SelectedPrefixes, SeqnoRequest};
 use babel_choice::{Cursor, Entry, RouteKey};
 use babel_route::Routes;
 use babel_sources::Sources;
@@ -89,6 +90,35 @@ pub fn queue_requests_to_unfeasible(
     }
 }
 
+/// Queues an update of the prefix. It is written to its place in the ring if there is one, and no other copy of it is made.
+#[inline(always)]
+fn queue_update(pending: &mut PendingItems, target: Target, prefix: Prefix)
+    ensures { pending.new ≡ queued (Update target prefix ∷ []) pending.old }
+{
+    if !pending.push_to_place(Item::Update { target, prefix }) {
+        pending.push(Item::Update { target, prefix });
+    }
+}
+
+/// Queues an update of each of these prefixes to one neighbour.
+#[inline(never)]
+#[tactic(auto, unfolding(babel_state::specs::Queueing::queued))]
+fn queue_updates_of_selected(
+    pending: &mut PendingItems,
+    prefixes: SelectedPrefixes<'_>,
+    peer: &Peer,
+)
+    ensures { pending.new ≡ queued (map (update_to peer.now) prefixes.entry) pending.old }
+{
+    let target = Target {
+        iface: peer.iface,
+        to: Some(peer.addr),
+    };
+    for prefix in prefixes {
+        queue_update(pending, target, prefix);
+    }
+}
+
 /// Queues an update of each prefix that is announced or selected to one neighbour.
 #[tactic(auto, unfolding(babel_state::specs::Queueing::queued))]
 pub fn queue_updates_of(
@@ -103,7 +133,14 @@ pub fn queue_updates_of(
         iface: peer.iface,
         to: Some(peer.addr),
     };
-    for prefix in Reachable::new(announced, routes) {
-        pending.push(Item::Update { target, prefix });
+    let mut walk = Reachable::new(announced, routes);
+    pending.make_room(walk.at_least());
+    while let Some(prefix) = walk.next() {
+        queue_update(pending, target, prefix);
+        // A walk over selections alone is shorter.
+        if let Some(rest) = walk.rest() {
+            queue_updates_of_selected(pending, rest, peer);
+            return;
+        }
     }
 }

@@ -1,7 +1,8 @@
 //! The items that wait to be sent, the oldest first.
 
-ghost use Rattle.std.specs.Prelude.{◌≡◌, ◌≤◌, [], ◌∷◌, drop, length, slice_get, IfOk};
+ghost use Rattle.std.specs.Prelude.{◌≡◌, ◌≤◌, List, [], ◌∷◌, drop, length, slice_get, IfOk, IsTrue, IsFalse};
 ghost use Rattle.babel_state.specs.Queueing.{queued};
+ghost use Rattle.babel_state.specs.declared.items.Item.{Item};
 
 use babel_state::{Item, MAX_PENDING};
 use circular_buffer::HeapCircularBuffer;
@@ -61,6 +62,40 @@ impl PendingItems {
             return;
         }
         self.dropped = self.dropped.saturating_add(1);
+    }
+
+    /// The same if the ring has a place for the item. If it returns `false`, nothing has changed.
+    #[inline(always)]
+    #[tactic(auto, unfolding(babel_state::specs::Queueing::queued))]
+    pub fn push_to_place(&mut self, item: Item) -> bool
+        ensures queued { IsTrue result → self.new ≡ queued (item ∷ []) self.old }
+        ensures full { IsFalse result → self.new ≡ self.old }
+    {
+        match self.items.try_push_back(item) {
+            Ok(()) => true,
+            Err(_) => false,
+        }
+    }
+
+    /// Drops the oldest items for which at least this many new ones leave no room, and counts them, all at once. If as many are
+    /// queued then, or more, the same items are pending as without this call.
+    pub fn make_room(&mut self, count: usize)
+        ensures { (xs : List Item) → count ≤ length xs → queued xs self.new ≡ queued xs self.old }
+    {
+        let len = self.items.len();
+        let room = MAX_PENDING.saturating_sub(count);
+        if len <= room {
+            return;
+        }
+        let gone = len - room;
+        self.items.truncate_front(room);
+        // Those that were removed already are the first to go.
+        if gone <= self.removed {
+            self.removed -= gone;
+            return;
+        }
+        self.dropped = self.dropped.saturating_add((gone - self.removed) as u64);
+        self.removed = 0;
     }
 
     /// The oldest item.

@@ -1,11 +1,11 @@
 //! A walk over the prefixes that the speaker announces or that have a selected route.
 
-ghost use Rattle.std.specs.Prelude.{◌≡◌};
+ghost use Rattle.std.specs.Prelude.{◌≡◌, ◌≤◌, drop, length, map, IfSome};
 ghost use Rattle.babel_value.specs.Orders.{prefix_cmp};
 ghost use Rattle.babel_speaker.specs.Reaching.{reachable_of};
 
 use crate::tables::Announced;
-use babel_route::Routes;
+use babel_route::{ROUTE_PLACES, Routes};
 use babel_value::Prefix;
 use std::cmp::Ordering;
 use std::marker::Model;
@@ -51,6 +51,30 @@ impl<'a> Reachable<'a> {
     }
 }
 
+impl<'a> Reachable<'a> {
+    /// The same walk, if no announced prefix is left in it: those of selections alone.
+    #[inline(always)]
+    pub fn rest(&self) -> Option<SelectedPrefixes<'a>>
+        ensures { IfSome result (λ rest. rest ≡ self.now) }
+    {
+        match self.announced.at(self.own) {
+            Some(_) => None,
+            None => Some(SelectedPrefixes {
+                routes: self.routes,
+                place: self.selected,
+            }),
+        }
+    }
+
+    /// No more than are still to come: as many as have a selected route, or one less.
+    pub fn at_least(&self) -> usize
+        ensures { result ≤ length self.now }
+    {
+        let (routes, place) = (self.routes, self.selected);
+        SelectedPrefixes { routes, place }.at_least()
+    }
+}
+
 /// The order of two prefixes.
 fn compare(own: &Prefix, selected: &Prefix) -> Ordering
     ensures { result ≡ prefix_cmp own.now selected.now }
@@ -88,5 +112,65 @@ impl<'a> Iterator for Reachable<'a> {
             self.selected += 1;
         }
         Some(own)
+    }
+}
+
+/// The prefixes that have a selected route, in ascending order. A clause sees the list of those that are still to come.
+#[derive(Drop)]
+pub struct SelectedPrefixes<'a> {
+    routes: &'a Routes,
+    place: usize,
+}
+
+impl<'a> Model for SelectedPrefixes<'a> {
+    ghost use Rattle.std.specs.Prelude.{List, drop, map};
+    ghost use Rattle.babel_value.specs.Prefixes.{PrefixValue};
+
+    ghost Value = { List PrefixValue };
+
+    ghost view = { λ w. map (λ e. e.0) (drop w.place w.routes.now.selections) };
+}
+
+impl<'a> SelectedPrefixes<'a> {
+    /// No more than are still to come, and at most one less: found by eight looks at the selections.
+    pub fn at_least(&self) -> usize
+        ensures { result ≤ length self.now }
+    {
+        let mut count = 0;
+        let mut step = ROUTE_PLACES;
+        for _ in 0..8 {
+            step /= 2;
+            count = self.with_more(count, step);
+        }
+        count
+    }
+
+    /// The count, and that many more if there are more than that.
+    fn with_more(&self, count: usize, step: usize) -> usize
+        requires { count ≤ length self.now }
+        ensures { result ≤ length self.now }
+    {
+        let more = count.saturating_add(step);
+        match self.routes.selection_at(self.place.saturating_add(more)) {
+            Some(_) => more,
+            None => count,
+        }
+    }
+}
+
+impl<'a> Iterator for SelectedPrefixes<'a> {
+    ghost use Rattle.std.specs.Iterator.{YieldsFirst, item_count};
+
+    type Item = Prefix;
+
+    ghost next_gives = { YieldsFirst (λ prefixes. prefixes) };
+
+    ghost remaining = { item_count (λ prefixes. prefixes) };
+
+    #[inline(always)]
+    fn next(&mut self) -> Option<Prefix> {
+        let selection = self.routes.selection_at(self.place)?;
+        self.place += 1;
+        Some(selection.0)
     }
 }
