@@ -206,6 +206,13 @@ impl<E: Table<RouteKey, Entry>, S: Table<Prefix, Selection>> RoutesOver<E, S> {
         self.entries.len()
     }
 
+    /// How many prefixes have a selected route.
+    pub fn selection_count(&self) -> usize
+        ensures { result ≡ length self.now.selections }
+    {
+        self.selections.len()
+    }
+
     /// The route that exactly `place` others come before.
     pub fn at(&self, place: usize) -> Option<(Prefix, Peer, Entry)>
         ensures { result ≡ option_map (λ route. (route.0.prefix, route.0.peer, route.1)) (slice_get self.now.entries place) }

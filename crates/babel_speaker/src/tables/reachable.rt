@@ -5,7 +5,7 @@ ghost use Rattle.babel_value.specs.Orders.{prefix_cmp};
 ghost use Rattle.babel_speaker.specs.Reaching.{reachable_of};
 
 use crate::tables::Announced;
-use babel_route::{ROUTE_PLACES, Routes};
+use babel_route::Routes;
 use babel_value::Prefix;
 use std::cmp::Ordering;
 use std::marker::Model;
@@ -66,12 +66,12 @@ impl<'a> Reachable<'a> {
         }
     }
 
-    /// No more than are still to come: as many as have a selected route, or one less.
+    /// How many are still to come and have a selected route: no more than are still to come.
     pub fn at_least(&self) -> usize
         ensures { result ≤ length self.now }
     {
         let (routes, place) = (self.routes, self.selected);
-        SelectedPrefixes { routes, place }.at_least()
+        SelectedPrefixes { routes, place }.len()
     }
 }
 
@@ -132,29 +132,11 @@ impl<'a> Model for SelectedPrefixes<'a> {
 }
 
 impl<'a> SelectedPrefixes<'a> {
-    /// No more than are still to come, and at most one less: found by eight looks at the selections.
-    pub fn at_least(&self) -> usize
-        ensures { result ≤ length self.now }
+    /// How many are still to come.
+    pub fn len(&self) -> usize
+        ensures { result ≡ length self.now }
     {
-        let mut count = 0;
-        let mut step = ROUTE_PLACES;
-        for _ in 0..8 {
-            step /= 2;
-            count = self.with_more(count, step);
-        }
-        count
-    }
-
-    /// The count, and that many more if there are more than that.
-    fn with_more(&self, count: usize, step: usize) -> usize
-        requires { count ≤ length self.now }
-        ensures { result ≤ length self.now }
-    {
-        let more = count.saturating_add(step);
-        match self.routes.selection_at(self.place.saturating_add(more)) {
-            Some(_) => more,
-            None => count,
-        }
+        self.routes.selection_count().saturating_sub(self.place)
     }
 }
 

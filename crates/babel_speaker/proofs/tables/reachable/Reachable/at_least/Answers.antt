@@ -6,4 +6,4 @@ use Rattle.babel_speaker.proofs.tables.reachable.Reachable.at_least.Goals as goa
 pub returns : goal.returns
 returns c =
     let walk = c.self.inside in
-    omega (arith, c.at_least.ensures, no_fewer walk.announced.now walk.routes.now.selections walk.own walk.selected c.self.invariant.1, ap length c.self.view_is)
+    omega (arith, c.len.ensures, no_fewer walk.announced.now walk.routes.now.selections walk.own walk.selected c.self.invariant.1, ap length c.self.view_is)
