@@ -64,7 +64,7 @@ impl HearFault {
 }
 
 /// Whether the node's speaker read a datagram that it heard.
-#[derive(Clone, Copy, Debug, PartialEq, Eq)]
+#[derive(Clone, Copy)]
 pub enum Hearing {
     /// It was read.
     Received,
