@@ -18,23 +18,16 @@ use Rattle.babel_mixed.specs.Mixed.{IsMixed, IsWhole, HearingKeepsMixed, EventsK
 use Rattle.babel_net.specs.Networks.{NetworkState}
 use Rattle.babel_net.specs.Owned.{AreOwners}
 use Rattle.babel_net.specs.Steps.{Makes}
-use Rattle.babel_net.proofs.Chains.{same_configs}
+use Rattle.babel_net.proofs.KeptOwners.{owners_as}
 
 abbrev pub mixed : NetworkState → List UpdateValue → MixedState
 mixed ours heard = record { ours = ours; heard = heard }
-
-owners_as : (configs other : List Config) (nodes : BTreeMap Addr ℕ) → other ≡ configs → AreOwners configs nodes → AreOwners other nodes
-owners_as configs other nodes same owners = subst (λ (cs : List Config). AreOwners cs nodes) (sym same) owners
 
 -- ---- an event of ours
 
 pub step_kept : {T : Type 0} → EventsKeepMixed → (r : Result T StepFault) (event : Event) (old new : NetworkState) (heard : List UpdateValue) → IsMixed (mixed old heard) → OnOk r (Makes event old new) → OnOk r (step_fault event old ≡ None) → OnErr r (new ≡ old) → IsMixed (mixed new heard)
 step_kept kept (Ok done) event old new heard was made ok same = kept event (mixed old heard) new was made ok
 step_kept kept (Err fault) event old new heard was made ok same = subst (λ (n : NetworkState). IsMixed (mixed n heard)) (sym same) was
-
-pub step_owners : {T : Type 0} (r : Result T StepFault) (event : Event) (old new : NetworkState) (nodes : BTreeMap Addr ℕ) → AreOwners old.configs nodes → OnOk r (Makes event old new) → OnErr r (new ≡ old) → AreOwners new.configs nodes
-step_owners (Ok done) event old new nodes owners made same = owners_as old.configs new.configs nodes (same_configs event old new made) owners
-step_owners (Err fault) event old new nodes owners made same = owners_as old.configs new.configs nodes (ap (λ (n : NetworkState). n.configs) same) owners
 
 -- ---- a datagram that is heard
 

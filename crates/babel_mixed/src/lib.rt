@@ -1,5 +1,5 @@
-//! A network of ours among routers of others: whatever these send from their own addresses, our nodes
-//! make no loop among themselves (RFC 8966, section 2.4, and a profile).
+//! A network of ours among routers of others: whatever these send from their own addresses, our
+//! nodes make no loop among themselves.
 #![tactic(auto)]
 
 mod events;

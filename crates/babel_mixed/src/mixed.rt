@@ -265,8 +265,8 @@ impl MixedNetwork {
     }
 
     /// A count of the node's speaker, which grows whenever a selected route of the node may be
-    /// reported otherwise, as [`Network::routes_version`](babel_net::Network::routes_version). `None`
-    /// if there is no such node.
+    /// reported otherwise, as [`Network::routes_version`](babel_net::Network::routes_version).
+    /// `None` if there is no such node.
     pub fn routes_version(&self, node: usize) -> Option<u64>
         ensures { is_some result ≡ is_some (slice_get self.now.ours.speakers node) }
     {

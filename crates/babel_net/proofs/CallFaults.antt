@@ -10,12 +10,9 @@ use Rattle.babel_machine.specs.declared.events.Event.{Event}
 use Rattle.babel_machine.specs.declared.events.Event.TheVariants as events
 use Rattle.babel_machine.specs.declared.errors.StepFault.{StepFault}
 use Rattle.babel_machine.specs.declared.errors.StepFault.TheVariants.{NoNode, NoDatagram}
-use Rattle.babel_net.specs.declared.hearing.HearFault.{HearFault}
-use Rattle.babel_net.specs.declared.hearing.HearFault.TheVariants as faults
 use Rattle.babel_net.specs.Networks.{NetworkState, SentOctets, with_speaker_state}
 use Rattle.babel_net.specs.Steps.{MakesCall, Makes, step_of}
 use Rattle.babel_net.specs.EventRefusals.{node_of, call_fault, event_fault, deliver_fault, interface_fault, fault_at, step_fault, IsFaultOrMemory, IsStepFault}
-use Rattle.babel_net.specs.HearFaults.{iface_fault, place_fault, IsHearFault}
 use Rattle.babel_net.specs.Invariants.{IsRunning}
 use Rattle.babel_net.proofs.SeenWorlds.{written_back}
 use Rattle.babel_net.proofs.HappeningEvents.{readable_at}
@@ -173,11 +170,3 @@ deliver_refused_at (Err fault) event number node iface now n net is inside h =
     subst (λ (e : Event). IsStepFault (step_fault e n) e n fault) (sym is)
     (subst (λ (o : Option StepFault). IsStepFault o (events.Deliver number node iface now) n fault) (sym (fault_is (events.Deliver number node iface now) n at.state at.config at.has_state at.has_config))
     (deliver_refused number node iface now n at.state fault net cause))
-
--- ---- a datagram that is heard
-
-pub place_past : (iface node : ℕ) (n : NetworkState) → length n.speakers ≤ node → place_fault iface (slice_get n.speakers node) ≡ Some faults.NoNode
-place_past iface node n past = ap (place_fault iface) (slice_get_past n.speakers node past)
-
-pub place_refused : {T : Type 0} (r : Result T HearFault) (iface node : ℕ) (n : NetworkState) (s : State) → slice_get n.speakers node ≡ Some s → IfErr r (IsHearFault (iface_fault iface s)) → IfErr r (IsHearFault (place_fault iface (slice_get n.speakers node)))
-place_refused r iface node n s is h = subst (λ (o : Option State). IfErr r (IsHearFault (place_fault iface o))) (sym is) h

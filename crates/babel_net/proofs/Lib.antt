@@ -10,6 +10,7 @@ mod AddrCmp
 mod SentOctetsLaws
 mod Recorded
 pub mod Chains
+pub mod KeptOwners
 pub mod NextHops
 pub mod MakingFaults
 mod CallFaults

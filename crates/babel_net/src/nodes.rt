@@ -82,7 +82,8 @@ impl Nodes {
         })
     }
 
-    /// Reserves the room for this many more datagrams of the usual length. It only matters for speed.
+    /// Reserves the room for this many more datagrams of the usual length. It only matters for
+    /// speed.
     ///
     /// # Errors
     ///

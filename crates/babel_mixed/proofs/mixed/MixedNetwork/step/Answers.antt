@@ -1,5 +1,6 @@
 use Rattle.babel_mixed.specs.Mixed.{IsMixed}
-use Rattle.babel_mixed.proofs.HeardNetworks.{mixed, step_kept, step_owners}
+use Rattle.babel_net.proofs.KeptOwners.{step_owners}
+use Rattle.babel_mixed.proofs.HeardNetworks.{mixed, step_kept}
 use Rattle.babel_mixed.proofs.mixed.MixedNetwork.step.Goals as goal
 
 pub invariant_of-self : goal.invariant_of-self

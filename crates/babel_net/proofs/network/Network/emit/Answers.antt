@@ -11,7 +11,7 @@ use Rattle.babel_net.specs.Networks.{NetworkState, world_of}
 use Rattle.babel_net.specs.Promises.{Runs}
 use Rattle.babel_net.specs.Steps.{Makes}
 use Rattle.babel_net.proofs.Chains.{after_step}
-use Rattle.babel_net.proofs.HeardNetworks.{step_owners}
+use Rattle.babel_net.proofs.KeptOwners.{step_owners}
 use Rattle.babel_net.proofs.Running.{running}
 use Rattle.babel_net.proofs.network.Network.emit.Goals as goal
 
