@@ -41,19 +41,11 @@ begins xs n small =
 next : (xs ys : List ℕ) (m n : ℕ) → n < 65536 → m ≡ n / 10 → ys ≡ xs ++ front m → ys ++ last_digit n ≡ xs ++ front n
 next xs ys m n high same is = grows xs ys n high (is ∙ ap (λ (k : ℕ). xs ++ front k) same)
 
--- One digit more.
-decimal_more : (xs : List ℕ) (n : ℕ) → 10 ≤ n → n < 65536 → (xs ++ decimal (n / 10)) ++ (48 + n % 10) ∷ [] ≡ xs ++ decimal n
-decimal_more xs n large high =
-    let some : 0 < n / 10 = omega arith in
-    ends xs (xs ++ decimal (n / 10)) n high (rw (lt-ltb 0 (n / 10) some) refl)
-
-pub decimal_of_hundreds : (xs : List ℕ) (n : ℕ) → 100 ≤ n → n < 65536
-    → ((xs ++ decimal (n / 100)) ++ (48 + n / 10 % 10) ∷ []) ++ (48 + n % 10) ∷ [] ≡ xs ++ decimal n
-decimal_of_hundreds xs n large high =
-    let same : n / 100 ≡ n / 10 / 10 = omega arith in
-    let first = decimal_more xs (n / 10) (omega arith) (omega arith) in
-    ap (λ (m : ℕ). ((xs ++ decimal m) ++ (48 + n / 10 % 10) ∷ []) ++ (48 + n % 10) ∷ []) same
-    ∙ ap (λ (t : List ℕ). t ++ (48 + n % 10) ∷ []) first ∙ decimal_more xs n (omega arith) high
+pub decimal_of_three : (xs : List ℕ) (n : ℕ) → n < 1000
+    → ((xs ++ last_digit (n / 100)) ++ last_digit (n / 10)) ++ (48 + n % 10) ∷ [] ≡ xs ++ decimal n
+decimal_of_three xs n high =
+    let one = begins xs (n / 100) (omega arith) in
+    let two = next xs _ (n / 100) (n / 10) (omega arith) (omega arith) one in ends xs _ n (omega arith) two
 
 pub decimal_of_five : (xs : List ℕ) (n : ℕ) → n < 65536
     → ((((xs ++ last_digit (n / 10000)) ++ last_digit (n / 1000)) ++ last_digit (n / 100)) ++ last_digit (n / 10)) ++ (48 + n % 10) ∷ []

@@ -2,4 +2,3 @@ pub mod OrderLaws
 pub mod PrefixLaws
 pub mod Numbers
 pub mod Digits
-pub mod Decimals

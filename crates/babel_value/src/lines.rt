@@ -17,18 +17,6 @@ pub const LINE_ROOM: usize = 256;
 /// The hexadecimal digits, in lower case.
 const HEX_DIGITS: [u8; 16] = *b"0123456789abcdef";
 
-/// The numbers of an octet in decimal, each with blanks after it up to three octets.
-const DECIMALS: [u8; 768] =
-    *b"0  1  2  3  4  5  6  7  8  9  10 11 12 13 14 15 16 17 18 19 20 21 22 23 24 25 26 27 28 29 \
-    30 31 32 33 34 35 36 37 38 39 40 41 42 43 44 45 46 47 48 49 50 51 52 53 54 55 56 57 58 59 \
-    60 61 62 63 64 65 66 67 68 69 70 71 72 73 74 75 76 77 78 79 80 81 82 83 84 85 86 87 88 89 \
-    90 91 92 93 94 95 96 97 98 99 100101102103104105106107108109110111112113114115116117118119\
-    120121122123124125126127128129130131132133134135136137138139140141142143144145146147148149\
-    150151152153154155156157158159160161162163164165166167168169170171172173174175176177178179\
-    180181182183184185186187188189190191192193194195196197198199200201202203204205206207208209\
-    210211212213214215216217218219220221222223224225226227228229230231232233234235236237238239\
-    240241242243244245246247248249250251252253254255";
-
 /// A line of text of at most `LINE_ROOM` octets. What is printed often is put together here and written by
 /// one call.
 #[derive(Drop)]
@@ -145,31 +133,10 @@ impl Line {
         ensures text { self.new ≡ self.old ++ decimal number }
         ensures short { length self.new ≤ length self.old + 5 }
     {
-        // Most numbers are small, or those of some hundreds.
-        if let Ok(number) = u8::try_from(number) {
-            return self.push_u8(number);
-        }
-        if let Ok(hundreds) = u8::try_from(number / 100) {
-            return self.push_hundreds(hundreds, number);
-        }
         self.push_digit(number / 10_000);
         self.push_digit(number / 1000);
         self.push_digit(number / 100);
         self.push_digit(number / 10);
-        self.push_ones(number);
-    }
-
-    /// Appends a number in decimal, of which there are so many hundreds.
-    #[inline(always)]
-    fn push_hundreds(&mut self, hundreds: u8, number: u16)
-        requires some { 100 ≤ number }
-        requires hundreds { hundreds ≡ number / 100 }
-        requires room { length self.old + 5 ≤ line_room }
-        ensures text { self.new ≡ self.old ++ decimal number }
-        ensures short { length self.new ≤ length self.old + 5 }
-    {
-        self.push_u8(hundreds);
-        self.push_ones(number / 10);
         self.push_ones(number);
     }
 
@@ -179,10 +146,10 @@ impl Line {
         ensures text { self.new ≡ self.old ++ decimal number }
         ensures short { length self.new ≤ length self.old + 3 }
     {
-        let (digits, count) = decimal_of(number);
-        let len = self.octets().len();
-        self.push_octets(&digits);
-        self.truncate(len + count);
+        let number = u16::from(number);
+        self.push_digit(number / 100);
+        self.push_digit(number / 10);
+        self.push_ones(number);
     }
 
     /// Appends the last decimal digit of a number, but nothing if the number is 0.
@@ -334,18 +301,6 @@ impl fmt::Display for Line {
             Err(_) => Err(fmt::Error),
         }
     }
-}
-
-/// The number in decimal, with blanks after it, and how many digits it has.
-#[inline(always)]
-fn decimal_of(number: u8) -> ([u8; 3], usize)
-    ensures few { result.1 ≤ 3 }
-    ensures digits { take result.1 result.0 ≡ decimal number }
-{
-    let index = 3 * usize::from(number);
-    let count = 1 + usize::from(number > 9) + usize::from(number > 99);
-    let digits = [DECIMALS[index], DECIMALS[index + 1], DECIMALS[index + 2]];
-    (digits, count)
 }
 
 /// The hexadecimal digit, in lower case.
