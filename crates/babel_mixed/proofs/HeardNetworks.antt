@@ -3,7 +3,6 @@ use Rattle.std.proofs.Common.{◌≡◌, ℕ, List, Option, Some, None, Result, 
 use Rattle.std.specs.BTreeMap.{BTreeMap}
 use Rattle.std.proofs.lemmas.Option.{none-some}
 use Rattle.babel_value.specs.declared.addresses.Addr.{Addr}
-use Rattle.babel_state.specs.declared.configs.Config.{Config}
 use Rattle.babel_state.specs.Seen.{UpdateValue}
 use Rattle.babel_machine.specs.declared.events.Event.{Event}
 use Rattle.babel_machine.specs.declared.errors.StepFault.{StepFault}

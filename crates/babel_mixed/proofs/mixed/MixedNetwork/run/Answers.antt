@@ -1,4 +1,4 @@
-use Rattle.std.proofs.Common.{length, subst, arith}
+use Rattle.std.proofs.Common.{subst, arith}
 use Rattle.babel_mixed.specs.Mixed.{IsMixed}
 use Rattle.babel_mixed.proofs.MixedRuns.{ran_none, ran_step, ran_all, stops}
 use Rattle.babel_mixed.proofs.mixed.MixedNetwork.run.Goals as goal

@@ -2,7 +2,6 @@ use Rattle.std.proofs.Common.{◌≡◌, None, refl, sym, ap, ◌∙◌, subst}
 use Rattle.babel_machine.specs.Acceptance.{net_fault}
 use Rattle.babel_machine.specs.Owners.{owner_of}
 use Rattle.babel_net.specs.Invariants.{IsNetwork}
-use Rattle.babel_net.specs.Networks.{NetworkState}
 use Rattle.babel_net.specs.Owned.{AreOwners}
 use Rattle.babel_net.specs.Promises.{first_network}
 use Rattle.babel_net.proofs.MakingFaults.{no_fault}
