@@ -141,6 +141,18 @@ module _ (sources : Sources) (cost : Peer → ℕ) (announced : PrefixSet) (rout
       by (inl passed) = absurd (false≢true (sym stale ∙ same_current sources cost q (is_own q) rest empty passed.1 ∙ none_current sources cost q (is_own q)))
       by (inr ahead) = inl (has_itself q set ∙ sym (ap not (sym (same_current sources cost q (is_own q) rest routes ahead.1) ∙ stale)), none_past q rest)
 
+  -- ---- the same of the values after a step, by what they are equal to
+
+  same_test : (q : PrefixValue) (own passed : Bool) (rest : RoutesValue) → own ≡ is_own q → passed ≡ is_current sources cost q own rest → is_current sources cost q (is_own q) rest ≡ passed
+  same_test q own passed rest same test = ap (λ local. is_current sources cost q local rest) (sym same) ∙ sym test
+
+  pub after_current : (q : PrefixValue) (own : Bool) (set : PrefixSet) (rest left : RoutesValue) → own ≡ is_own q → left ≡ without_prefix q rest → true ≡ is_current sources cost q own rest → AreDone set rest → AreDone set left
+  after_current q own set rest left same is current done = subst (AreDone set) (sym is) (step_current q set rest (same_test q own true rest same current) done)
+
+  pub after_stale : (q : PrefixValue) (own : Bool) (set new : PrefixSet) (rest left : RoutesValue) → own ≡ is_own q → new ≡ put prefix_cmp q tt set → left ≡ without_prefix q rest → false ≡ is_current sources cost q own rest → AreDone set rest → AreDone new left
+  after_stale q own set new rest left same more is stale done =
+      subst (AreDone new) (sym is) (subst (λ (s : PrefixSet). AreDone s (without_prefix q rest)) (sym more) (step_stale q set rest (same_test q own false rest same stale) done))
+
 -- ---- the walk ends
 
 abbrev pub size : RoutesValue → ℕ
@@ -174,3 +186,6 @@ passed_less p routes among = by (is_among p (map (λ e. e.0.prefix) routes.entri
     by : (b : Bool) → is_among p (map (λ e. e.0.prefix) routes.entries) ≡ b → (b || is_among p (map (λ s. s.0) routes.selections)) ≡ true → size (without_prefix p routes) < size routes
     by true here there = omega (arith, selections, fewer p (λ e. e.0.prefix) (λ e. not (is_of p e)) (λ e. ap not (eq_turned prefix_cmp prefix_total e.0.prefix p)) routes.entries here)
     by false here there = omega (arith, entries, fewer p (λ s. s.0) (λ s. not (eq_by_cmp prefix_cmp p s.0)) (λ s. refl) routes.selections there)
+
+pub left_less : (p : PrefixValue) (routes left : RoutesValue) → left ≡ without_prefix p routes → is_among p (prefixes_of routes) ≡ true → size left < size routes
+left_less p routes left is among = subst (λ (w : RoutesValue). size w < size routes) (sym is) (passed_less p routes among)

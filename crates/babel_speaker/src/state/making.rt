@@ -24,19 +24,20 @@ fn first(alloc: Global, router: RouterId, config: &Config) -> Option<Core>
 {
     let announced = first_announced(alloc, config)?;
     let interfaces = first_interfaces(alloc, config)?;
+    let Ok(requests) = RequestTable::new(alloc) else {
+        return None;
+    };
+    let Ok(pending) = PendingItems::new(alloc) else {
+        return None;
+    };
     let Ok(neighbours) = Neighbours::new(alloc) else {
         return None;
     };
     let Ok(sources) = Sources::new(alloc) else {
         return None;
     };
+    // This has the most tables, so it is dropped on no path.
     let Ok(routes) = Routes::new(alloc) else {
-        return None;
-    };
-    let Ok(requests) = RequestTable::new(alloc) else {
-        return None;
-    };
-    let Ok(pending) = PendingItems::new(alloc) else {
         return None;
     };
     Some(Core {

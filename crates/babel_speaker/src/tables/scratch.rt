@@ -72,22 +72,14 @@ impl Scratch {
     }
 
     /// Adds a prefix. Prefixes that come in ascending order are added in one pass.
-    fn put(&mut self, prefix: Prefix)
-        requires room { length self.old < most_listed_prefixes }
-        ensures { self.new ≡ put prefix_cmp prefix tt self.old }
-    {
-        if let Ok(near) = put_near(&mut self.table, self.near, prefix, ()) {
-            self.near = near;
-        }
-    }
-
-    /// The same. There is at most one prefix more.
     fn insert(&mut self, prefix: Prefix)
         requires room { length self.old < most_listed_prefixes }
         ensures prefixes { self.new ≡ put prefix_cmp prefix tt self.old }
         ensures few { length self.new ≤ length self.old + 1 }
     {
-        self.put(prefix);
+        if let Ok(near) = put_near(&mut self.table, self.near, prefix, ()) {
+            self.near = near;
+        }
     }
 
     /// Adds the prefix of each selection.
