@@ -68,8 +68,7 @@ fn run_turn<W: Wire>(
     }
 }
 
-/// Passes to the speaker what [`Wire::recv`] returned, with the buffer that it wrote to, and counts it. [`drive`]
-/// does so in each turn; this is for callers that send in another way.
+/// Passes to the speaker what [`Wire::recv`] returned, with the buffer that it wrote to, and counts it.
 pub fn receive(
     speaker: &mut Speaker,
     now: u64,

@@ -18,7 +18,7 @@ mod receipts;
 mod report;
 mod wire;
 
-pub use driving::{drive, receive, receive_observed};
+pub use driving::drive;
 pub use durable::{
     DurableDriver, DurableReport, DurableWire, Keeper, Observer, StoreFault, drive_durable, take_in,
 };

@@ -7,11 +7,9 @@ ghost use Rattle.babel_wire.specs.Turns.{max_sends, SendsPending};
 ghost use Rattle.babel_wire.specs.DurableRuns.{Fits, IsDurableRun, IsOneDurableTurn, AreGiven, together};
 ghost use Rattle.babel_wire.specs.Taken.{waiting};
 
-use crate::driving::MAX_SENDS;
+use crate::driving::{MAX_SENDS, receive_observed};
 use crate::durable::outbox::Outbox;
-use crate::{
-    DurableReport, DurableWire, Keeper, Receipts, Report, Wire, WireFault, receive_observed,
-};
+use crate::{DurableReport, DurableWire, Keeper, Receipts, Report, Wire, WireFault};
 use arrayvec::ArrayVec;
 use babel_speaker::Speaker;
 use babel_speaker::laws::counts_add_up;

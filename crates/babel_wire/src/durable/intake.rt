@@ -4,7 +4,8 @@ ghost use Rattle.std.specs.Prelude.{◌≡◌, ◌+◌, ◌≤◌, ◌^◌};
 ghost use Rattle.babel_speaker.specs.Versions.{CountsChanges};
 ghost use Rattle.babel_wire.specs.Intakes.{IsOneIntake};
 
-use crate::{DurableDriver, DurableWire, Receipts, Report, Wire, receive_observed};
+use crate::driving::receive_observed;
+use crate::{DurableDriver, DurableWire, Receipts, Report, Wire};
 use babel_speaker::Speaker;
 use babel_speaker::laws::counts_add_up;
 
