@@ -1,3 +1,4 @@
+pub mod ChangeLemmas
 pub mod CostLemmas
 pub mod WordLemmas
 pub mod PlaceLemmas

@@ -16,7 +16,7 @@ mod peers;
 mod words;
 
 pub use babel_value::Memory;
-pub use changes::CostChanges;
+pub use changes::{CostChanges, HelloEffect, LinkCost};
 pub use errors::Full;
 pub use links::{History, Link, Timer};
 pub use marks::{Heard, Marks};

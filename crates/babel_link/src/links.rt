@@ -1,14 +1,16 @@
 //! What is known of one neighbour (RFC 8966, section 3.2.4).
 
-ghost use Rattle.std.specs.Prelude.{◌≡◌, ◌<◌, ℕ, false, Some, None, is_some, IsTrue};
+ghost use Rattle.std.specs.Prelude.{◌≡◌, ◌↔◌, ◌<◌, ℕ, false, Some, None, is_some, IsTrue};
 ghost use Rattle.std.specs.Option.{option_and_then, option_map_or};
-ghost use Rattle.babel_link.specs.Links.{new_link, history_of, with_history, hello_timer, first_history, later_history, fired_history, link_verdict, hello_link, ihu_link, unless_silent, fired_link, expired_link, ticked_link, link_rxcost, link_cost, is_heard, is_up_history, is_txcost_due, IsQuietUntil, KeepsCost};
+ghost use Rattle.babel_link.specs.Links.{new_link, history_of, with_history, hello_timer, first_history, later_history, next_history, fired_history, link_verdict, hello_link, ihu_link, unless_silent, fired_link, expired_link, ticked_link, link_rxcost, link_cost, is_heard, is_up_history, is_txcost_due, IsQuietUntil, KeepsCost};
 ghost use Rattle.babel_value.specs.Hellos.{is_unicast};
 ghost use Rattle.babel_value.specs.Moments.{later, hold_time};
 ghost use Rattle.babel_link.specs.Moments.{hello_patience};
 ghost use Rattle.babel_link.specs.Histories.{heard_verdict};
+ghost use Rattle.babel_link.specs.declared.changes.LinkCost.TheVariants as costs;
+ghost use Rattle.babel_link.specs.declared.marks.Heard.TheVariants.{Kept};
 
-use crate::{Heard, Marks};
+use crate::{Heard, HelloEffect, LinkCost, Marks};
 use babel_value::{HelloKind, Metric, Seqno, hold_time};
 
 /// When the next Hello is missed.
@@ -103,6 +105,21 @@ impl History {
     }
 }
 
+/// Handles a Hello of a kind, of which this is the history, if there is one.
+#[tactic(auto, unfolding(crate::specs::Histories::heard_verdict))]
+fn take_hello(history: &mut Option<History>, now: u64, seqno: Seqno, interval: u16) -> Heard
+    ensures verdict { result ≡ option_map_or (λ h. heard_verdict seqno h.marks) history.old Kept }
+    ensures history { history.new ≡ Some (next_history now seqno interval history.old) }
+{
+    match history {
+        Some(history) => history.hello(now, seqno, interval),
+        None => {
+            *history = Some(History::first(now, seqno, interval));
+            Heard::Kept
+        }
+    }
+}
+
 /// The moment from which the next Hello of the history is missed; the greatest one if it is not known.
 fn hello_due(history: Option<History>) -> u64
     ensures { (now : ℕ) → now < result → option_and_then (fired_history now) history ≡ None }
@@ -180,17 +197,44 @@ impl Link {
         ensures verdict { result ≡ link_verdict (is_unicast kind) seqno self.old }
         ensures link { self.new ≡ hello_link now (is_unicast kind) seqno interval self.old }
     {
-        let Some(mut history) = self.history(kind) else {
-            *self = self.with(kind, History::first(now, seqno, interval));
-            return Heard::Kept;
+        let heard = match kind {
+            HelloKind::Unicast => take_hello(&mut self.unicast, now, seqno, interval),
+            HelloKind::Multicast => take_hello(&mut self.multicast, now, seqno, interval),
         };
-        let heard = history.hello(now, seqno, interval);
-        let link = match heard {
-            Heard::Kept => *self,
-            Heard::Flush => Link::new(),
-        };
-        *self = link.with(kind, history);
+        if heard == Heard::Flush {
+            self.keep_only(kind);
+        }
         heard
+    }
+
+    /// The same. Returns what it changed of the link's cost, too.
+    pub(crate) fn hear(
+        &mut self,
+        now: u64,
+        kind: HelloKind,
+        seqno: Seqno,
+        interval: u16,
+    ) -> HelloEffect
+        ensures heard { result.heard ≡ link_verdict (is_unicast kind) seqno self.old }
+        ensures link { self.new ≡ hello_link now (is_unicast kind) seqno interval self.old }
+        ensures kept { result.cost ≡ costs.Kept → (nominal : ℕ) → link_cost nominal self.new ≡ link_cost nominal self.old }
+    {
+        let before = self.finite_cost();
+        let heard = self.hello(now, kind, seqno, interval);
+        let cost = self.cost_since(before);
+        HelloEffect { heard, cost }
+    }
+
+    /// Forgets all but the Hellos of a kind.
+    fn keep_only(&mut self, kind: HelloKind)
+        ensures { self.new ≡ with_history (is_unicast kind) (history_of (is_unicast kind) self.old) new_link }
+    {
+        let mut link = Link::new();
+        match kind {
+            HelloKind::Unicast => link.unicast = self.unicast,
+            HelloKind::Multicast => link.multicast = self.multicast,
+        }
+        *self = link;
     }
 
     /// Handles an IHU.
@@ -200,6 +244,16 @@ impl Link {
     {
         self.txcost = rxcost;
         self.txcost_due = Some(later_by(now, hold_time(interval)));
+    }
+
+    /// The same. Returns what it changed of the link's cost.
+    pub(crate) fn hear_ihu(&mut self, now: u64, rxcost: Metric, interval: u16) -> LinkCost
+        ensures link { self.new ≡ ihu_link now rxcost interval self.old }
+        ensures kept { result ≡ costs.Kept → (nominal : ℕ) → link_cost nominal self.new ≡ link_cost nominal self.old }
+    {
+        let before = self.finite_cost();
+        self.ihu(now, rxcost, interval);
+        self.cost_since(before)
     }
 
     /// The link, if a Hello of either kind is remembered.
@@ -313,14 +367,22 @@ impl Link {
         }
     }
 
-    /// Whether the link costs what the other one costs, whatever the nominal cost.
-    #[tactic(auto, unfolding(crate::specs::Links::link_cost, crate::specs::Links::link_rxcost))]
-    fn costs_as(&self, other: &Link) -> bool
-        ensures { IsTrue result → (nominal : ℕ) → link_cost nominal self.now ≡ link_cost nominal other.now }
+    /// The cost of the link over an interface of a finite nominal cost, whatever that is.
+    fn finite_cost(&self) -> Metric
+        ensures { result ≡ link_cost 0 self.now }
     {
-        let up = is_up(self.multicast) || is_up(self.unicast);
-        let was_up = is_up(other.multicast) || is_up(other.unicast);
-        up == was_up && self.txcost == other.txcost
+        self.cost(Metric(0))
+    }
+
+    /// What changed of the link's cost since it was this, over an interface of a finite nominal cost.
+    fn cost_since(&self, before: Metric) -> LinkCost
+        ensures { (result ≡ costs.Kept) ↔ (link_cost 0 self.now ≡ before) }
+    {
+        if self.finite_cost().0 == before.0 {
+            LinkCost::Kept
+        } else {
+            LinkCost::Changed
+        }
     }
 
     /// Whether a tick neither flushes the neighbour nor changes the cost of its link.
@@ -331,7 +393,7 @@ impl Link {
             return true;
         }
         match self.handled(now) {
-            Some(after) => after.costs_as(self),
+            Some(after) => after.finite_cost().0 == self.finite_cost().0,
             None => false,
         }
     }

@@ -5,12 +5,14 @@ ghost use Rattle.std.specs.FinMap.{find, put, is_sorted};
 ghost use Rattle.std.specs.Option.{option_map};
 ghost use Rattle.std.specs.Vec.{vec_len, vec_capacity};
 ghost use Rattle.babel_value.specs.declared.keys.Peer.{Peer};
+ghost use Rattle.babel_value.specs.Hellos.{is_unicast};
 ghost use Rattle.babel_value.specs.Orders.{peer_cmp};
 ghost use Rattle.babel_link.specs.Neighbours.{max_neighbours, link_of, hello_of, hello_verdict, ihu_of, tick_of, gone_of, rxcost_of, cost_of, are_ascending, comes_before, peers_of, AreQuietUntil, KeepsOtherCosts};
 ghost use Rattle.babel_link.specs.declared.changes.CostChanges.TheVariants.{Nothing, One, Several};
+ghost use Rattle.babel_link.specs.declared.changes.LinkCost.TheVariants.{Kept};
 ghost use Rattle.babel_link.specs.Places.{IsPlaceOf, IsGapFor};
 
-use crate::{CostChanges, Full, Heard, Link, Memory, Peers};
+use crate::{CostChanges, Full, Heard, HelloEffect, Link, LinkCost, Memory, Peers};
 use arrayvec::ArrayVec;
 use babel_value::{HelloKind, Metric, Peer, Seqno};
 use std::alloc::Global;
@@ -190,28 +192,21 @@ impl Neighbours {
         self.link_at(peer, self.search_near(&peer))
     }
 
-    /// Writes what is known of the peer, at the place that a search for it found.
-    fn put(&mut self, peer: Peer, place: Result<usize, usize>, link: Link)
-        requires found { IfOk place (IsPlaceOf peer self.old) }
-        requires absent { IfErr place (IsGapFor peer self.old) }
-        requires room { IsNone (find peer_cmp peer self.old) → length self.old < max_neighbours }
+    /// Adds a neighbour, at the place that a search for it found.
+    fn add(&mut self, peer: Peer, place: usize, link: Link)
+        requires absent { IsGapFor peer self.old place }
+        requires room { length self.old < max_neighbours }
         ensures { self.new ≡ put peer_cmp peer link self.old }
     {
         // The proof's plan for the write below needs these types named first.
         let _ = (link.multicast, link.txcost_due);
         self.due = self.due.min(link.due());
-        match place {
-            Ok(place) => {
-                self.links[place].1 = link;
-            }
-            Err(place) => insert_reserved(&mut self.links, place, (peer, link)),
-        }
+        insert_reserved(&mut self.links, place, (peer, link));
     }
 
     /// Handles a Hello with this interval in centiseconds (RFC 8966, section 3.4.1). The first one of a
     /// peer makes it a neighbour, and is refused if there are 64 others. `Flush` means that the neighbour
     /// seems to have restarted: it is made again, and its route entries are to be removed.
-    #[tactic(auto, unfolding(crate::specs::Neighbours::hello_of, crate::specs::Neighbours::hello_verdict))]
     pub fn hello(
         &mut self,
         now: u64,
@@ -225,34 +220,73 @@ impl Neighbours {
         ensures ok { OnOk result (self.new ≡ hello_of now peer unicast seqno interval self.old) }
         ensures err { OnErr result (self.new ≡ self.old) }
     {
-        let place = self.search_sender(&peer);
-        let known = self.link_at(peer, place);
-        if known.is_none() && self.links.len() == MAX_NEIGHBOURS {
-            return Err(Full);
+        match self.hear(now, peer, HelloKind::of(unicast), seqno, interval) {
+            Ok(effect) => Ok(effect.heard),
+            Err(full) => Err(full),
         }
-        let mut link = match known {
-            Some(link) => link,
-            None => Link::new(),
-        };
-        let heard = link.hello(now, HelloKind::of(unicast), seqno, interval);
-        self.put(peer, place, link);
-        Ok(heard)
+    }
+
+    /// The same, of a Hello of this kind. Returns what it changed of the cost of the peer's link, too.
+    #[tactic(auto, unfolding(crate::specs::Neighbours::hello_of, crate::specs::Neighbours::hello_verdict))]
+    pub fn hear(
+        &mut self,
+        now: u64,
+        peer: Peer,
+        kind: HelloKind,
+        seqno: Seqno,
+        interval: u16,
+    ) -> Result<HelloEffect, Full>
+        ensures full { IsErr result ↔ (IsNone (find peer_cmp peer self.old) × (length self.old ≡ max_neighbours)) }
+        ensures heard { IfOk result (λ effect. effect.heard ≡ hello_verdict peer (is_unicast kind) seqno self.old) }
+        ensures ok { OnOk result (self.new ≡ hello_of now peer (is_unicast kind) seqno interval self.old) }
+        ensures err { OnErr result (self.new ≡ self.old) }
+        ensures kept { IfOk result (λ effect. effect.cost ≡ Kept → (nominal : ℕ) → cost_of peer nominal self.new ≡ cost_of peer nominal self.old) }
+    {
+        match self.search_sender(&peer) {
+            Ok(place) => {
+                let link = &mut self.links[place].1;
+                let effect = link.hear(now, kind, seqno, interval);
+                let due = link.due();
+                self.due = self.due.min(due);
+                Ok(effect)
+            }
+            Err(place) => {
+                if self.links.len() == MAX_NEIGHBOURS {
+                    return Err(Full);
+                }
+                let mut link = Link::new();
+                let effect = link.hear(now, kind, seqno, interval);
+                self.add(peer, place, link);
+                Ok(effect)
+            }
+        }
     }
 
     /// Handles an IHU, which advertises what receiving from us costs the neighbour (RFC 8966, section 3.4.2).
     /// The interval is in centiseconds. Returns `false` if the peer is no neighbour.
-    #[tactic(auto, unfolding(crate::specs::Neighbours::ihu_of))]
     pub fn ihu(&mut self, now: u64, peer: Peer, rxcost: Metric, interval: u16) -> bool
         ensures known { result ≡ is_some (find peer_cmp peer self.old) }
         ensures links { self.new ≡ ihu_of now peer rxcost interval self.old }
     {
-        let place = self.search_sender(&peer);
-        let Some(mut link) = self.link_at(peer, place) else {
-            return false;
+        let known = self.known(peer);
+        self.hear_ihu(now, peer, rxcost, interval);
+        known
+    }
+
+    /// The same. Returns what it changed of the cost of the peer's link: nothing if the peer is no neighbour.
+    #[tactic(auto, unfolding(crate::specs::Neighbours::ihu_of))]
+    pub fn hear_ihu(&mut self, now: u64, peer: Peer, rxcost: Metric, interval: u16) -> LinkCost
+        ensures links { self.new ≡ ihu_of now peer rxcost interval self.old }
+        ensures kept { result ≡ Kept → (nominal : ℕ) → cost_of peer nominal self.new ≡ cost_of peer nominal self.old }
+    {
+        let Ok(place) = self.search_sender(&peer) else {
+            return LinkCost::Kept;
         };
-        link.ihu(now, rxcost, interval);
-        self.put(peer, place, link);
-        true
+        let link = &mut self.links[place].1;
+        let cost = link.hear_ihu(now, rxcost, interval);
+        let due = link.due();
+        self.due = self.due.min(due);
+        cost
     }
 
     /// Handles the deadlines that are due (RFC 8966, sections 3.4.1 and 3.4.2): an expected Hello is

@@ -2,87 +2,130 @@
 
 use crate::ROUTE_PLACES;
 use babel_choice::Cursor;
+use babel_value::{Addr, Peer};
 
-/// How far an update's places in the tables are from those of the update before it, modulo 65,536.
+/// For how many neighbours the place of their last update is known.
+const LANES: usize = 16;
+
+/// The places of an update in the tables, or how far they are from those of another, modulo 65,536. Each table has fewer
+/// places.
 #[derive(Clone, Copy)]
-struct Step {
+struct Places {
     entry: u16,
     selection: u16,
     source: u16,
 }
 
-impl Step {
-    /// The same places.
-    const NONE: Step = Step {
+impl Places {
+    /// No places, and none is a step from them.
+    const NOWHERE: Places = Places {
+        entry: u16::MAX,
+        selection: u16::MAX,
+        source: u16::MAX,
+    };
+
+    /// No step: the same places.
+    const SAME: Places = Places {
         entry: 0,
         selection: 0,
         source: 0,
     };
+
+    /// The places that these are a step from.
+    fn after(self, step: Places) -> Cursor {
+        Cursor {
+            entry: index_after(self.entry, step.entry),
+            selection: index_after(self.selection, step.selection),
+            source: index_after(self.source, step.source),
+        }
+    }
+
+    /// The step to other places.
+    fn step_to(self, to: Places) -> Places {
+        Places {
+            entry: to.entry.wrapping_sub(self.entry),
+            selection: to.selection.wrapping_sub(self.selection),
+            source: to.source.wrapping_sub(self.source),
+        }
+    }
 }
 
-/// In which order the updates of a datagram came so far. It only matters for speed: a router sends its updates in the
-/// same order again and again, so the next one mostly is as far from this one as it was the last time.
+/// In which order the updates of each neighbour came so far. It only matters for speed: a router sends its updates in the
+/// same order again and again, so the next one mostly is as far from this one as it was the last time. A datagram mostly
+/// goes on where the neighbour's last one ended.
 #[derive(Drop)]
 pub struct Trail {
     /// Where the last update was.
-    last: Cursor,
+    last: Places,
+    /// The lane of the neighbour whose datagram it is.
+    lane: usize,
+    /// By lane, where the last update of the neighbour's last datagram was.
+    lanes: [Places; LANES],
     /// By the index of a route, the step from its update to the one after it.
-    steps: [Step; ROUTE_PLACES],
+    steps: [Places; ROUTE_PLACES],
 }
 
 impl Trail {
     /// No update has come yet.
     pub fn new() -> Trail {
         Trail {
-            last: Cursor::new(),
-            steps: [Step::NONE; ROUTE_PLACES],
+            last: Places::NOWHERE,
+            lane: 0,
+            lanes: [Places::NOWHERE; LANES],
+            steps: [Places::SAME; ROUTE_PLACES],
         }
     }
 
-    /// A datagram begins.
-    pub fn begin(&mut self) {
-        self.last = Cursor::new();
+    /// A datagram of the neighbour begins.
+    pub fn begin(&mut self, peer: &Peer) {
+        if let Some(left) = self.lanes.get_mut(self.lane) {
+            *left = self.last;
+        }
+        self.lane = lane_of(peer);
+        self.last = match self.lanes.get(self.lane) {
+            Some(last) => *last,
+            None => Places::NOWHERE,
+        };
     }
 
     /// Where the next update is likely to be.
     pub fn next(&self) -> Cursor {
-        let last = &self.last;
-        let step = match self.steps.get(last.entry) {
+        let step = match self.steps.get(usize::from(self.last.entry)) {
             Some(step) => *step,
-            None => Step::NONE,
+            None => Places::SAME,
         };
-        Cursor {
-            entry: index_after(last.entry, step.entry),
-            selection: index_after(last.selection, step.selection),
-            source: index_after(last.source, step.source),
-        }
+        self.last.after(step)
     }
 
     /// The next update was there.
-    pub fn push(&mut self, places: Cursor) {
-        let step = Step {
-            entry: step_between(self.last.entry, places.entry),
-            selection: step_between(self.last.selection, places.selection),
-            source: step_between(self.last.source, places.source),
+    pub fn push(&mut self, found: &Cursor) {
+        let places = Places {
+            entry: low_bits(found.entry),
+            selection: low_bits(found.selection),
+            source: low_bits(found.source),
         };
-        if let Some(known) = self.steps.get_mut(self.last.entry) {
-            *known = step;
+        if let Some(known) = self.steps.get_mut(usize::from(self.last.entry)) {
+            *known = self.last.step_to(places);
         }
         self.last = places;
     }
 }
 
+/// The lane of a neighbour, by the last octet of its address. Two may share one.
+fn lane_of(peer: &Peer) -> usize {
+    let last = match &peer.addr {
+        Addr::V4(octets) => octets[3],
+        Addr::V6(octets) => octets[15],
+    };
+    usize::from(last) % LANES
+}
+
 /// The index after a step.
-fn index_after(index: usize, step: u16) -> usize {
-    low_bits(index).wrapping_add(step) as usize
+fn index_after(index: u16, step: u16) -> usize {
+    usize::from(index.wrapping_add(step))
 }
 
-/// The step from an index to another.
-fn step_between(from: usize, to: usize) -> u16 {
-    low_bits(to).wrapping_sub(low_bits(from))
-}
-
-/// The index modulo 65,536. Each table has fewer places.
+/// The index modulo 65,536.
 fn low_bits(index: usize) -> u16 {
     (index % 65_536) as u16
 }

@@ -40,3 +40,4 @@ pub mod TimerDues
 pub mod EarlyTicks
 pub mod CurrentWalks
 pub mod SnapshotsSent
+pub mod StoredUpdates

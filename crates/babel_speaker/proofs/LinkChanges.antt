@@ -1,11 +1,11 @@
 -- If the cost of one link changed, the selections of the prefixes to which its neighbour has no route stay current.
-use Rattle.std.specs.Prelude.{◌≡◌, ◌≢◌, ℕ, Bool, true, false, cond, ◌&&◌, List, [], ◌∷◌, map, filter, IfSome, ⊤, nat_eq, nat_lt, Option, Some, None, if◌then◌else◌}
+use Rattle.std.specs.Prelude.{◌≡◌, ◌≢◌, ℕ, Bool, true, false, cond, ◌&&◌, List, [], ◌∷◌, map, filter, IfSome, ⊤, nat_lt, Option, Some, None, if◌then◌else◌}
 use Rattle.std.specs.Option.{option_map, option_map_or}
 use Rattle.std.specs.Ordering.{eq_by_cmp, is_eq, is_lt}
 use Rattle.std.specs.Cmp.{tied_itself}
 use Rattle.std.specs.FinMap.{find, put}
 use Rattle.std.proofs.Common.{refl, sym, ◌∙◌, ap, subst}
-use Rattle.std.proofs.lemmas.Bool.{or_parts, false≢true, eqb-true}
+use Rattle.std.proofs.lemmas.Bool.{or_parts, false≢true}
 use Rattle.babel_value.specs.declared.keys.Peer.{Peer}
 use Rattle.babel_value.specs.Metrics.{metric_sum}
 use Rattle.babel_value.specs.Orders.{prefix_cmp, peer_cmp}
@@ -15,7 +15,7 @@ use Rattle.babel_link.specs.declared.links.Link.{Link}
 use Rattle.babel_link.specs.declared.marks.Heard.{Heard}
 use Rattle.babel_link.specs.declared.marks.Heard.TheVariants.{Kept, Flush}
 use Rattle.babel_link.specs.Links.{hello_link, ihu_link}
-use Rattle.babel_link.specs.Neighbours.{Links, link_of, hello_of, hello_verdict, ihu_of, KeepsOtherCosts}
+use Rattle.babel_link.specs.Neighbours.{Links, link_of, hello_of, hello_verdict, ihu_of, cost_of, KeepsOtherCosts}
 use Rattle.babel_table.specs.Firsts.{first_from, first_of}
 use Rattle.babel_table.proofs.LookupLemmas.{eq_turned}
 use Rattle.babel_choice.specs.declared.entries.Selection.{Selection}
@@ -29,8 +29,6 @@ use Rattle.babel_state.specs.Ticks.{forget_each}
 use Rattle.babel_state.specs.CurrentSelections.{AreCurrent}
 use Rattle.babel_state.specs.SettledLaws.{with_ihu}
 use Rattle.babel_state.proofs.SettledLemmas.{other_cost}
-use Rattle.babel_speaker.specs.declared.tables.link_costs.LinkChange.{LinkChange}
-use Rattle.babel_speaker.specs.declared.tables.link_costs.LinkChange.TheVariants.{Nothing, Cost}
 use Rattle.babel_speaker.specs.LinkChanges.{prefixes_from, AreOthersCurrent}
 
 -- ---- the choice by costs that are the same for the neighbours of the routes
@@ -99,13 +97,6 @@ module _ (sources : Sources) (old new : Peer → ℕ) where
 
 -- ---- after a Hello or an IHU
 
-nothing_of : (b : Bool) → (if b then Nothing else Cost) ≡ Nothing → b ≡ true
-nothing_of true h = refl
-nothing_of false h = cc
-
-pub same_of : (a b : ℕ) (change : LinkChange) → change ≡ (if nat_eq a b then Nothing else Cost) → change ≡ Nothing → a ≡ b
-same_of a b change is nothing = eqb-true a b (nothing_of (nat_eq a b) (sym is ∙ nothing))
-
 abbrev with_links : Links → State → State
 with_links links s = record s { neighbours = links }
 
@@ -137,6 +128,18 @@ ihu_others now peer rxcost interval s t is current = subst (AreOthersCurrent pee
     by : (o : Option Link) → AreOthersCurrent peer (with_links (option_map_or (λ link. put peer_cmp peer (ihu_link now rxcost interval link) s.neighbours) o s.neighbours) s)
     by None = unchanged_others peer s current
     by (Some link) = put_others peer (ihu_link now rxcost interval link) s current
+
+-- The cost of the link as the speaker has it, if the link costs what it did at each nominal cost.
+pub hello_cost : (now : ℕ) (peer : Peer) (unicast : Bool) (seqno interval : ℕ) (s t : State) → t ≡ hears now peer unicast seqno interval s → ((nominal : ℕ) → cost_of peer nominal t.neighbours ≡ cost_of peer nominal s.neighbours) → cost_at t peer ≡ cost_at s peer
+hello_cost now peer unicast seqno interval s t is same =
+    ap (λ nominal. cost_of peer nominal t.neighbours) (ap (nominal_cost peer.iface) is ∙ by (hello_verdict peer unicast seqno s.neighbours)) ∙ same (nominal_cost peer.iface s)
+  where
+    by : (v : Heard) → nominal_cost peer.iface (forgets_flushed v peer (with_links (hello_of now peer unicast seqno interval s.neighbours) s)) ≡ nominal_cost peer.iface s
+    by Kept = refl
+    by Flush = refl
+
+pub ihu_cost : (now : ℕ) (peer : Peer) (rxcost interval : ℕ) (s t : State) → t ≡ with_ihu now peer rxcost interval s → ((nominal : ℕ) → cost_of peer nominal t.neighbours ≡ cost_of peer nominal s.neighbours) → cost_at t peer ≡ cost_at s peer
+ihu_cost now peer rxcost interval s t is same = ap (λ nominal. cost_of peer nominal t.neighbours) (ap (nominal_cost peer.iface) is) ∙ same (nominal_cost peer.iface s)
 
 -- ---- after a tick
 

@@ -1,8 +1,8 @@
 //! Hellos and IHUs (RFC 8966, section 3.4).
 
-ghost use Rattle.std.specs.Prelude.{◌≡◌, ◌↔◌, true, IsTrue, IsFalse, IsErr, IfOk, OnOk, OnErr, nat_eq, if◌then◌else◌};
-ghost use Rattle.babel_link.specs.Neighbours.{hello_verdict};
-ghost use Rattle.babel_state.specs.State.{cost_at};
+ghost use Rattle.std.specs.Prelude.{◌≡◌, ◌↔◌, ℕ, true, IsTrue, IsFalse, IsErr, IfOk, OnOk, OnErr};
+ghost use Rattle.babel_link.specs.declared.changes.LinkCost.TheVariants.{Kept};
+ghost use Rattle.babel_link.specs.Neighbours.{hello_verdict, cost_of};
 ghost use Rattle.babel_state.specs.Hellos.{is_for_interface, is_neighbour_too_many, forgets_flushed, hears, handle_hello, handle_ihu};
 ghost use Rattle.babel_state.specs.CurrentSelections.{AreCurrent};
 ghost use Rattle.babel_state.specs.KeptRoutes.{KeepsRoutes};
@@ -15,9 +15,19 @@ use crate::input::records::{Arrival, ReceivedHello, ReceivedIhu};
 use crate::state::Core;
 use crate::tables::LinkChange;
 use crate::tables::addresses::is_own_address;
-use babel_link::{Full, Heard};
+use babel_link::{Full, Heard, HelloEffect, LinkCost};
 use babel_state::Verdict;
-use babel_value::{Addr, Metric, Peer};
+use babel_value::{Addr, HelloKind, Metric, Peer};
+
+/// What changed if nothing but the cost of a link may have.
+fn change_of(cost: LinkCost) -> LinkChange
+    ensures { (result ≡ Nothing) ↔ (cost ≡ Kept) }
+{
+    match cost {
+        LinkCost::Kept => LinkChange::Nothing,
+        LinkCost::Changed => LinkChange::Cost,
+    }
+}
 
 impl Core {
     /// Whether an IHU is for this speaker: it is for all, or for an own address of the interface over
@@ -44,32 +54,23 @@ impl Core {
         }
     }
 
-    /// What changed if the link to the peer had this cost and all else is as it was.
-    fn change_from(&self, peer: &Peer, cost: Metric) -> LinkChange
-        ensures { result ≡ (if nat_eq (cost_at self.now peer.now) cost then Nothing else Cost) }
-    {
-        if self.cost(peer).0 == cost.0 {
-            LinkChange::Nothing
-        } else {
-            LinkChange::Cost
-        }
-    }
-
     /// Takes a Hello into the neighbour table, and removes the routes of a neighbour that it flushes.
-    fn take_hello(&mut self, arrival: Arrival, hello: &ReceivedHello) -> Result<Heard, Full>
+    fn take_hello(&mut self, arrival: Arrival, hello: &ReceivedHello) -> Result<HelloEffect, Full>
         ensures full { IsErr result ↔ (is_neighbour_too_many arrival.peer self.old ≡ true) }
         ensures ok { OnOk result (self.new ≡ hears arrival.now arrival.peer hello.now.unicast hello.now.seqno hello.now.interval self.old) }
         ensures err { OnErr result (self.new ≡ self.old) }
-        ensures heard { IfOk result (λ heard. heard ≡ hello_verdict arrival.peer hello.now.unicast hello.now.seqno self.old.neighbours) }
+        ensures heard { IfOk result (λ effect. effect.heard ≡ hello_verdict arrival.peer hello.now.unicast hello.now.seqno self.old.neighbours) }
+        ensures kept { IfOk result (λ effect. effect.cost ≡ Kept → (nominal : ℕ) → cost_of arrival.peer nominal self.new.neighbours ≡ cost_of arrival.peer nominal self.old.neighbours) }
     {
         let (now, peer) = (arrival.now, arrival.peer);
+        let kind = HelloKind::of(hello.unicast);
         match self
             .neighbours
-            .hello(now, peer, hello.unicast, hello.seqno, hello.interval)
+            .hear(now, peer, kind, hello.seqno, hello.interval)
         {
-            Ok(heard) => {
-                self.forget_flushed(heard, &peer);
-                Ok(heard)
+            Ok(effect) => {
+                self.forget_flushed(effect.heard, &peer);
+                Ok(effect)
             }
             Err(full) => Err(full),
         }
@@ -85,11 +86,9 @@ impl Core {
         ensures kept { IfOk result (λ change. change ≡ Nothing → KeepsRoutes self.old self.new) }
         ensures cost { IfOk result (λ change. change ≡ Cost → AreCurrent self.old → AreOthersCurrent arrival.peer self.new) }
     {
-        let peer = arrival.peer;
-        let cost = self.cost(&peer);
         match self.take_hello(arrival, hello) {
-            Ok(heard) => match heard {
-                Heard::Kept => Ok(self.change_from(&peer, cost)),
+            Ok(effect) => match effect.heard {
+                Heard::Kept => Ok(change_of(effect.cost)),
                 Heard::Flush => Ok(LinkChange::Routes),
             },
             Err(full) => Err(full),
@@ -124,12 +123,13 @@ impl Core {
         }
     }
 
-    /// Takes an IHU into the neighbour table.
+    /// Takes an IHU into the neighbour table. Returns what it changed of the cost of the peer's link.
     #[tactic(auto, unfolding(babel_state::specs::Hellos::handle_ihu))]
-    fn take_ihu(&mut self, now: u64, peer: &Peer, rxcost: Metric, interval: u16)
-        ensures { self.new ≡ with_ihu now peer.now rxcost interval self.old }
+    fn take_ihu(&mut self, now: u64, peer: &Peer, rxcost: Metric, interval: u16) -> LinkCost
+        ensures state { self.new ≡ with_ihu now peer.now rxcost interval self.old }
+        ensures kept { result ≡ Kept → (nominal : ℕ) → cost_of peer.now nominal self.new.neighbours ≡ cost_of peer.now nominal self.old.neighbours }
     {
-        self.neighbours.ihu(now, *peer, rxcost, interval);
+        self.neighbours.hear_ihu(now, *peer, rxcost, interval)
     }
 
     /// The same. Returns what changed, as `hear`.
@@ -139,9 +139,7 @@ impl Core {
         ensures kept { result ≡ Nothing → KeepsRoutes self.old self.new }
         ensures cost { AreCurrent self.old → AreOthersCurrent peer.now self.new }
     {
-        let cost = self.cost(peer);
-        self.take_ihu(now, peer, rxcost, interval);
-        self.change_from(peer, cost)
+        change_of(self.take_ihu(now, peer, rxcost, interval))
     }
 
     /// Handles an IHU (RFC 8966, section 3.4.2). A cost may change by it; then routes are selected again.

@@ -38,9 +38,12 @@ fn is_update(content: &Content) -> bool {
     )
 }
 
-/// Whether an update with this verdict was looked for in the tables, and is there.
+/// Whether an update with this verdict was looked for in the tables: it is there, or its place was found taken.
 fn is_placed(verdict: &Verdict) -> bool {
-    matches!(verdict, Verdict::Taken | Verdict::Unfeasible(_))
+    matches!(
+        verdict,
+        Verdict::Taken | Verdict::Unfeasible(_) | Verdict::TableFull
+    )
 }
 
 /// Handles one of the contents, as `handle_content`. An Update is looked for where it is likely to be.
@@ -58,13 +61,7 @@ fn handle_next(core: &mut Core, arrival: Arrival, content: &Content, hints: &mut
     };
     let verdict = handle_content(core, arrival, content, hints);
     if is_update && is_placed(&verdict) {
-        let found = &hints.cursor;
-        let place = Cursor {
-            entry: found.entry,
-            selection: found.selection,
-            source: found.source,
-        };
-        hints.trail.push(place);
+        hints.trail.push(&hints.cursor);
     }
     verdict
 }
@@ -84,7 +81,7 @@ fn handle_places(
     ensures current { IsTrue hints.new.settled → AreCurrent core.new }
     ensures kept { IsFalse hints.new.changed → KeepsRoutes core.old core.new }
 {
-    hints.trail.begin();
+    hints.trail.begin(&arrival.peer);
     for place in placed {
         let changed = hints.changed;
         hints.changed = false;

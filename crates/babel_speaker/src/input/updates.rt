@@ -6,7 +6,7 @@ ghost use Rattle.babel_state.specs.declared.notes.Verdict.TheVariants.{TableFull
 ghost use Rattle.babel_state.specs.CurrentSelections.{AreCurrent};
 ghost use Rattle.babel_state.specs.KeptRoutes.{KeepsRoutes};
 ghost use Rattle.babel_state.specs.Reselection.{select};
-ghost use Rattle.babel_state.specs.State.{selected_at};
+ghost use Rattle.babel_state.specs.State.{pair_at, selected_at};
 ghost use Rattle.babel_state.specs.Updates.{store, is_satisfied, advertise_if_selected, satisfy_request, judge, is_route_too_many, handle_update, handle_retraction, handle_retract_all};
 
 use crate::hints::Hints;
@@ -115,35 +115,31 @@ impl Core {
         Some(selected)
     }
 
-    /// Stores an update and judges it against the distance that its source had. If the hints aren't `changed` then, the
-    /// selected routes are reported as before.
+    /// Stores an update and judges it against the distance of its source, which that doesn't change. So the source of an
+    /// update that is refused is not looked up. If the hints aren't `changed` then, the selected routes are reported as
+    /// before.
     #[tactic(auto, unfolding(babel_state::specs::Reselection::reselect))]
-    fn store_and_judge(
-        &mut self,
-        now: u64,
-        update: &ReceivedUpdate,
-        pair: &Option<Distance>,
-        hints: &mut Hints,
-    ) -> Verdict
+    fn store_and_judge(&mut self, now: u64, update: &ReceivedUpdate, hints: &mut Hints) -> Verdict
         requires settled { IsTrue hints.old.settled → AreCurrent self.old }
         ensures settled { hints.new.settled ≡ hints.old.settled }
         ensures kept { IsFalse hints.new.changed → KeepsRoutes self.old self.new }
-        ensures state { (self.new, result) ≡ (if is_route_too_many update.now.source.prefix update.now.peer self.old then (self.old, TableFull) else judge now update.now.peer update.now.source.prefix update.now.source.router update.now.distance pair.now (store now update.now.peer update.now.source.prefix update.now.source.router update.now.next_hop update.now.distance update.now.interval self.old)) }
+        ensures state { (self.new, result) ≡ (if is_route_too_many update.now.source.prefix update.now.peer self.old then (self.old, TableFull) else judge now update.now.peer update.now.source.prefix update.now.source.router update.now.distance (pair_at update.now.source.prefix update.now.source.router self.old) (store now update.now.peer update.now.source.prefix update.now.source.router update.now.next_hop update.now.distance update.now.interval self.old)) }
     {
         let source = update.source;
         let Some(selections) = self.store_and_select(now, update, hints) else {
             return Verdict::TableFull;
         };
         hints.changed = !are_alike(&selections.0, &selections.1);
-        if let Some(pair) = pair {
-            if !is_feasible(pair, &update.distance) {
+        let near = &mut hints.cursor.source;
+        if let Some(pair) = self.sources.pair_near(&source, near) {
+            if !is_feasible(&pair, &update.distance) {
                 let cause = UnfeasibleUpdate {
                     peer: update.peer,
                     router: source.router,
                 };
                 let cursor = &mut hints.cursor;
                 self.follow_up(now, Some(cause), &source.prefix, &selections, cursor);
-                return Verdict::Unfeasible(*pair);
+                return Verdict::Unfeasible(pair);
             }
         }
         let cursor = &mut hints.cursor;
@@ -167,10 +163,7 @@ impl Core {
         if update.source.router.cmp(&self.router).is_eq() {
             return Verdict::OwnRouterId;
         }
-        let Source { prefix, router } = update.source;
-        let near = &mut hints.cursor.source;
-        let pair = self.sources.pair_near(&Source { prefix, router }, near);
-        self.store_and_judge(now, update, &pair, hints)
+        self.store_and_judge(now, update, hints)
     }
 
     /// Handles a retraction of a prefix (RFC 8966, section 3.5.3). If the hints aren't `changed` then, the selected routes

@@ -1,0 +1,57 @@
+-- When two links cost the same, and that a peer costs what it did if its link does.
+use Rattle.std.specs.Prelude.{◌≡◌, ℕ, Bool, true, false, ◌||◌, ◌==◌, Option, Some, None, set, if◌then◌else◌}
+use Rattle.std.proofs.Common.{get_or, refl, sym, ap, subst, ◌∙◌}
+use Rattle.std.specs.FinMap.{find, put}
+use Rattle.std.specs.Option.{option_map_or, unwrap_or}
+use Rattle.babel_value.specs.declared.keys.Peer.{Peer}
+use Rattle.babel_value.specs.Metrics.{infinity}
+use Rattle.babel_value.specs.Orders.{peer_cmp}
+use Rattle.babel_link.specs.declared.links.Link.{Link}
+use Rattle.babel_link.specs.Links.{new_link, is_up_history, link_rxcost, link_cost}
+use Rattle.babel_link.specs.Neighbours.{Links, link_of, cost_of}
+use Rattle.babel_link.specs.Places.{IsPlaceOf}
+use Rattle.babel_link.proofs.LookUpLemmas.{find-put_own}
+
+-- The nominal cost only makes a cost infinite, or not.
+cost_by_nominal : (nominal : ℕ) (link : Link) → link_cost nominal link ≡ (if nominal == infinity then infinity else link_cost 0 link)
+unfolding link_cost link_rxcost
+cost_by_nominal nominal link = by (is_up_history link.multicast || is_up_history link.unicast)
+  where
+    either : (b : Bool) → infinity ≡ (if b then infinity else infinity)
+    either true = refl
+    either false = refl
+
+    by : (up : Bool) →
+        (if (if up then nominal else infinity) == infinity then infinity else link.txcost)
+        ≡ (if nominal == infinity then infinity else if (if up then 0 else infinity) == infinity then infinity else link.txcost)
+    by true = refl
+    by false = either (nominal == infinity)
+
+pub same_costs : (one other : Link) → link_cost 0 one ≡ link_cost 0 other → (nominal : ℕ) → link_cost nominal one ≡ link_cost nominal other
+same_costs one other same nominal =
+    cost_by_nominal nominal one ∙ ap (λ cost. if nominal == infinity then infinity else cost) same ∙ sym (cost_by_nominal nominal other)
+
+-- A peer that is no neighbour costs what one costs of which nothing is known.
+cost_of_known : (nominal : ℕ) (known : Option Link) → option_map_or (link_cost nominal) known infinity ≡ link_cost nominal (unwrap_or known new_link)
+unfolding link_cost link_rxcost
+cost_of_known nominal None = refl
+cost_of_known nominal (Some link) = refl
+
+pub put_cost_kept : (peer : Peer) (before after : Link) (links : Links) → before ≡ link_of peer links →
+    ((nominal : ℕ) → link_cost nominal after ≡ link_cost nominal before) →
+    (nominal : ℕ) → cost_of peer nominal (put peer_cmp peer after links) ≡ cost_of peer nominal links
+unfolding cost_of
+put_cost_kept peer before after links is same nominal =
+    ap (λ o. option_map_or (link_cost nominal) o infinity) (find-put_own peer after links)
+    ∙ same nominal ∙ ap (link_cost nominal) is ∙ sym (cost_of_known nominal (find peer_cmp peer links))
+
+-- The same, if the link is written at the peer's place.
+pub written_cost_kept : (peer : Peer) (links : Links) (place : ℕ) (entry : Peer × Link) (after : Link) → IsPlaceOf peer links place → entry ≡ get_or links place entry →
+    ((nominal : ℕ) → link_cost nominal after ≡ link_cost nominal entry.1) →
+    (nominal : ℕ) → cost_of peer nominal (set links place (entry.0, after)) ≡ cost_of peer nominal links
+written_cost_kept peer links place entry after here read same nominal =
+    let written : put peer_cmp peer after links ≡ set links place (entry.0, after) =
+    here.written after entry ∙ ap (λ (e : Peer × Link). set links place (e.0, after)) (sym read) in
+    let known : entry.1 ≡ link_of peer links =
+    ap (λ (e : Peer × Link). e.1) read ∙ ap (λ o. unwrap_or o new_link) (sym (here.found entry)) in
+    subst (λ (ls : Links). cost_of peer nominal ls ≡ cost_of peer nominal links) written (put_cost_kept peer entry.1 after links known same nominal)
