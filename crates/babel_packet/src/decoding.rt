@@ -2,8 +2,8 @@
 //!
 //! `decode` is linear in the octets. It makes one list, sized by a twelfth of the body at first, and reads
 //! each octet a bounded number of times. Payloads are slices of the input. The readers are inlined into one
-//! function: a value that goes through memory comes back wider than it was written, which stalls the
-//! processor (docs/PERFORMANCE.md).
+//! function, but for that of a Next Hop: a value that goes through memory comes back wider than it was
+//! written, which stalls the processor (docs/PERFORMANCE.md).
 
 ghost use Rattle.std.specs.Prelude.{◌≡◌, ◌<◌, ◌+◌, ◌^◌, length, IfOk, IfErr, OnOk, OnErr, MatchOption, [], vec_len, vec_capacity};
 ghost use Rattle.babel_tlv.specs.Split.{places_of, fault_of};
@@ -101,7 +101,7 @@ fn read_body(body: &[u8], source: Addr, placed: &mut Vec<Placed>) -> Result<(), 
     let mut state = ParserState::new(source);
     let mut tlvs = walk(body);
     while let Some(tlv) = tlvs.next() {
-        if placed.reserve(1).is_err() {
+        if placed.capacity() <= placed.len() && placed.reserve(1).is_err() {
             return Err(out_of_memory(body));
         }
         read_place(tlv, &mut state, placed);

@@ -1,14 +1,15 @@
 //! Update, and the retractions that it encodes (RFC 8966, section 4.6.9).
 
-ghost use Rattle.std.specs.Prelude.{◌≡◌, ◌≤◌, ◌<◌, ◌+◌, ◌*◌, length, drop, option_map, IsTrue, IfSome, vec_len, vec_capacity};
+ghost use Rattle.std.specs.Prelude.{◌≡◌, ◌≤◌, ◌<◌, ◌+◌, ◌*◌, length, drop, IsTrue, IfSome, vec_len, vec_capacity};
 ghost use Rattle.babel_value.specs.Prefixes.{cleared};
 ghost use Rattle.babel_message.specs.Layout as layout;
+ghost use Rattle.babel_packet.specs.Numbers as numbers;
 ghost use Rattle.babel_packet.specs.Numbers.{octet};
 ghost use Rattle.babel_packet.specs.Contents.{put};
 ghost use Rattle.babel_packet.specs.Tails.{after_tail};
 ghost use Rattle.babel_packet.specs.Prefixes.{bits_of};
 ghost use Rattle.babel_packet.specs.UpdateFields as fields;
-ghost use Rattle.babel_packet.specs.LookBack.{flagged as flagged_address, router_of_ipv4, router_of_ipv6};
+ghost use Rattle.babel_packet.specs.LookBack.{router_of_ipv4, router_of_ipv6};
 ghost use Rattle.babel_packet.specs.Updates.{update, update4, update6, update_of, wildcard};
 ghost use Rattle.babel_packet.specs.Running.{after};
 
@@ -81,23 +82,25 @@ fn read_update4(payload: &[u8], offset: usize, state: &mut ParserState, placed: 
     if !is_readable(IPV4_LEN, payload) {
         return push_ignored(placed, offset, Reason::Unreadable);
     }
-    let octets = address(state.default4, payload);
-    state.default4 = flagged(octets, wire::SETS_PREFIX, payload).or(state.default4);
-    state.router = router4(flagged(octets, wire::SETS_ROUTER_ID, payload)).or(state.router);
+    let Some(octets) = address(state.default4, payload) else {
+        let reason = tail_reason(tail(payload)).unwrap_or(Reason::NoDefaultPrefix);
+        return push_ignored(placed, offset, reason);
+    };
+    if sets(wire::SETS_PREFIX, payload) {
+        state.default4 = Some(octets);
+    }
+    if sets(wire::SETS_ROUTER_ID, payload) {
+        state.router = Some(router4(octets));
+    }
     if let Some(reason) = tail_reason(tail(payload)) {
         return push_ignored(placed, offset, reason);
     }
-    match octets {
-        Some(octets) => {
-            let prefix = Prefix::new_unchecked(Addr::V4(octets), payload[wire::PLEN]);
-            let origin = Origin {
-                router: state.router,
-                next_hop: state.hop4.map(Addr::V4),
-            };
-            push_update(prefix, origin, payload, offset, placed)
-        }
-        None => push_ignored(placed, offset, Reason::NoDefaultPrefix),
-    }
+    let prefix = Prefix::new_unchecked(Addr::V4(octets), payload[wire::PLEN]);
+    let origin = Origin {
+        router: state.router,
+        next_hop: state.hop4.map(Addr::V4),
+    };
+    push_update(prefix, origin, payload, offset, placed)
 }
 
 /// An Update of an IPv6 prefix.
@@ -113,23 +116,25 @@ fn read_update6(payload: &[u8], offset: usize, state: &mut ParserState, placed: 
     if !is_readable(IPV6_LEN, payload) {
         return push_ignored(placed, offset, Reason::Unreadable);
     }
-    let octets = address(state.default6, payload);
-    state.default6 = flagged(octets, wire::SETS_PREFIX, payload).or(state.default6);
-    state.router = router6(flagged(octets, wire::SETS_ROUTER_ID, payload)).or(state.router);
+    let Some(octets) = address(state.default6, payload) else {
+        let reason = tail_reason(tail(payload)).unwrap_or(Reason::NoDefaultPrefix);
+        return push_ignored(placed, offset, reason);
+    };
+    if sets(wire::SETS_PREFIX, payload) {
+        state.default6 = Some(octets);
+    }
+    if sets(wire::SETS_ROUTER_ID, payload) {
+        state.router = Some(router6(octets));
+    }
     if let Some(reason) = tail_reason(tail(payload)) {
         return push_ignored(placed, offset, reason);
     }
-    match octets {
-        Some(octets) => {
-            let prefix = Prefix::new_unchecked(Addr::V6(octets), payload[wire::PLEN]);
-            let origin = Origin {
-                router: state.router,
-                next_hop: state.hop6.map(Addr::V6),
-            };
-            push_update(prefix, origin, payload, offset, placed)
-        }
-        None => push_ignored(placed, offset, Reason::NoDefaultPrefix),
-    }
+    let prefix = Prefix::new_unchecked(Addr::V6(octets), payload[wire::PLEN]);
+    let origin = Origin {
+        router: state.router,
+        next_hop: state.hop6.map(Addr::V6),
+    };
+    push_update(prefix, origin, payload, offset, placed)
 }
 
 /// Whether Plen isn't too large, and the octets of the prefix are there.
@@ -185,40 +190,33 @@ fn address<const N: usize>(default: Option<[u8; N]>, payload: &[u8]) -> Option<[
     ))
 }
 
-/// The address, if the Update has the flag.
+/// Whether the Update has the flag.
 #[inline]
-fn flagged<const N: usize>(octets: Option<[u8; N]>, flag: u8, payload: &[u8]) -> Option<[u8; N]>
+fn sets(flag: u8, payload: &[u8]) -> bool
     requires { layout.update_len ≤ length payload.now }
-    ensures { result ≡ flagged_address flag payload.now octets.entry }
+    ensures { result ≡ numbers.has_flag (octet payload.now layout.update_flags) flag }
 {
-    let octets = octets?;
-    if has_flag(u16::from(payload[wire::FLAGS]), u16::from(flag)) {
-        Some(octets)
-    } else {
-        None
-    }
+    has_flag(u16::from(payload[wire::FLAGS]), u16::from(flag))
 }
 
 /// The router-id of an IPv4 address: its octets after four zeros.
 #[inline]
-fn router4(octets: Option<[u8; IPV4_LEN]>) -> Option<[u8; ROUTER_ID_LEN]>
-    ensures { result ≡ option_map router_of_ipv4 octets }
+fn router4(octets: [u8; IPV4_LEN]) -> [u8; ROUTER_ID_LEN]
+    ensures { result ≡ router_of_ipv4 octets }
 {
-    let octets = octets?;
     let mut router = [0; ROUTER_ID_LEN];
     router[ROUTER_ID_LEN - IPV4_LEN..].copy_from_slice(octets.as_slice());
-    Some(router)
+    router
 }
 
 /// The router-id of an IPv6 address: its last 8 octets.
 #[inline]
-fn router6(octets: Option<[u8; IPV6_LEN]>) -> Option<[u8; ROUTER_ID_LEN]>
-    ensures { result ≡ option_map router_of_ipv6 octets }
+fn router6(octets: [u8; IPV6_LEN]) -> [u8; ROUTER_ID_LEN]
+    ensures { result ≡ router_of_ipv6 octets }
 {
-    let octets = octets?;
     let mut router = [0; ROUTER_ID_LEN];
     router.copy_from_slice(&octets[IPV6_LEN - ROUTER_ID_LEN..]);
-    Some(router)
+    router
 }
 
 /// What an Update takes from the parser state, if it is set.
