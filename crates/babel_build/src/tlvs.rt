@@ -17,8 +17,8 @@ use arrayvec::ArrayVec;
 use babel_message::layout::hello::UNICAST;
 use babel_message::layout::{seqno_request, update};
 use babel_message::{
-    ACK, ACK_REQUEST, AE_WILDCARD, HELLO, IHU, NEXT_HOP, ROUTE_REQUEST, ROUTER_ID, SEQNO_REQUEST,
-    UPDATE,
+    ACK, ACK_REQUEST, AE_IPV4, AE_WILDCARD, HELLO, IHU, NEXT_HOP, ROUTE_REQUEST, ROUTER_ID,
+    SEQNO_REQUEST, UPDATE,
 };
 use babel_packet::ParserState;
 use babel_tlv::{DATAGRAM_LEN, MAX_PAYLOAD_LEN, TLV_HEADER_LEN};
@@ -26,9 +26,6 @@ use babel_value::{Addr, HelloKind, Metric, Prefix, RouterId, Seqno};
 
 /// The datagram that is being built.
 pub(crate) type Datagram = ArrayVec<u8, DATAGRAM_LEN>;
-
-/// How many octets are pushed one by one.
-const FEW: usize = 4;
 
 /// Appends a TLV whose payload is the fields and then these octets.
 #[inline(always)]
@@ -51,19 +48,20 @@ fn put_tlv(datagram: &mut Datagram, kind: u8, fields: &[u8], octets: &[u8]) -> b
     true
 }
 
-/// Appends octets, for which there is room. An Update mostly has few, and to push these takes less than a call that
-/// copies them.
+/// Appends octets, for which there is room. An Update mostly has few. Their number is known to the
+/// compiler in its arm, so that it makes a move of them and no call.
 #[inline(always)]
 fn append(datagram: &mut Datagram, octets: &[u8])
     requires { length datagram.old.items + length octets.now ≤ DATAGRAM_LEN }
     ensures { datagram.new.items ≡ datagram.old.items ++ octets.now }
 {
-    if octets.len() > FEW {
-        datagram.try_extend_from_slice(octets).unwrap();
-        return;
-    }
-    for octet in octets {
-        datagram.push(*octet);
+    match octets.len() {
+        0 => {}
+        1 => datagram.try_extend_from_slice(octets).unwrap(),
+        2 => datagram.try_extend_from_slice(octets).unwrap(),
+        3 => datagram.try_extend_from_slice(octets).unwrap(),
+        4 => datagram.try_extend_from_slice(octets).unwrap(),
+        _ => datagram.try_extend_from_slice(octets).unwrap(),
     }
 }
 
@@ -156,8 +154,17 @@ pub(crate) fn put_next_hop(datagram: &mut Datagram, next_hop: Addr) -> bool
     ensures appended { OnTrue result (datagram.new.items ≡ datagram.old.items ++ spelled layout.next_hop (next_hop_payload next_hop)) }
     ensures unchanged { OnFalse result (datagram.new ≡ datagram.old) }
 {
-    let (encoding, octets) = encoded(&next_hop);
-    put_tlv(datagram, NEXT_HOP, &[encoding, 0], octets)
+    match next_hop {
+        Addr::V4(octets) => {
+            let [a, b, c, d] = octets;
+            put_tlv(datagram, NEXT_HOP, &[AE_IPV4, 0, a, b, c, d], &[])
+        }
+        Addr::V6(octets) => {
+            let addr = Addr::V6(octets);
+            let (encoding, octets) = encoded(&addr);
+            put_tlv(datagram, NEXT_HOP, &[encoding, 0], octets)
+        }
+    }
 }
 
 /// What an Update advertises of a prefix.
