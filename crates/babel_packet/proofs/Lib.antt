@@ -13,3 +13,4 @@ pub mod Octets
 pub mod Sendable
 pub mod FirstReasons
 pub mod Spreading
+pub mod Words

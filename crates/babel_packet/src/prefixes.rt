@@ -1,6 +1,7 @@
 //! Prefixes in a payload (RFC 8966, sections 4.1.5 and 4.6.9).
 
-ghost use Rattle.std.specs.Prelude.{◌≡◌, ◌≤◌, ◌<◌, ◌+◌, ◌-◌, ◌*◌, ◌/◌, ◌%◌, ◌^◌, ◌++◌, ℕ, length, map, take, drop, slice_index, IsTrue};
+ghost use Rattle.std.specs.Prelude.{◌≡◌, ◌≤◌, ◌<◌, ◌+◌, ◌-◌, ◌*◌, ◌/◌, ◌%◌, ◌^◌, ◌++◌, ℕ, length, map, take, drop, slice_index, replicate, IsTrue};
+ghost use Rattle.std.specs.Int.{from_be_bytes, w64};
 ghost use Rattle.std.specs.List.{range_with_len};
 ghost use Rattle.babel_value.specs.Prefixes.{cleared};
 ghost use Rattle.babel_message.specs.Layout as layout;
@@ -8,6 +9,9 @@ ghost use Rattle.babel_packet.specs.Prefixes as prefixes;
 ghost use Rattle.babel_packet.specs.Prefixes.{octets_of, bits_of, prefix_octet};
 
 use babel_value::keep_bits;
+
+/// How many octets of a prefix are moved as one number.
+const WORD_LEN: usize = 8;
 
 /// How many octets a prefix of this length takes.
 #[inline]
@@ -34,6 +38,9 @@ pub(crate) fn is_whole(size: usize, omitted: u8, bits: u8, at: usize, payload: &
 }
 
 /// The octets of the prefix's address: the omitted ones from `default`, the others from the payload.
+///
+/// Most prefixes have at most 64 bits: they are one number. The others, and those in a payload with too
+/// few octets before them, are copied.
 #[inline(always)]
 #[tactic(auto, unfolding(crate::specs::Prefixes::prefix_octets))]
 pub(crate) fn prefix_octets<const N: usize>(
@@ -48,6 +55,78 @@ pub(crate) fn prefix_octets<const N: usize>(
     requires at { at ≤ layout.seqno_request_len }
     ensures value { result ≡ prefixes.prefix_octets N default.entry omitted bits at payload.now }
     ensures clear { cleared bits result ≡ result }
+{
+    let full = octets_of(bits);
+    if at < WORD_LEN || full > WORD_LEN || omitted as usize >= full {
+        return any_octets(default, omitted, bits, at, payload);
+    }
+    resized(first_octets(resized(default), omitted, bits, at, payload))
+}
+
+/// As many of the octets, or zeros after them.
+#[inline(always)]
+fn resized<const N: usize, const M: usize>(octets: [u8; N]) -> [u8; M]
+    ensures { (j : ℕ) → j < M → slice_index result j ≡ slice_index octets.entry j }
+{
+    let size = N.min(M);
+    let mut resized = [0; M];
+    resized[..size].copy_from_slice(&octets[..size]);
+    resized
+}
+
+/// The octets of a prefix of at most 64 bits, of which one at least is written. The eight octets that end
+/// with the written ones are read as one number, which is shifted to where they belong.
+#[inline(always)]
+fn first_octets(
+    default: [u8; WORD_LEN],
+    omitted: u8,
+    bits: u8,
+    at: usize,
+    payload: &[u8],
+) -> [u8; WORD_LEN]
+    requires short { octets_of bits ≤ WORD_LEN }
+    requires written { omitted < octets_of bits }
+    requires there { at + (octets_of bits - omitted) ≤ length payload.now }
+    requires at { (WORD_LEN ≤ at) × (at ≤ layout.seqno_request_len) }
+    ensures { result ≡ prefixes.prefix_octets WORD_LEN default omitted bits at payload.now }
+{
+    let written = octets_of(bits) - omitted as usize;
+    let end = at + written;
+    let mut word = [0; WORD_LEN];
+    word.copy_from_slice(&payload[end - WORD_LEN..end]);
+    let moved = u64::from_be_bytes(word) << (8 * (WORD_LEN - written));
+    let number = front(default, omitted) | (moved >> (8 * omitted as usize));
+    let past = 8 * WORD_LEN - bits as usize;
+    ((number >> past) << past).to_be_bytes()
+}
+
+/// The first octets as the first ones of a number, whose others are zeros.
+#[inline(always)]
+fn front(octets: [u8; WORD_LEN], kept: u8) -> u64
+    requires { kept < WORD_LEN }
+    ensures { result ≡ from_be_bytes w64 (take kept octets ++ replicate (WORD_LEN - kept) 0) }
+{
+    if kept == 0 {
+        return 0;
+    }
+    let past = 8 * (WORD_LEN - kept as usize);
+    (u64::from_be_bytes(octets) >> past) << past
+}
+
+/// The octets of any prefix, copied.
+#[inline(never)]
+#[tactic(auto, unfolding(crate::specs::Prefixes::prefix_octets))]
+fn any_octets<const N: usize>(
+    default: [u8; N],
+    omitted: u8,
+    bits: u8,
+    at: usize,
+    payload: &[u8],
+) -> [u8; N]
+    requires short { bits ≤ bits_of N }
+    requires there { at + (octets_of bits - omitted) ≤ length payload.now }
+    requires at { at ≤ layout.seqno_request_len }
+    ensures { result ≡ prefixes.prefix_octets N default.entry omitted bits at payload.now }
 {
     clear_last(spread(default, omitted, bits, at, payload), bits)
 }
