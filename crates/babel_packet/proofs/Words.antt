@@ -1,12 +1,12 @@
 -- Octets as one number, the first one highest, and what shifts make of it.
-use Rattle.std.proofs.Common.{◌≡◌, ℕ, zero, suc, ◌+◌, ◌-◌, ◌*◌, ◌/◌, ◌%◌, ◌^◌, ◌<◌, ◌≤◌, min, false, ◌⊎◌, List, [], ◌∷◌, ◌++◌, length, take, drop, replicate, map, get_or, nat_lt, inl, inr, refl, ap, sym, ◌∙◌, arith, slice_range, zero-mul, zero-add, bit_or, mul_assoc, add-mul, w64, length-append, length-drop, mul-le-mul, mul_right_comm}
+use Rattle.std.proofs.Common.{◌≡◌, ℕ, zero, suc, ◌+◌, ◌-◌, ◌*◌, ◌/◌, ◌%◌, ◌^◌, ◌<◌, ◌≤◌, false, ◌⊎◌, List, [], ◌∷◌, ◌++◌, length, take, drop, replicate, map, get_or, nat_lt, inl, inr, refl, ap, sym, ◌∙◌, arith, slice_range, zero-mul, zero-add, bit_or, mul_assoc, add-mul, w64, length-append, length-drop, mul-le-mul, mul_right_comm}
 use Rattle.std.specs.List.{range_with_len}
 use Rattle.std.specs.Int.{from_be_bytes, to_be_bytes}
 use Rattle.std.proofs.Math.Nat.{mod-one, mul-add-div_right}
 use Rattle.std.proofs.lemmas.Bool.{le-ltb, cases_lt}
 use Rattle.std.proofs.lemmas.List.{take-append-drop, drop-take, drop-drop, length-take-le, length-replicate, get_or_past}
 use Rattle.std.proofs.lemmas.List.FromFn.{fill_by_all, get_or-map-range_with_len, length-map-range_with_len}
-use Rattle.std.proofs.lemmas.Nat.{pow-add, pow_pos, shr_high, shl-shr, mod_low, shl_whole, shl_below, shr_below, shr-shr, or_shifted, or_comm, be_bytes_8, div-add-mod'}
+use Rattle.std.proofs.lemmas.Nat.{pow-add, pow_pos, shr_high, shl-shr, mod_low, shl_whole, shl_below, shr-shr, or_shifted, be_bytes_8, div-add-mod'}
 use Rattle.babel_value.specs.Prefixes.{cleared}
 use Rattle.babel_packet.specs.Encodable.{AreOctets}
 use Rattle.babel_packet.specs.Prefixes.{octets_of, prefix_octet}

@@ -166,8 +166,8 @@ fn put(octets: &mut [u8], default: &[u8], kept: usize, written: &[u8])
     copy(&mut octets[kept..kept + written.len()], written);
 }
 
-/// Copies octets. The usual numbers of octets are known to the compiler in their arms, so that it makes a move
-/// of each and no call.
+/// Copies octets. Those of a whole IPv6 address are known to the compiler, so that it makes a move of them
+/// and no call.
 #[inline(always)]
 fn copy(to: &mut [u8], from: &[u8])
     requires { length to.old ≡ length from.now }
@@ -175,14 +175,6 @@ fn copy(to: &mut [u8], from: &[u8])
 {
     match from.len() {
         0 => {}
-        1 => to.copy_from_slice(from),
-        2 => to.copy_from_slice(from),
-        3 => to.copy_from_slice(from),
-        4 => to.copy_from_slice(from),
-        5 => to.copy_from_slice(from),
-        6 => to.copy_from_slice(from),
-        7 => to.copy_from_slice(from),
-        8 => to.copy_from_slice(from),
         16 => to.copy_from_slice(from),
         _ => to.copy_from_slice(from),
     }

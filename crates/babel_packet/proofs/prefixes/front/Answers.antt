@@ -1,5 +1,5 @@
 -- The first octets, as a number.
-use Rattle.std.proofs.Common.{rules, arith}
+use Rattle.std.proofs.Common.{rules}
 use Rattle.babel_packet.proofs.Words.{front_number}
 use Rattle.babel_packet.proofs.prefixes.front.Goals as goal
 

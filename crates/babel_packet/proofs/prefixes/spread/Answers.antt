@@ -1,5 +1,5 @@
 -- A list is determined by its length and its elements.
-use Rattle.std.proofs.Common.{◌≡◌, ◌≤◌, ◌+◌, ◌-◌, min, length, take, drop, arith, length-drop}
+use Rattle.std.proofs.Common.{◌≡◌, ◌+◌, ◌-◌, min, length, take, drop, arith, length-drop}
 use Rattle.std.proofs.lemmas.List.{length-take-le}
 use Rattle.babel_packet.specs.Prefixes.{octets_of}
 use Rattle.babel_packet.proofs.Spreading.{spread_octets}
