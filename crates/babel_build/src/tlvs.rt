@@ -208,7 +208,7 @@ fn update_fields(
 }
 
 /// Update (RFC 8966, section 4.6.9), without the octets of its prefix that the default prefix has.
-#[inline]
+#[inline(always)]
 pub(crate) fn put_update(
     datagram: &mut Datagram,
     state: &ParserState,
