@@ -95,9 +95,9 @@ moved a b small l =
     let lo : value b * p < 2 ^ 64 = rw bits at below in
     ap (λ n. n % 2 ^ 64) s ∙ mod_low (value a) 64 (value b * p) lo
 
--- The same, moved behind `k` octets.
-pub behind : (v m k : ℕ) → k ≤ m → v * 2 ^ (8 * m) / 2 ^ (8 * k) ≡ v * 2 ^ (8 * (m - k))
-behind v m k le =
+-- The same, moved after `k` octets.
+pub past_octets : (v m k : ℕ) → k ≤ m → v * 2 ^ (8 * m) / 2 ^ (8 * k) ≡ v * 2 ^ (8 * (m - k))
+past_octets v m k le =
     let parts : m ≡ (m - k) + k = omega arith in
     let e : 2 ^ (8 * m) ≡ 2 ^ (8 * (m - k)) * 2 ^ (8 * k) = ap (λ n. 2 ^ (8 * n)) parts ∙ powers (m - k) k in
     ap (λ n. n / 2 ^ (8 * k)) (ap (λ n. v * n) e ∙ sym (mul_assoc v (2 ^ (8 * (m - k))) (2 ^ (8 * k)))) ∙ shl-shr (v * 2 ^ (8 * (m - k))) (8 * k)
@@ -268,7 +268,7 @@ word_octets default payload omitted bits at written end long small octets short 
     back : value b * 2 ^ (8 * (8 - written)) / 2 ^ (8 * omitted) ≡ value b * 2 ^ (8 * length z)
     back =
         let e : (8 - written) - omitted ≡ length z = omega (arith, z_long) in
-        behind (value b) (8 - written) omitted (omega arith) ∙ ap (λ n. value b * 2 ^ (8 * n)) e
+        past_octets (value b) (8 - written) omitted (omega arith) ∙ ap (λ n. value b * 2 ^ (8 * n)) e
 
     first : from_be_bytes w64 (h ++ replicate (8 - omitted) 0) ≡ value h * 2 ^ (8 * (length b + length z))
     first =
