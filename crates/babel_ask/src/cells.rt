@@ -20,17 +20,17 @@ pub(crate) fn cell_of<'l>(answer: &'l str, line: &'l str, column: &Column) -> Ce
             Some(rest) => Cell::Centiseconds(rest),
             None => Cell::Text("-"),
         },
-        (ColumnKind::Number, Some("65535")) => Cell::Text("infinite"),
-        (_, Some(text)) => Cell::Text(text),
-        (_, None) => Cell::Text("-"),
+        (ColumnKind::Number, "65535") => Cell::Text("infinite"),
+        (_, "") => Cell::Text("-"),
+        (_, text) => Cell::Text(text),
     }
 }
 
 /// After how many centiseconds the neighbour or the route of the line is given up, if a line of the reply has that.
 pub(crate) fn expiry_of(answer: &str, line: &str) -> Option<u64> {
     for other in answer.lines() {
-        if matches!(word(other, 0), Some("expires")) && is_same_thing(other, line) {
-            return field(other, "in")?.parse::<u64>().ok();
+        if word(other, 0) == "expires" && is_same_thing(other, line) {
+            return field(other, "in").parse::<u64>().ok();
         }
     }
     None

@@ -3,8 +3,10 @@
 use crate::cells::expiry_of;
 use crate::columns::{COLUMNS, Column, ColumnKind};
 use crate::fields::{field, is_of};
+use babel_value::Addr;
 use std::fmt;
 use std::io::{self, Write};
+use std::net::Ipv6Addr;
 
 /// A text as a string of JSON (RFC 8259, section 7).
 #[derive(Clone, Copy)]
@@ -30,6 +32,19 @@ fn write_letter<W: fmt::Write>(letter: char, f: &mut fmt::Formatter<W>) -> fmt::
     }
 }
 
+/// An address as the lines of `explain` write it. One of IPv6 is shown in its short form (RFC 5952).
+#[derive(Clone, Copy)]
+pub(crate) struct ShortAddress<'l>(pub(crate) &'l str);
+
+impl fmt::Display for ShortAddress<'_> {
+    fn fmt<W: fmt::Write>(&self, f: &mut fmt::Formatter<W>) -> fmt::Result {
+        match Addr::parse_ascii(self.0.as_bytes()) {
+            Ok(Addr::V6(octets)) => Ipv6Addr::from_octets(octets).fmt(f),
+            _ => f.write_str(self.0),
+        }
+    }
+}
+
 /// Writes an object for each line of this kind.
 pub(crate) fn write_objects<W: Write>(
     answer: &str,
@@ -45,16 +60,27 @@ pub(crate) fn write_objects<W: Write>(
     Ok(())
 }
 
-fn write_object<W: Write>(
-    answer: &str,
-    line: &str,
+fn write_object<'l, W: Write>(
+    answer: &'l str,
+    line: &'l str,
     columns: &[Column; COLUMNS],
     out: &mut W,
 ) -> io::Result<()> {
+    let mut members = [("", Value::Null); COLUMNS];
+    for number in 0..COLUMNS {
+        let column = &columns[number];
+        members[number] = (column.key, value_of(answer, line, column));
+    }
+    write_members(&members, out)
+}
+
+/// Writes the object of these members.
+pub(crate) fn write_members<W: Write>(
+    members: &[(&str, Value<'_>)],
+    out: &mut W,
+) -> io::Result<()> {
     let mut mark = "{";
-    for column in columns.iter() {
-        let key = column.key;
-        let value = value_of(answer, line, column);
+    for (key, value) in members {
         write!(out, "{mark}\"{key}\":{value}")?;
         mark = ",";
     }
@@ -65,6 +91,7 @@ fn write_object<W: Write>(
 #[derive(Clone, Copy)]
 pub(crate) enum Value<'l> {
     Text(&'l str),
+    Address(&'l str),
     Number(u64),
     Null,
 }
@@ -83,6 +110,10 @@ impl fmt::Display for Value<'_> {
     fn fmt<W: fmt::Write>(&self, f: &mut fmt::Formatter<W>) -> fmt::Result {
         match *self {
             Value::Text(text) => Quoted(text).fmt(f),
+            Value::Address(text) => {
+                let address = ShortAddress(text);
+                write!(f, "\"{address}\"")
+            }
             Value::Number(number) => number.fmt(f),
             Value::Null => f.write_str("null"),
         }
@@ -91,7 +122,7 @@ impl fmt::Display for Value<'_> {
 
 /// The value of a line in a column. A time is in centiseconds.
 fn value_of<'l>(answer: &'l str, line: &'l str, column: &Column) -> Value<'l> {
-    let text = field(line, column.field).unwrap_or("");
+    let text = field(line, column.field);
     match column.kind {
         ColumnKind::Text => Value::Text(text),
         ColumnKind::Number => Value::number(text),

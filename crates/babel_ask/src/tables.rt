@@ -112,8 +112,8 @@ fn colour_of(row: Row<'_>) -> Option<&'static str> {
         field(line, "cost"),
         field(line, "metric"),
     ) {
-        (Some("yes"), _, _) => Some(GREEN),
-        (_, Some("65535"), _) | (_, _, Some("65535")) => Some(RED),
+        ("yes", _, _) => Some(GREEN),
+        (_, "65535", _) | (_, _, "65535") => Some(RED),
         _ => None,
     }
 }

@@ -81,22 +81,12 @@ pub fn local_address(port: u16) -> SocketAddr {
 ///
 /// The socket can't be made, or something is at the path.
 pub fn bind_path<R: Files + Net>(rt: &R, path: &str) -> io::Result<UnixListener> {
-    let listener = bind_or_replace(rt, path)?;
+    if is_stale(rt, path) {
+        fs::remove_file(rt, path)?;
+    }
+    let listener = UnixListener::bind(rt, path)?;
     listener.set_nonblocking(true)?;
     Ok(listener)
-}
-
-fn bind_or_replace<R: Files + Net>(rt: &R, path: &str) -> io::Result<UnixListener> {
-    match UnixListener::bind(rt, path) {
-        Ok(listener) => Ok(listener),
-        Err(error) => {
-            if error.kind() == io::ErrorKind::AddrInUse && is_stale(rt, path) {
-                fs::remove_file(rt, path)?;
-                return UnixListener::bind(rt, path);
-            }
-            Err(error)
-        }
-    }
 }
 
 /// Whether a socket is at the path on which no process listens.
