@@ -4,7 +4,6 @@ use babel_config::FileFault;
 use babel_snapshot_file::{RestoreCode, SnapshotFileFault};
 use babel_state::{ConfigFault, RestoreFault};
 use babel_text::LineFault;
-use babel_udp::StartFault;
 use std::alloc::AllocError;
 use std::fmt;
 use thiserror::Error;
@@ -70,16 +69,6 @@ pub enum WordsFault<'a> {
 impl From<AllocError> for RunFault {
     fn from(error: AllocError) -> RunFault {
         RunFault::Output(LineFault::from(error))
-    }
-}
-
-impl From<StartFault> for RunFault {
-    fn from(fault: StartFault) -> RunFault {
-        match fault {
-            StartFault::SnapshotFile(fault) => RunFault::SnapshotFile(fault),
-            StartFault::Restore(RestoreFault::Config(fault)) => RunFault::Config(fault),
-            StartFault::Restore(fault) => RunFault::Restore(fault),
-        }
     }
 }
 

@@ -1,19 +1,32 @@
 //! Speakers that run: a router on real links (RFC 8966, section 4), which is the command `run`, and a speaker over
 //! UDP and IPv4, the command `speak`.
 //!
-//! `speaking` is the command `speak`. Of a router, `devices` is what the system reports of a device, `tracking` how the devices of a run change, `settings` the configuration that
-//! the speaker gets of them, `sockets` what a device has, `links` the wire over all of them, `printing` what is
-//! printed, `controlling` the control socket, `pacing` when it sends, `turns` the turns of the speaker with the changes of devices, `running` the run, and `words` what the command
-//! line and the file of `--config` ask for.
+//! `speaking` is the command `speak`. Both have in common:
+//!
+//! - `selections`: the selected routes as they are printed. `printing`: what else is printed.
+//! - `counting`: what is counted.
+//! - `keeping`: a wire with the file in which the snapshot is kept.
+//! - `controlling`: the control socket.
+//!
+//! The rest is the command `run`:
+//!
+//! - `words`: what the command line and the file of `--config` ask for. `running`: the run.
+//! - `settings`: the configuration that the speaker gets of the devices.
+//! - `devices`: what the system reports of a device. `tracking`: how the devices change.
+//! - `sockets`: what a device has. `links`: the wire over all of them.
+//! - `pacing`: when it sends. `turns`: the turns of the speaker with the changes of devices.
 #![tactic(auto)]
 
 mod controlling;
+mod counting;
 mod devices;
 mod errors;
+mod keeping;
 mod links;
 mod pacing;
 mod printing;
 mod running;
+mod selections;
 mod settings;
 mod sockets;
 mod speaking;
@@ -21,6 +34,7 @@ mod tracking;
 mod turns;
 mod words;
 
+pub use controlling::{IgnoredUpdates, LiveLog, SpeakerTables};
 pub use errors::{DeviceFault, RunCode, RunFault, WordsFault};
 pub use running::{Printed, RunOptions, run};
 pub use settings::{DeviceSettings, Settings};

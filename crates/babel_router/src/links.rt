@@ -4,7 +4,7 @@ ghost use Rattle.std.specs.Prelude.{◌≡◌, ◌≤◌, length, IfOk, IfSome};
 
 use crate::RunFault;
 use crate::devices::Device;
-use crate::sockets::{Half, Sockets, group_address, watch};
+use crate::sockets::{Sockets, group_address, watch};
 use babel_state::Target;
 use babel_value::Addr;
 use babel_wire::{Arrival, Wire, WireFault};
@@ -310,13 +310,11 @@ fn bit_of(token: usize) -> u64 {
 
 /// A socket is ready.
 fn note_ready(links: &mut [Option<Sockets>], token: usize) {
-    let half = if token % 2 == 0 {
-        Half::Own
-    } else {
-        Half::Group
-    };
     if let Some(Some(sockets)) = links.get_mut(token / 2) {
-        sockets.note_ready(half);
+        match token % 2 {
+            0 => sockets.own.is_ready = true,
+            _ => sockets.group.is_ready = true,
+        }
     }
 }
 

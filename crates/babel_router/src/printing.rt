@@ -1,12 +1,12 @@
-//! What `run` prints: changes of selected routes, commands for `ip`, keeps that fail, and what was counted.
+//! What a speaker that runs prints: changes of selected routes, commands for `ip`, keeps that fail, and what was counted.
 
 use crate::DeviceFault;
-use crate::running::{Printed, RunOptions};
-use babel_control_speaker::LiveLog;
+use crate::controlling::Control;
+use crate::counting::{Counts, LastKeep};
+use crate::selections::{RouteLines, Selections};
 use babel_speaker::Speaker;
 use babel_state::{Note as TlvNote, RecvFault, Target};
 use babel_text::LineFault;
-use babel_udp::{Counts, LastKeep, RouteLines, Selections};
 use babel_value::Peer;
 use babel_wire::{Arrival, DurableReport, Observer, Receipts};
 use std::alloc::{AllocError, Global};
@@ -34,6 +34,15 @@ impl fmt::Display for Note {
     }
 }
 
+/// What is printed of the selected routes.
+#[derive(Clone, Copy)]
+pub(crate) struct PrintedRoutes<'a> {
+    /// Each change, as a command for `ip`.
+    pub(crate) commands: Option<RouteLines<'a>>,
+    /// Each change, and all of them at the end, for people.
+    pub(crate) routes: Option<RouteLines<'a>>,
+}
+
 /// What was printed of the routes, and to where the rest is.
 #[derive(Drop)]
 pub(crate) struct Printer<'s, 'a, W: Write, E: Write> {
@@ -43,33 +52,30 @@ pub(crate) struct Printer<'s, 'a, W: Write, E: Write> {
     routes: Option<Selections<'a>>,
     last_keep: LastKeep,
     written: Result<(), LineFault>,
-    /// What clients of the control socket are sent.
-    pub(crate) log: LiveLog,
-    /// Whether there is a control socket.
-    has_control: bool,
+    /// The control socket, if there is one.
+    pub(crate) control: Option<Control>,
 }
 
 fn selections<'a>(
     alloc: Global,
-    printed: Printed,
-    lines: RouteLines<'a>,
+    lines: Option<RouteLines<'a>>,
 ) -> Result<Option<Selections<'a>>, AllocError> {
-    match printed {
-        Printed::Yes => Ok(Some(Selections::new(alloc, lines)?)),
-        Printed::No => Ok(None),
+    match lines {
+        Some(lines) => Ok(Some(Selections::new(alloc, lines)?)),
+        None => Ok(None),
     }
 }
 
 impl<'s, 'a, W: Write, E: Write> Printer<'s, 'a, W, E> {
-    /// Nothing is printed yet.
+    /// Nothing is printed yet, and there is no control socket.
     pub(crate) fn new(
         alloc: Global,
-        options: RunOptions<'a>,
+        printed: PrintedRoutes<'a>,
         out: &'s mut W,
         err: &'s mut E,
     ) -> Result<Printer<'s, 'a, W, E>, AllocError> {
-        let commands = selections(alloc, options.commands, RouteLines::Commands(options.names))?;
-        let routes = selections(alloc, options.routes, RouteLines::Names(options.names))?;
+        let commands = selections(alloc, printed.commands)?;
+        let routes = selections(alloc, printed.routes)?;
         Ok(Printer {
             out,
             err,
@@ -77,8 +83,7 @@ impl<'s, 'a, W: Write, E: Write> Printer<'s, 'a, W, E> {
             routes,
             last_keep: LastKeep::Done,
             written: Ok(()),
-            log: LiveLog::new(alloc),
-            has_control: options.control.is_some(),
+            control: None,
         })
     }
 
@@ -106,7 +111,9 @@ impl<'s, 'a, W: Write, E: Write> Printer<'s, 'a, W, E> {
         if let Some(routes) = &mut self.routes {
             routes.note_restart();
         }
-        self.log.note_restart();
+        if let Some(control) = &mut self.control {
+            control.log.note_restart();
+        }
     }
 
     /// A device may have another number. `ip` keeps the numbers that it has seen; this command lets it read them again.
@@ -165,6 +172,20 @@ impl<'s, 'a, W: Write, E: Write> Printer<'s, 'a, W, E> {
         }
     }
 
+    /// The same, but nothing is written if a change couldn't be written.
+    ///
+    /// # Errors
+    ///
+    /// L7 or L8 of a change before, or L7.
+    pub(crate) fn end_if_written(
+        &mut self,
+        speaker: &Speaker,
+        counts: Counts,
+    ) -> Result<(), LineFault> {
+        self.written?;
+        self.end(speaker, counts)
+    }
+
     fn write_end(&mut self, speaker: &Speaker) -> io::Result<()> {
         let Some(commands) = &self.commands else {
             return write_table(&self.routes, speaker, self.out);
@@ -183,12 +204,12 @@ impl<W: Write, E: Write> Receipts for Printer<'_, '_, W, E> {
         octets: &[u8],
         outcome: &Result<Vec<TlvNote>, RecvFault>,
     ) {
-        if self.has_control {
+        if let Some(control) = &mut self.control {
             let peer = Peer {
                 iface: arrival.iface,
                 addr: arrival.source,
             };
-            self.log.take_received(now, peer, octets, outcome);
+            control.log.take_received(now, peer, octets, outcome);
         }
     }
 }
@@ -199,11 +220,15 @@ impl<W: Write, E: Write> Observer for Printer<'_, '_, W, E> {
         if self.written.is_ok() {
             self.written = self.write_changes(speaker, now);
         }
-        self.log.take_turn(now, speaker);
+        if let Some(control) = &mut self.control {
+            control.log.take_turn(now, speaker);
+        }
     }
 
     fn sent(&mut self, now: u64, target: &Target, octets: &[u8]) {
-        self.log.take_sent(now, target, octets);
+        if let Some(control) = &mut self.control {
+            control.log.take_sent(now, target, octets);
+        }
     }
 }
 

@@ -1,20 +1,21 @@
 //! `babel run DEVICE..`: a speaker on real links.
 
-use crate::controlling::open_control;
+use crate::controlling::{Control, remove_socket};
+use crate::counting::Counts;
 use crate::devices::Lists;
-use crate::links::LinkWire;
+use crate::keeping::{KeptWire, open_kept};
+use crate::links::{FIRST_OTHER, LinkWire};
 use crate::pacing::Pace;
-use crate::printing::Printer;
+use crate::printing::{PrintedRoutes, Printer};
+use crate::selections::{RouteForm, RouteLines};
 use crate::settings::{DeviceSettings, Settings, config_of};
 use crate::tracking::Tracked;
 use crate::turns::Router;
 use crate::{DeviceFault, RunFault};
 use babel_control::ControlPlace;
-use babel_control_speaker::remove_socket;
 use babel_snapshot_file::{Kept, LockFile, SnapshotStore};
 use babel_speaker::Speaker;
 use babel_state::Config;
-use babel_udp::{Counts, KeptWire, open_kept};
 use babel_wire::{DurableDriver, DurableReport};
 use std::alloc::{AllocError, Global};
 use std::fs::Files;
@@ -94,22 +95,30 @@ where
         settings,
         ..options
     };
-    let outputs = Outputs { out, err };
-    run_on(rt, options, &mut devices, input, outputs)
+    match Printer::new(rt.alloc(), printed_of(options), out, err) {
+        Ok(mut printer) => run_on(rt, options, &mut devices, input, &mut printer),
+        Err(error) => Err(RunFault::from(error)),
+    }
 }
 
-/// The standard output, and the standard error.
-#[derive(Drop)]
-struct Outputs<'s, W: Write, E: Write> {
-    out: &'s mut W,
-    err: &'s mut E,
-}
-
-/// The speaker of a run, and its devices.
-#[derive(Drop)]
-struct Started<'d, 'a> {
-    speaker: &'d mut Speaker,
-    devices: &'d mut [Tracked<'a>],
+/// What is printed of the selected routes.
+fn printed_of(options: RunOptions<'_>) -> PrintedRoutes<'_> {
+    let names = options.names;
+    let commands = match options.commands {
+        Printed::Yes => Some(RouteLines {
+            form: RouteForm::Commands,
+            names,
+        }),
+        Printed::No => None,
+    };
+    let routes = match options.routes {
+        Printed::Yes => Some(RouteLines {
+            form: RouteForm::Text,
+            names,
+        }),
+        Printed::No => None,
+    };
+    PrintedRoutes { commands, routes }
 }
 
 // In each of these functions at most one value has to be given back if the next step fails.
@@ -120,7 +129,7 @@ fn run_on<'a, R: AllocGlobal + Net + Clock + Files, I: Read + AsRawFd, W: Write,
     options: RunOptions<'a>,
     devices: &mut [Tracked<'a>],
     input: &mut I,
-    outputs: Outputs<'_, W, E>,
+    printer: &mut Printer<'_, '_, W, E>,
 ) -> Result<(), RunFault>
 where
     R::File: LockFile,
@@ -129,65 +138,61 @@ where
     match start(rt, options, devices) {
         Ok((store, mut speaker)) => {
             let mut wire = KeptWire { wire, store };
-            let started = Started {
-                speaker: &mut speaker,
-                devices,
-            };
-            open_and_run(rt.alloc(), options, started, &mut wire, outputs)
+            run_over(options, &mut speaker, devices, &mut wire, printer)
         }
         Err(fault) => Err(fault),
     }
 }
 
-fn open_and_run<'a, 'r, R: Net + Clock + Files, I: Read + AsRawFd, W: Write, E: Write>(
-    alloc: Global,
+/// Opens the sockets, and then the control socket if there is to be one, and runs the speaker.
+fn run_over<'a, 'r, R, I: Read + AsRawFd, W: Write, E: Write>(
     options: RunOptions<'a>,
-    started: Started<'_, 'a>,
-    wire: &mut KeptWire<'r, LinkWire<'r, R, I>, R>,
-    outputs: Outputs<'_, W, E>,
-) -> Result<(), RunFault>
-where
-    R::File: LockFile,
-{
-    let Started { speaker, devices } = started;
-    let Outputs { out, err } = outputs;
-    open_links(&mut wire.wire, devices)?;
-    match Printer::new(alloc, options, out, err) {
-        Ok(mut printer) => {
-            let started = Started { speaker, devices };
-            run_printed(alloc, options, started, wire, &mut printer)
-        }
-        Err(error) => Err(RunFault::from(error)),
-    }
-}
-
-fn run_printed<'a, 'r, R: Net + Clock + Files, I: Read + AsRawFd, W: Write, E: Write>(
-    alloc: Global,
-    options: RunOptions<'a>,
-    started: Started<'_, 'a>,
+    speaker: &mut Speaker,
+    devices: &mut [Tracked<'a>],
     wire: &mut KeptWire<'r, LinkWire<'r, R, I>, R>,
     printer: &mut Printer<'_, '_, W, E>,
 ) -> Result<(), RunFault>
 where
+    R: AllocGlobal + Net + Clock + Files,
     R::File: LockFile,
 {
-    let Started { speaker, devices } = started;
-    let mut driver = DurableDriver::new(alloc, MAX_DATAGRAM_LEN)?;
-    let mut control = open_control(alloc, options.control, &wire.wire)?;
+    open_links(&mut wire.wire, devices)?;
+    let system = wire.wire.system;
+    let mut driver = DurableDriver::new(system.alloc(), MAX_DATAGRAM_LEN)?;
+    open_control(options.control, &wire.wire, &mut printer.control)?;
     let mut router = Router {
-        alloc,
+        alloc: system.alloc(),
         settings: options.settings,
         speaker,
         driver: &mut driver,
         devices,
-        control: &mut control,
         pace: Pace::default(),
         counts: Counts::default(),
         last_turn: DurableReport::default(),
     };
     let ended = router.take_turns(options.turns, wire, printer);
-    remove_socket(wire.wire.system, options.control);
+    remove_socket(system, options.control);
     ended
+}
+
+/// Opens the control socket at the place, if there is to be one.
+///
+/// # Errors
+///
+/// W7.
+fn open_control<R: AllocGlobal + Net + Clock + Files, I: Read + AsRawFd>(
+    place: Option<ControlPlace<'_>>,
+    wire: &LinkWire<'_, R, I>,
+    control: &mut Option<Control>,
+) -> Result<(), RunFault> {
+    if let Some(place) = place {
+        let alloc = wire.system.alloc();
+        match Control::open(alloc, wire.system, place, wire.registry(), FIRST_OTHER) {
+            Ok(opened) => *control = Some(opened),
+            Err(_) => return Err(RunFault::Control),
+        }
+    }
+    Ok(())
 }
 
 /// Opens the sockets of each device.

@@ -13,31 +13,22 @@ use std::os::fd::{AsRawFd, RawFd};
 /// The group of Babel routers, ff02::1:6 (RFC 8966, section 4).
 const GROUP: [u16; 8] = [0xff02, 0, 0, 0, 0, 0, 1, 6];
 
-/// One of the two sockets of a device.
-#[derive(Clone, Copy)]
-pub(crate) enum Half {
-    /// The one that is bound to the device's own address.
-    Own,
-    /// The one that is bound to the group.
-    Group,
-}
-
 /// The sockets of a device.
 #[derive(Drop)]
 pub(crate) struct Sockets {
     scope: u32,
     /// Bound to the device's own address: all is sent from it, and datagrams for this router alone come to it.
-    own: Watched,
+    pub(crate) own: Watched,
     /// Bound to the group, so that no datagram comes twice.
-    group: Watched,
+    pub(crate) group: Watched,
 }
 
 /// A socket that a poll watches.
 #[derive(Drop)]
-struct Watched {
+pub(crate) struct Watched {
     socket: UdpSocket,
     /// Whether a datagram may wait at it.
-    is_ready: bool,
+    pub(crate) is_ready: bool,
 }
 
 impl Watched {
@@ -88,14 +79,6 @@ impl Sockets {
     /// Whether a datagram may wait at one of the sockets.
     pub(crate) fn is_ready(&self) -> bool {
         self.own.is_ready || self.group.is_ready
-    }
-
-    /// A datagram waits at one of them.
-    pub(crate) fn note_ready(&mut self, half: Half) {
-        match half {
-            Half::Own => self.own.is_ready = true,
-            Half::Group => self.group.is_ready = true,
-        }
     }
 
     /// Takes a datagram from one of the sockets.

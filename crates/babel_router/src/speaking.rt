@@ -2,21 +2,21 @@
 //!
 //! - `kept_speaking`: the same with a snapshot that is kept all the time.
 //! - `snapshots`: how a speaker is restored and saved.
-//! - `desk`: its control socket.
 
 ghost use Rattle.std.specs.Prelude.{◌≡◌};
 
-mod desk;
 mod kept_speaking;
 mod snapshots;
 
+use crate::counting::Counts;
+use crate::selections::{NUMBERED, Selections};
 use crate::speaking::snapshots::{make_speaker, save};
 use babel_speaker::Speaker;
 use babel_state::Config;
 use babel_text::LineFault;
-use babel_udp::{Counts, Links, RouteLines, Selections, SpeakFault, UdpWire};
 use babel_wire::{DurableReport, Report, drive};
 pub use kept_speaking::{KeptOptions, speak_kept};
+use raibenku::{Links, SpeakFault, UdpWire};
 use std::alloc::Global;
 use std::fs::Files;
 use std::io::{Read, Write};
@@ -146,7 +146,7 @@ fn speak_with_routes<R: Net + Clock, W: Write>(
     requires { wire.old.faults ≡ 0 }
 {
     let mut buf = vec![in alloc; 0u8; MAX_DATAGRAM_LEN]?;
-    let mut selections = Selections::new(alloc, RouteLines::Numbers)?;
+    let mut selections = Selections::new(alloc, NUMBERED)?;
     let mut report = Report::default();
     for _ in 0..turns {
         let turn = drive(speaker, wire, &mut buf, 1);

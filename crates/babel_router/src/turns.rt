@@ -2,22 +2,22 @@
 
 ghost use Rattle.std.specs.Prelude.{◌≡◌};
 
-use crate::controlling::{counts_of, serve_clients, views_of};
+use crate::controlling::{Service, counts_of, device_view};
+use crate::counting::Counts;
 use crate::devices::Lists;
+use crate::keeping::KeptWire;
 use crate::links::LinkWire;
 use crate::pacing::{self, Pace, Place};
 use crate::printing::{Note, Printer};
-use crate::settings::{Settings, config_of};
+use crate::settings::{DeviceSettings, Settings, config_of};
 use crate::tracking::{Step, Tracked, hear};
 use crate::{DeviceFault, RunFault};
-use babel_control::{Keeping, LogSource, Wish};
-use babel_control_speaker::{Control, Service};
+use babel_control::{DeviceView, Wish};
 use babel_snapshot_file::{LockFile, SnapshotFileFault};
 use babel_speaker::Speaker;
 use babel_text::LineFault;
-use babel_udp::{Counts, KeptWire};
 use babel_wire::{DurableDriver, DurableReport, Keeper, Wire, drive_durable, take_in};
-use std::alloc::Global;
+use std::alloc::{AllocError, Global};
 use std::fs::Files;
 use std::io::{Read, Write};
 use std::net::Net;
@@ -39,7 +39,6 @@ pub(crate) struct Router<'d, 'a> {
     pub(crate) driver: &'d mut DurableDriver,
     /// By the numbers of the interfaces.
     pub(crate) devices: &'d mut [Tracked<'a>],
-    pub(crate) control: &'d mut Option<Control>,
     pub(crate) pace: Pace,
     /// What was counted in all steps.
     pub(crate) counts: Counts,
@@ -168,13 +167,8 @@ impl Router<'_, '_> {
         R::File: LockFile,
     {
         let ready = wire.wire.take_ready();
-        if self.control.is_none() {
+        let Some(control) = &mut printer.control else {
             return Wish::Nothing;
-        }
-        let keeping = match wire.store {
-            None => Keeping::Never,
-            Some(_) if self.last_turn.failed_keeps > 0 => Keeping::Failed,
-            Some(_) => Keeping::Kept,
         };
         // Without memory for them nobody is served in this turn.
         let Ok(devices) = views_of(self.alloc, self.devices) else {
@@ -185,17 +179,9 @@ impl Router<'_, '_> {
             now: wire.now(),
             ready,
             counts: counts_of(self.counts),
-            keeping,
-            log: LogSource::Speaker,
+            keeping: wire.keeping(self.last_turn),
         };
-        let registry = wire.wire.registry();
-        serve_clients(
-            self.control,
-            &mut printer.log,
-            self.speaker,
-            registry,
-            service,
-        )
+        control.serve(self.speaker, wire.wire.registry(), service)
     }
 
     /// Opens and closes the sockets of devices that have changed. If an address is another one, the speaker starts again.
@@ -301,4 +287,21 @@ fn take_device_step<R: Clock + Net, I: Read + AsRawFd>(
             Err(_) => None,
         },
     }
+}
+
+/// The devices, as the control socket shows them.
+fn views_of<'v>(alloc: Global, devices: &[Tracked<'v>]) -> Result<Vec<DeviceView<'v>>, AllocError> {
+    let mut views = Vec::new(alloc);
+    for tracked in devices {
+        let DeviceSettings { name, ipv4, .. } = tracked.settings;
+        let view = match tracked.device() {
+            Some(device) => device_view(name, Some(device.address), ipv4),
+            None => DeviceView {
+                name,
+                addresses: None,
+            },
+        };
+        views.push(view)?;
+    }
+    Ok(views)
 }

@@ -1,11 +1,11 @@
 //! What the command line and the file of `--config` ask for.
 
-use crate::controlling::place_of;
 use crate::running::{Printed, RunOptions, run};
 use crate::settings::{DeviceSettings, Settings};
 use crate::tracking::{Ipv4Network, network_of};
 use crate::{RunFault, WordsFault};
 use babel_config::{FileFault, read_file};
+use babel_control::parse_place;
 use babel_router_file::{RouterFile, read_router_file};
 use babel_snapshot_file::{Kept, LockFile};
 use babel_text::{parse_prefix, parse_router_id};
@@ -70,7 +70,10 @@ where
     R: AllocGlobal + Net + Clock + Files,
     R::File: LockFile,
 {
-    let file = file_of(rt, words.config)?;
+    let file = match file_of(rt, words.config) {
+        Ok(file) => file,
+        Err(fault) => return Err(WordsFault::File(fault)),
+    };
     let alloc = rt.alloc();
     match devices_of(alloc, words, &file) {
         Ok(devices) => {
@@ -124,7 +127,13 @@ where
     R: AllocGlobal + Net + Clock + Files,
     R::File: LockFile,
 {
-    let control = place_of(words.control)?;
+    let control = match words.control {
+        Some(text) => match parse_place(text) {
+            Some(place) => Some(place),
+            None => return Err(RunFault::Control),
+        },
+        None => None,
+    };
     let keep = words.keep;
     let options = RunOptions {
         names: words.devices,
@@ -142,24 +151,12 @@ where
 }
 
 /// What is in the file, or nothing.
-fn file_of<'a, R: AllocGlobal + Files>(
-    rt: &R,
-    path: Option<&str>,
-) -> Result<RouterFile, WordsFault<'a>> {
-    let read = match path {
-        Some(path) => read_path(rt, path),
-        None => Ok(RouterFile::empty(rt.alloc())),
-    };
-    match read {
-        Ok(file) => Ok(file),
-        Err(fault) => Err(WordsFault::File(fault)),
-    }
-}
-
-fn read_path<R: AllocGlobal + Files>(rt: &R, path: &str) -> Result<RouterFile, FileFault> {
+fn file_of<R: AllocGlobal + Files>(rt: &R, path: Option<&str>) -> Result<RouterFile, FileFault> {
     let alloc = rt.alloc();
-    let file = fs::open(rt, path)?;
-    let octets = read_file(alloc, file)?;
+    let Some(path) = path else {
+        return Ok(RouterFile::empty(alloc));
+    };
+    let octets = read_file(alloc, fs::open(rt, path)?)?;
     read_router_file(alloc, &octets)
 }
 
@@ -210,23 +207,16 @@ fn devices_of<'a>(
 }
 
 fn device_of<'a>(words: RunWords<'a>, name: &'a str, file: &RouterFile) -> DeviceSettings<'a> {
-    let cost = words.cost.unwrap_or(DEFAULT_COST);
-    let hello = words.hello.unwrap_or(DEFAULT_HELLO);
-    match file.device(name) {
-        Some(table) => DeviceSettings {
-            name,
-            ipv4: table.ipv4.or(ipv4_of(words.ipv4, name)),
-            is_ipv4_fixed: table.ipv4.is_some(),
-            cost: table.cost.unwrap_or(cost),
-            hello: table.hello.unwrap_or(hello),
-        },
-        None => DeviceSettings {
-            name,
-            ipv4: ipv4_of(words.ipv4, name),
-            is_ipv4_fixed: false,
-            cost,
-            hello,
-        },
+    let (ipv4, cost, hello) = match file.device(name) {
+        Some(table) => (table.ipv4, table.cost, table.hello),
+        None => (None, None, None),
+    };
+    DeviceSettings {
+        name,
+        ipv4: ipv4.or(ipv4_of(words.ipv4, name)),
+        is_ipv4_fixed: ipv4.is_some(),
+        cost: cost.or(words.cost).unwrap_or(DEFAULT_COST),
+        hello: hello.or(words.hello).unwrap_or(DEFAULT_HELLO),
     }
 }
 

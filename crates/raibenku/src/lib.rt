@@ -8,7 +8,14 @@
 //!   datagram between turns;
 //! - `UdpWire` is a wire over UDP sockets;
 //! - `Addr`, `Prefix`, `Metric` and the others are the values that the calls take and return.
+//!
+//! Of its own it has `UdpWire`: `links` is what the sockets need of a configuration, `sockets` the wire over them and IPv4, and
+//! `errors` why a speaker can't speak over it.
 #![tactic(auto)]
+
+mod errors;
+mod links;
+mod sockets;
 
 pub use babel_choice::{Entry, Selection};
 pub use babel_config::{FileFault, read_config};
@@ -20,7 +27,6 @@ pub use babel_state::{
 };
 pub use babel_text::{parse_network, parse_prefix, parse_router_id};
 pub use babel_tlv::DATAGRAM_LEN;
-pub use babel_udp::{Links, SpeakCode, SpeakFault, UdpWire};
 pub use babel_value::{
     Addr, Distance, Family, Memory, Metric, Peer, Prefix, RouterId, Seqno, Source,
 };
@@ -28,3 +34,6 @@ pub use babel_wire::{
     Arrival, DurableDriver, DurableReport, DurableWire, Keeper, NoReceipts, Observer, Receipts,
     Report, StoreFault, Wire, WireFault, drive, drive_durable, take_in,
 };
+pub use errors::{SpeakCode, SpeakFault};
+pub use links::Links;
+pub use sockets::UdpWire;

@@ -1,20 +1,18 @@
 //! `babel speak CONFIG --keep FILE`: a speaker over UDP that may be killed at any moment.
 
-ghost use Rattle.std.specs.Prelude.{◌≡◌};
-
-use crate::speaking::desk::Desk;
+use crate::controlling::{Control, Service, counts_of, device_view, remove_socket};
+use crate::counting::Counts;
+use crate::keeping::{KeptWire, open_kept};
+use crate::printing::{PrintedRoutes, Printer};
+use crate::selections::NUMBERED;
 use crate::speaking::{MAX_DATAGRAM_LEN, checked_links};
-use babel_control::{ControlPlace, Keeping, Wish};
-use babel_control_speaker::remove_socket;
+use babel_control::{ControlPlace, DeviceView, Wish};
 use babel_snapshot_file::{Kept, LockFile, SnapshotFileFault};
 use babel_speaker::Speaker;
-use babel_state::{Config, Note, RecvFault, Target};
-use babel_text::LineFault;
-use babel_udp::{
-    Counts, KeptWire, LastKeep, Links, RouteLines, Selections, SpeakFault, UdpWire, open_kept,
-};
-use babel_value::Peer;
-use babel_wire::{Arrival, DurableDriver, DurableReport, Observer, Receipts, Wire, drive_durable};
+use babel_state::Config;
+use babel_wire::{DurableDriver, DurableReport, Wire, drive_durable};
+use mio::Poll;
+use raibenku::{Links, SpeakFault, UdpWire};
 use std::alloc::{AllocError, Global};
 use std::fs::Files;
 use std::io::Write;
@@ -70,6 +68,7 @@ where
 struct Started<'a, R: Net + Clock + Files> {
     speaker: Speaker,
     wire: KeptWire<'a, UdpWire<'a, R>, R>,
+    counts: Counts,
 }
 
 /// Makes or restores the speaker, and its sockets.
@@ -101,25 +100,12 @@ where
         Err(fault) => return Err(SpeakFault::from(fault)),
     };
     match UdpWire::bind(rt.alloc(), rt, links, options.port) {
-        Ok(wire) => {
-            let wire = KeptWire { wire, store };
-            Ok(Started { speaker, wire })
-        }
+        Ok(wire) => Ok(Started {
+            speaker,
+            wire: KeptWire { wire, store },
+            counts: Counts::default(),
+        }),
         Err(fault) => Err(fault),
-    }
-}
-
-/// Opens the control socket, if there is to be one.
-fn open_desk<R: AllocGlobal + Net + Files>(
-    rt: &R,
-    place: Option<ControlPlace<'_>>,
-) -> Result<Option<Desk>, SpeakFault> {
-    match place {
-        Some(place) => match Desk::open(rt.alloc(), rt, place) {
-            Ok(desk) => Ok(Some(desk)),
-            Err(_) => Err(SpeakFault::Control),
-        },
-        None => Ok(None),
     }
 }
 
@@ -134,179 +120,111 @@ fn print_turns<R: AllocGlobal + Net + Clock + Files, W: Write, E: Write>(
 where
     R::File: LockFile,
 {
-    let mut driver = DurableDriver::new(rt.alloc(), MAX_DATAGRAM_LEN)?;
-    let mut printer = open_printer(rt, options, out, err)?;
-    let taken = take_turns(options.turns, started, &mut driver, &mut printer);
-    remove_socket(rt, options.control);
-    end_turns(taken, &started.speaker, &mut printer)
+    let routes = match options.routes {
+        true => Some(NUMBERED),
+        false => None,
+    };
+    let printed = PrintedRoutes {
+        commands: None,
+        routes,
+    };
+    match Printer::new(rt.alloc(), printed, out, err) {
+        Ok(mut printer) => print_over(rt, options, started, &mut printer),
+        Err(error) => Err(SpeakFault::from(error)),
+    }
 }
 
-/// Prints what is asked for after the last turn, if the turns were taken.
-fn end_turns<W: Write, E: Write>(
-    taken: Result<(), SnapshotFileFault>,
-    speaker: &Speaker,
-    printer: &mut Printer<'_, W, E>,
-) -> Result<(), SpeakFault> {
-    taken?;
-    Ok(printer.end(speaker)?)
-}
-
-/// A printer that has printed nothing, with the control socket open.
-fn open_printer<'s, R: AllocGlobal + Net + Files, W: Write, E: Write>(
+/// The same, with a printer that has printed nothing. First the control socket is opened, if there is to be one.
+fn print_over<R: AllocGlobal + Net + Clock + Files, W: Write, E: Write>(
     rt: &R,
     options: KeptOptions<'_>,
-    out: &'s mut W,
-    err: &'s mut E,
-) -> Result<Printer<'s, W, E>, SpeakFault> {
-    let routes = printed_routes(rt.alloc(), options)?;
-    match open_desk(rt, options.control) {
-        Ok(desk) => Ok(Printer {
-            out,
-            err,
-            routes,
-            counts: Counts::default(),
-            last_keep: LastKeep::Done,
-            written: Ok(()),
-            desk,
-        }),
-        Err(fault) => Err(fault),
+    started: &mut Started<'_, R>,
+    printer: &mut Printer<'_, '_, W, E>,
+) -> Result<(), SpeakFault>
+where
+    R::File: LockFile,
+{
+    let Ok(poll) = Poll::new(rt) else {
+        return Err(SpeakFault::Socket);
+    };
+    if let Some(place) = options.control {
+        match Control::open(rt.alloc(), rt, place, poll.registry(), 0) {
+            Ok(control) => printer.control = Some(control),
+            Err(_) => return Err(SpeakFault::Control),
+        }
     }
-}
-
-/// What is printed of the selected routes, if anything.
-fn printed_routes<'s>(
-    alloc: Global,
-    options: KeptOptions<'_>,
-) -> Result<Option<Selections<'s>>, AllocError> {
-    if !options.routes {
-        return Ok(None);
-    }
-    Ok(Some(Selections::new(alloc, RouteLines::Numbers)?))
+    let taken = take_turns(rt.alloc(), options.turns, started, &poll, printer);
+    remove_socket(rt, options.control);
+    taken?;
+    Ok(printer.end_if_written(&started.speaker, started.counts)?)
 }
 
 /// Drives the speaker turn by turn, until its lines can't be written.
 fn take_turns<R: Net + Clock + Files, W: Write, E: Write>(
+    alloc: Global,
     turns: u32,
     started: &mut Started<'_, R>,
-    driver: &mut DurableDriver,
-    printer: &mut Printer<'_, W, E>,
-) -> Result<(), SnapshotFileFault>
+    poll: &Poll,
+    printer: &mut Printer<'_, '_, W, E>,
+) -> Result<(), SpeakFault>
 where
     R::File: LockFile,
 {
+    let mut driver = DurableDriver::new(alloc, MAX_DATAGRAM_LEN)?;
     for _ in 0..turns {
-        if printer.written.is_err() || started.wire.faults() > MAX_FAULTS {
+        if printer.has_failed() || started.wire.faults() > MAX_FAULTS {
             break;
         }
-        let Started { speaker, wire } = &mut *started;
-        let turn = drive_durable(speaker, driver, wire, printer, 1);
-        if turn.failed_keeps > 0 && printer.counts.turns == 0 {
-            return Err(SnapshotFileFault::Unwritable);
+        let Started { speaker, wire, .. } = &mut *started;
+        let turn = drive_durable(speaker, &mut driver, wire, printer, 1);
+        if turn.failed_keeps > 0 && started.counts.turns == 0 {
+            return Err(SpeakFault::SnapshotFile(SnapshotFileFault::Unwritable));
         }
-        printer.add(turn);
-        let keeping = keeping_of(wire, turn);
-        if printer.serve(speaker, wire.now(), keeping) == Wish::Stop {
+        started.counts.add(turn);
+        printer.note_keeping(turn);
+        if serve(alloc, started, turn, poll, printer) == Wish::Stop {
             break;
         }
     }
     Ok(())
 }
 
-/// Whether the snapshot is kept.
-fn keeping_of<R: Net + Clock + Files>(
-    wire: &KeptWire<'_, UdpWire<'_, R>, R>,
+/// Serves the clients of the control socket, and returns what one wants of the speaker. Their sockets don't wait, so all of
+/// them are asked, also those that have sent nothing.
+fn serve<R: Net + Clock + Files, W: Write, E: Write>(
+    alloc: Global,
+    started: &mut Started<'_, R>,
     turn: DurableReport,
-) -> Keeping {
-    match wire.store {
-        None => Keeping::Never,
-        Some(_) if turn.failed_keeps > 0 => Keeping::Failed,
-        Some(_) => Keeping::Kept,
-    }
+    poll: &Poll,
+    printer: &mut Printer<'_, '_, W, E>,
+) -> Wish {
+    let Some(control) = &mut printer.control else {
+        return Wish::Nothing;
+    };
+    // Without memory for them nobody is served in this turn.
+    let Ok(devices) = devices_of(alloc, &started.speaker) else {
+        return Wish::Nothing;
+    };
+    let service = Service {
+        devices: &devices,
+        now: started.wire.now(),
+        ready: u64::MAX,
+        counts: counts_of(started.counts),
+        keeping: started.wire.keeping(turn),
+    };
+    control.serve(&started.speaker, poll.registry(), service)
 }
 
-/// What was counted and printed, and to where the rest is.
-#[derive(Drop)]
-struct Printer<'s, W: Write, E: Write> {
-    out: &'s mut W,
-    err: &'s mut E,
-    routes: Option<Selections<'s>>,
-    counts: Counts,
-    last_keep: LastKeep,
-    written: Result<(), LineFault>,
-    /// Where the speaker can be asked.
-    desk: Option<Desk>,
-}
-
-impl<W: Write, E: Write> Printer<'_, W, E> {
-    /// Serves those who ask the speaker, and returns what one wants of it.
-    fn serve(&mut self, speaker: &Speaker, now: u64, keeping: Keeping) -> Wish {
-        match &mut self.desk {
-            Some(desk) => desk.serve(speaker, now, self.counts, keeping),
-            None => Wish::Nothing,
+/// The interfaces, whose names are their numbers.
+fn devices_of(alloc: Global, speaker: &Speaker) -> Result<Vec<DeviceView<'static>>, AllocError> {
+    let mut devices = Vec::new(alloc);
+    for iface in 0..speaker.interface_count() {
+        if let (Some(entry), Some(name)) = (
+            speaker.interface(iface),
+            NUMBERED.names.get(usize::from(iface)),
+        ) {
+            devices.push(device_view(name, entry.ipv6, entry.ipv4))?;
         }
     }
-
-    /// Counts a turn.
-    fn add(&mut self, turn: DurableReport) {
-        self.counts.add(turn);
-        self.last_keep.note(turn, self.err);
-    }
-
-    fn write_changes(&mut self, speaker: &Speaker, moment: u64) -> Result<(), LineFault> {
-        match &mut self.routes {
-            Some(routes) => routes.write_changes(speaker, moment, self.out),
-            None => Ok(()),
-        }
-    }
-
-    /// After the last turn: the selected routes and the counts.
-    ///
-    /// # Errors
-    ///
-    /// L7 or L8 of a change before, or L7.
-    fn end(&mut self, speaker: &Speaker) -> Result<(), LineFault> {
-        self.written?;
-        if let Some(routes) = &self.routes {
-            routes
-                .write_table(speaker, self.out)
-                .map_err(LineFault::of_writing)?;
-        }
-        self.counts.write_to(self.out)
-    }
-}
-
-impl<W: Write, E: Write> Receipts for Printer<'_, W, E> {
-    fn received(
-        &mut self,
-        now: u64,
-        arrival: &Arrival,
-        octets: &[u8],
-        outcome: &Result<Vec<Note>, RecvFault>,
-    ) {
-        if let Some(desk) = &mut self.desk {
-            let peer = Peer {
-                iface: arrival.iface,
-                addr: arrival.source,
-            };
-            desk.log.take_received(now, peer, octets, outcome);
-        }
-    }
-}
-
-impl<W: Write, E: Write> Observer for Printer<'_, W, E> {
-    /// Changes are written after the snapshot was kept, and before a datagram is sent.
-    fn turn(&mut self, now: u64, speaker: &Speaker) {
-        if self.written.is_ok() {
-            self.written = self.write_changes(speaker, now);
-        }
-        if let Some(desk) = &mut self.desk {
-            desk.log.take_turn(now, speaker);
-        }
-    }
-
-    fn sent(&mut self, now: u64, target: &Target, octets: &[u8]) {
-        if let Some(desk) = &mut self.desk {
-            desk.log.take_sent(now, target, octets);
-        }
-    }
+    Ok(devices)
 }

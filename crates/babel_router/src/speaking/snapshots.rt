@@ -3,7 +3,7 @@
 use babel_snapshot_file::{SnapshotFileFault, read_snapshot, replace_file};
 use babel_speaker::Speaker;
 use babel_state::Config;
-use babel_udp::SpeakFault;
+use raibenku::SpeakFault;
 use std::alloc::Global;
 use std::fs::Files;
 use std::io::Read;

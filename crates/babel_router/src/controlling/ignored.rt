@@ -1,6 +1,6 @@
 //! The prefixes that were advertised, and why no route to them was stored.
 
-use crate::retractions::{has_prefix, retracted_prefix};
+use crate::controlling::retractions::{has_prefix, retracted_prefix};
 use babel_message::{Content, Message, Placed, Reason};
 use babel_state::{Note, Verdict};
 use babel_value::{Peer, Prefix};

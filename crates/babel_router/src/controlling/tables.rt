@@ -1,7 +1,7 @@
 //! The neighbours, announced prefixes and routes of a speaker.
 
-use crate::IgnoredUpdates;
-use crate::reasons::push_routes;
+use crate::controlling::IgnoredUpdates;
+use crate::controlling::reasons::push_routes;
 use babel_control::{Expiries, Installed, NeighbourRow, RouteRow, Rows, Tables};
 use babel_link::History;
 use babel_speaker::{Neighbour, Speaker};

@@ -1,5 +1,5 @@
 use Rattle.std.proofs.Common.{◌≡◌}
-use Rattle.babel_udp.proofs.sockets.UdpWireWire.recv.Given as goal
+use Rattle.raibenku.proofs.sockets.UdpWireWire.recv.Given as goal
 
 abbrev pub invariant-loop-iface : goal.invariant-loop-iface
 invariant-loop-iface g l = l.self.faults ≡ l.fn.self.faults

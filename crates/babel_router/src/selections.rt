@@ -5,76 +5,96 @@ use babel_state::Selected;
 use babel_text::LineFault;
 use babel_value::{Addr, Prefix};
 use std::alloc::{AllocError, Global};
-use std::fmt;
 use std::io::{self, Write};
 
 /// How selected routes are written.
 #[derive(Clone, Copy)]
-pub enum RouteLines<'a> {
-    /// For people and logs, with the number of the interface.
-    Numbers,
-    /// The same with the interface's name.
-    Names(&'a [&'a str]),
-    /// As commands for `ip -force -batch -`, with the interface's name.
-    Commands(&'a [&'a str]),
+pub(crate) enum RouteForm {
+    /// For people and logs.
+    Text,
+    /// As commands for `ip -force -batch -`.
+    Commands,
 }
+
+/// How selected routes are written, and the names of the interfaces.
+#[derive(Clone, Copy)]
+pub(crate) struct RouteLines<'a> {
+    pub(crate) form: RouteForm,
+    /// By the numbers of the interfaces.
+    pub(crate) names: &'a [&'a str],
+}
+
+/// For people and logs, with the numbers of the interfaces in place of names.
+pub(crate) const NUMBERED: RouteLines<'static> = RouteLines {
+    form: RouteForm::Text,
+    names: &["0", "1", "2", "3", "4", "5", "6", "7"],
+};
 
 /// The metric of all routes that are given to the kernel: the kernel's own routes of a device are preferred to them.
 const KERNEL_METRIC: u16 = 1024;
 
-/// An interface, as it is written.
-#[derive(Clone, Copy)]
-struct InterfaceText<'a> {
-    lines: RouteLines<'a>,
-    iface: u8,
-}
-
-impl fmt::Display for InterfaceText<'_> {
-    fn fmt<W: fmt::Write>(&self, f: &mut fmt::Formatter<W>) -> fmt::Result {
-        match self.lines {
-            RouteLines::Numbers => self.iface.fmt(f),
-            RouteLines::Names(names) | RouteLines::Commands(names) => {
-                f.write_str(names.get(usize::from(self.iface)).copied().unwrap_or("?"))
-            }
-        }
+/// The name of an interface.
+fn name_of<'a>(names: &[&'a str], iface: u8) -> &'a str {
+    match names.get(usize::from(iface)) {
+        Some(name) => name,
+        None => "?",
     }
 }
 
-/// A selected route, or none, as it is written for people.
-#[derive(Clone, Copy)]
-struct SelectedText<'a> {
-    lines: RouteLines<'a>,
-    route: &'a Option<Selected>,
+/// Writes the selected route of a prefix for people, to the end of the line.
+fn write_route<W: Write>(
+    names: &[&str],
+    prefix: &Prefix,
+    route: &Option<Selected>,
+    out: &mut W,
+) -> io::Result<()> {
+    let Some(route) = route else {
+        return writeln!(out, "{prefix} none");
+    };
+    let name = name_of(names, route.peer.iface);
+    writeln!(
+        out,
+        "{prefix} via {name} {} metric {} router {} seqno {}",
+        route.peer.addr, route.metric, route.router, route.distance.seqno
+    )
 }
 
-impl fmt::Display for SelectedText<'_> {
-    fn fmt<W: fmt::Write>(&self, f: &mut fmt::Formatter<W>) -> fmt::Result {
-        let Some(route) = self.route else {
-            return f.write_str("none");
-        };
-        let interface = InterfaceText {
-            lines: self.lines,
-            iface: route.peer.iface,
-        };
-        write!(
-            f,
-            "via {interface} {} metric {} router {} seqno {}",
-            route.peer.addr, route.metric, route.router, route.distance.seqno
-        )
-    }
+/// Writes the command that gives the kernel the route, or takes it away.
+fn write_command<W: Write>(
+    names: &[&str],
+    prefix: &Prefix,
+    route: &Option<Selected>,
+    out: &mut W,
+) -> io::Result<()> {
+    let Some(route) = route else {
+        return writeln!(out, "route del {prefix} proto babel metric {KERNEL_METRIC}");
+    };
+    let name = name_of(names, route.peer.iface);
+    let next_hop = route.next_hop;
+    // An IPv4 prefix over a next hop of IPv6 needs the family named (RFC 9229); the others take it too.
+    // A neighbour's IPv4 address may be outside of the device's networks, as on links where
+    // each address is a /32. The kernel refuses it without `onlink`.
+    let (family, link) = match next_hop {
+        Addr::V4(_) => ("inet", " onlink"),
+        Addr::V6(_) => ("inet6", ""),
+    };
+    writeln!(
+        out,
+        "route replace {prefix} via {family} {next_hop} dev {name}{link} proto babel metric {KERNEL_METRIC}"
+    )
 }
 
-impl<'a> RouteLines<'a> {
+impl RouteLines<'_> {
     /// Whether two selected routes are written in the same way.
     fn are_same(&self, one: &Option<Selected>, other: &Option<Selected>) -> bool {
         let (Some(one), Some(other)) = (one, other) else {
             return one.is_none() && other.is_none();
         };
-        match *self {
-            RouteLines::Commands(_) => {
+        match self.form {
+            RouteForm::Commands => {
                 one.peer.iface == other.peer.iface && one.next_hop == other.next_hop
             }
-            _ => {
+            RouteForm::Text => {
                 one.peer == other.peer
                     && one.metric == other.metric
                     && one.router == other.router
@@ -91,42 +111,13 @@ impl<'a> RouteLines<'a> {
         route: &Option<Selected>,
         out: &mut W,
     ) -> io::Result<()> {
-        match *self {
-            RouteLines::Commands(_) => self.write_command(prefix, route, out),
-            _ => {
-                let lines = *self;
-                let route = SelectedText { lines, route };
-                writeln!(out, "{moment} select {prefix} {route}")
+        match self.form {
+            RouteForm::Commands => write_command(self.names, prefix, route, out),
+            RouteForm::Text => {
+                write!(out, "{moment} select ")?;
+                write_route(self.names, prefix, route, out)
             }
         }
-    }
-
-    /// Writes the command that gives the kernel the route, or takes it away.
-    fn write_command<W: Write>(
-        &self,
-        prefix: &Prefix,
-        route: &Option<Selected>,
-        out: &mut W,
-    ) -> io::Result<()> {
-        let Some(route) = route else {
-            return writeln!(out, "route del {prefix} proto babel metric {KERNEL_METRIC}");
-        };
-        let interface = InterfaceText {
-            lines: *self,
-            iface: route.peer.iface,
-        };
-        let next_hop = route.next_hop;
-        // An IPv4 prefix over a next hop of IPv6 needs the family named (RFC 9229); the others take it too.
-        // A neighbour's IPv4 address may be outside of the device's networks, as on links where
-        // each address is a /32. The kernel refuses it without `onlink`.
-        let (family, link) = match next_hop {
-            Addr::V4(_) => ("inet", " onlink"),
-            Addr::V6(_) => ("inet6", ""),
-        };
-        writeln!(
-            out,
-            "route replace {prefix} via {family} {next_hop} dev {interface}{link} proto babel metric {KERNEL_METRIC}"
-        )
     }
 }
 
@@ -142,7 +133,7 @@ struct PrintedRoute {
 
 /// The prefixes of which a selected route was printed, in ascending order.
 #[derive(Drop)]
-pub struct Selections<'a> {
+pub(crate) struct Selections<'a> {
     lines: RouteLines<'a>,
     printed: Vec<PrintedRoute>,
     /// The count of the speaker's routes when they were looked at last. They are looked at again only if it is another.
@@ -158,9 +149,8 @@ impl<'a> Selections<'a> {
     /// # Errors
     ///
     /// An allocation failed.
-    pub fn new(alloc: Global, lines: RouteLines<'a>) -> Result<Selections<'a>, AllocError> {
-        let mut printed = Vec::new(alloc);
-        printed.reserve(MAX_PREFIXES)?;
+    pub(crate) fn new(alloc: Global, lines: RouteLines<'a>) -> Result<Selections<'a>, AllocError> {
+        let printed = Vec::with_capacity(alloc, MAX_PREFIXES)?;
         Ok(Selections {
             lines,
             printed,
@@ -174,7 +164,7 @@ impl<'a> Selections<'a> {
     /// # Errors
     ///
     /// L7 if writing fails, L8 if an allocation fails.
-    pub fn write_changes<W: Write>(
+    pub(crate) fn write_changes<W: Write>(
         &mut self,
         speaker: &Speaker,
         moment: u64,
@@ -195,7 +185,7 @@ impl<'a> Selections<'a> {
 
     /// The reader of the lines may have lost the routes over an interface: what is selected of
     /// their prefixes is printed again, also if it is none by then.
-    pub fn doubt(&mut self, iface: u8) {
+    pub(crate) fn doubt(&mut self, iface: u8) {
         for printed in self.printed.iter_mut() {
             if let Some(route) = printed.route {
                 if route.peer.iface == iface {
@@ -207,7 +197,7 @@ impl<'a> Selections<'a> {
     }
 
     /// The speaker was made again, and counts the changes of its routes from the beginning.
-    pub fn note_restart(&mut self) {
+    pub(crate) fn note_restart(&mut self) {
         self.version = None;
     }
 
@@ -216,10 +206,10 @@ impl<'a> Selections<'a> {
     /// # Errors
     ///
     /// Writing fails.
-    pub fn write_removals<W: Write>(&self, out: &mut W) -> io::Result<()> {
+    pub(crate) fn write_removals<W: Write>(&self, out: &mut W) -> io::Result<()> {
         for printed in &self.printed {
             if printed.route.is_some() {
-                self.lines.write_command(&printed.prefix, &None, out)?;
+                write_command(self.lines.names, &printed.prefix, &None, out)?;
             }
         }
         Ok(())
@@ -230,17 +220,14 @@ impl<'a> Selections<'a> {
     /// # Errors
     ///
     /// Writing fails.
-    pub fn write_table<W: Write>(&self, speaker: &Speaker, out: &mut W) -> io::Result<()> {
+    pub(crate) fn write_table<W: Write>(&self, speaker: &Speaker, out: &mut W) -> io::Result<()> {
         let mut after: Option<Prefix> = None;
         for _ in 0..MAX_PREFIXES {
             let Some(prefix) = speaker.next_prefix(after.as_ref()) else {
                 return Ok(());
             };
-            let route = SelectedText {
-                lines: self.lines,
-                route: &speaker.selected(&prefix),
-            };
-            writeln!(out, "table {prefix} {route}")?;
+            write!(out, "table ")?;
+            write_route(self.lines.names, &prefix, &speaker.selected(&prefix), out)?;
             after = Some(prefix);
         }
         Ok(())

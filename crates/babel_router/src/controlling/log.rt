@@ -1,9 +1,9 @@
 //! The log of a running speaker: the lines of `babel replay`, as they happen.
 
-use crate::IgnoredUpdates;
-use crate::ignored::{Received, has_ignored};
-use crate::reasons::push_line;
-use crate::retractions::{has_readable, with_retractions};
+use crate::controlling::IgnoredUpdates;
+use crate::controlling::ignored::{Received, has_ignored};
+use crate::controlling::reasons::push_line;
+use crate::controlling::retractions::{has_readable, with_retractions};
 use babel_choice::Selection;
 use babel_control::Logging;
 use babel_message::Placed;
@@ -42,7 +42,8 @@ pub struct LiveLog {
     written: Vec<Written>,
     /// The count of the speaker's routes when they were looked at last.
     version: Option<u64>,
-    ignored: IgnoredUpdates,
+    /// The Updates that were not stored.
+    pub ignored: IgnoredUpdates,
 }
 
 impl LiveLog {
@@ -58,11 +59,6 @@ impl LiveLog {
             version: None,
             ignored: IgnoredUpdates::new(alloc),
         }
-    }
-
-    /// The Updates that were not stored.
-    pub fn ignored(&self) -> &IgnoredUpdates {
-        &self.ignored
     }
 
     /// Whether somebody is sent the log from now on. To whom it is new the selected routes come first.

@@ -6,16 +6,16 @@ use std::io::{self, Write};
 
 /// How many turns were taken, and what was counted in them. No count passes 2^64 - 1.
 #[derive(Clone, Copy, Default)]
-pub struct Counts {
+pub(crate) struct Counts {
     /// The turns.
-    pub turns: u64,
+    pub(crate) turns: u64,
     /// What was counted in them.
-    pub report: DurableReport,
+    pub(crate) report: DurableReport,
 }
 
 impl Counts {
     /// Counts a turn.
-    pub fn add(&mut self, turn: DurableReport) {
+    pub(crate) fn add(&mut self, turn: DurableReport) {
         self.turns = self.turns.saturating_add(1);
         self.report = DurableReport {
             report: added(self.report.report, turn.report),
@@ -29,7 +29,7 @@ impl Counts {
     /// # Errors
     ///
     /// L7 if writing fails.
-    pub fn write_to<W: Write>(&self, out: &mut W) -> Result<(), LineFault> {
+    pub(crate) fn write_to<W: Write>(&self, out: &mut W) -> Result<(), LineFault> {
         self.write_lines(out).map_err(LineFault::of_writing)
     }
 
@@ -75,7 +75,7 @@ fn write_counts<W: Write>(turns: u64, report: Report, out: &mut W) -> io::Result
 
 /// Whether the snapshot was kept in the last turn.
 #[derive(Clone, Copy)]
-pub enum LastKeep {
+pub(crate) enum LastKeep {
     /// It was, or nothing had to be kept.
     Done,
     /// It couldn't be kept, and nothing was sent.
@@ -85,7 +85,7 @@ pub enum LastKeep {
 impl LastKeep {
     /// Takes a turn in, and writes if it isn't like the turn before. So it is written once that the
     /// snapshot can't be kept any more, and once that it is kept again.
-    pub fn note<E: Write>(&mut self, turn: DurableReport, err: &mut E) {
+    pub(crate) fn note<E: Write>(&mut self, turn: DurableReport, err: &mut E) {
         let (keep, text) = match (*self, turn.failed_keeps) {
             (LastKeep::Failed, 0) => (LastKeep::Done, "is kept again"),
             (LastKeep::Done, 1..) => (

@@ -1,6 +1,5 @@
-//! Why the command `speak` ends early.
+//! Why a speaker can't speak over UDP, or ends early.
 
-use crate::StartFault;
 use babel_snapshot_file::{RestoreCode, SnapshotFileFault};
 use babel_state::{ConfigFault, RestoreFault};
 use babel_text::LineFault;
@@ -40,16 +39,6 @@ impl From<AllocError> for SpeakFault {
     }
 }
 
-impl From<StartFault> for SpeakFault {
-    fn from(fault: StartFault) -> SpeakFault {
-        match fault {
-            StartFault::SnapshotFile(fault) => SpeakFault::SnapshotFile(fault),
-            StartFault::Restore(RestoreFault::Config(fault)) => SpeakFault::Config(fault),
-            StartFault::Restore(fault) => SpeakFault::Restore(fault),
-        }
-    }
-}
-
 impl SpeakFault {
     /// The code that the program prints, as `W2` or `K6 0`.
     pub fn code(self) -> SpeakCode {
@@ -58,7 +47,7 @@ impl SpeakFault {
 }
 
 /// The code of a fault as text, with the number of the record after `K6` and `K7`.
-#[derive(Clone, Copy, Debug, PartialEq, Eq)]
+#[derive(Clone, Copy)]
 pub struct SpeakCode {
     /// The fault.
     pub fault: SpeakFault,
