@@ -90,23 +90,13 @@ pub fn queue_requests_to_unfeasible(
     }
 }
 
-/// Queues an update of the prefix, whether the ring has a place for it or not. As a function of its
-/// own it keeps its copy of the item out of the loops over prefixes.
-#[inline(never)]
-fn push_update(pending: &mut PendingItems, target: Target, prefix: Prefix)
-    ensures { pending.new ≡ queued (Update target prefix ∷ []) pending.old }
-{
-    pending.push(Item::Update { target, prefix });
-}
-
-/// Queues an update of the prefix. It is written to its place in the ring if there is one, and no
-/// other copy of it is made.
+/// Queues an update of the prefix. It is written to its place in the ring if there is one, and no other copy of it is made.
 #[inline(always)]
 fn queue_update(pending: &mut PendingItems, target: Target, prefix: Prefix)
     ensures { pending.new ≡ queued (Update target prefix ∷ []) pending.old }
 {
     if !pending.push_to_place(Item::Update { target, prefix }) {
-        push_update(pending, target, prefix);
+        pending.push(Item::Update { target, prefix });
     }
 }
 
