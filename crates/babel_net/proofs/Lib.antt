@@ -4,9 +4,6 @@ pub mod Running
 pub mod HappeningEvents
 pub mod KeptNetworks
 pub mod FirstNetworks
-mod SharedAddresses
-mod TableOwners
-mod AddrCmp
 mod SentOctetsLaws
 mod Recorded
 pub mod Chains

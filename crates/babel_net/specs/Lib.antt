@@ -7,7 +7,6 @@ pub mod Promises
 pub mod Laws
 pub mod Owned
 pub mod Making
-pub mod Shared
 pub mod Recording
 pub mod Hearing
 pub mod HearFaults

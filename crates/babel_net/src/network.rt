@@ -14,12 +14,12 @@ ghost use Rattle.babel_machine.specs.Worlds.{next_hop_in, router_in};
 
 use crate::laws::{networks_begin, networks_go_on};
 use crate::nodes::{Emitted, Nodes};
-use crate::owners::Owners;
 use babel_choice::Selection;
 use babel_machine::laws::{
     events_are_machine_runs, next_hops_are_picks, sound_networks_have_no_loop,
 };
 use babel_machine::{Event, NetFault, StepFault};
+use babel_owners::Owners;
 use babel_state::{Config, Selected};
 use babel_value::{Addr, Memory, Prefix, RouterId};
 use std::alloc::Global;

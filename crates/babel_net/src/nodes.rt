@@ -16,13 +16,13 @@ ghost use Rattle.babel_net.specs.Making.{IsOutOfMemory, IsMakingFault};
 ghost use Rattle.babel_net.specs.Promises.{first_network};
 ghost use Rattle.babel_net.specs.Steps.{Makes, MakesEmit, MakesDeliver, MakesRestart};
 
-use crate::acceptance::net_fault;
 use crate::calls::{call, hear, node_of, receive, restart};
 use crate::hearing::{HearFault, Heard, Hearing};
 use crate::node_speakers::NodeSpeaker;
 use crate::sent::Record;
 use babel_choice::Selection;
 use babel_machine::{Event, NetFault, StepFault};
+use babel_owners::net_fault;
 use babel_state::{Config, Selected, Target};
 use babel_value::{Addr, Memory, Prefix};
 use std::alloc::Global;

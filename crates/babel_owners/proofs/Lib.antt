@@ -1,0 +1,3 @@
+mod SharedAddresses
+mod TableOwners
+mod AddrCmp
