@@ -7,12 +7,12 @@ use Rattle.babel_state.specs.declared.configs.Interface.{Interface}
 use Rattle.babel_value.specs.Texts.{IsAddrText}
 use Rattle.babel_text.specs.Prefixes.{IsPrefixText}
 use Rattle.babel_text.specs.RouterIds.{IsRouterIdText}
-use Rattle.babel_config.specs.declared.errors.FileFault.{FileFault}
+use Rattle.babel_toml.specs.declared.errors.FileFault.{FileFault}
 use Rattle.babel_config.specs.declared.keys.TableKind.TheVariants as kinds
 use Rattle.babel_config.specs.declared.scenarios.Scenario.{Scenario}
 use Rattle.babel_config.specs.Keys.{is_table_of}
-use Rattle.babel_config.specs.Values.{IsText, IsRequired, IsOptional, IsGivenOr, IsList}
-use Rattle.babel_config.specs.Faults.{HasFormFault, HasTextFault, HasListFault, HasRequiredFault, HasGivenFault}
+use Rattle.babel_toml.specs.Values.{IsText, IsRequired, IsOptional, IsGivenOr, IsList}
+use Rattle.babel_toml.specs.Faults.{HasFormFault, HasTextFault, HasListFault, HasRequiredFault, HasGivenFault}
 use Rattle.babel_config.specs.Scalars.{IsNumber, IsFlag, IsTransport, IsIpv4NetworkText, IsIpv6AddrText}
 use Rattle.babel_config.specs.Configs.{IsInterface, IsConfig, HasInterfaceFault, HasConfigFault}
 use Rattle.babel_config.specs.declared.scenario_events.ScenarioEvent.{ScenarioEvent}

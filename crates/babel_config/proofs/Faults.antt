@@ -8,9 +8,9 @@ use Rattle.babel_config.specs.Scalars.{IsIpv4NetworkText}
 use Rattle.toml.specs.Data.{Data, Items, no_items, item, get_item}
 use Rattle.toml.specs.declared.value.Value.{Value}
 use Rattle.toml.specs.View.{view, items_view}
-use Rattle.babel_config.specs.declared.errors.FileFault.{FileFault}
-use Rattle.babel_config.specs.Values.{IsOptional, IsGivenOr, IsItems}
-use Rattle.babel_config.specs.Faults.{IsCaused, IsRead, IsGivenRead, HasItemFault}
+use Rattle.babel_toml.specs.declared.errors.FileFault.{FileFault}
+use Rattle.babel_toml.specs.Values.{IsOptional, IsGivenOr, IsItems}
+use Rattle.babel_toml.specs.Faults.{IsCaused, IsRead, IsGivenRead, HasItemFault}
 
 item_in_front : (vs : List Value) (i m : ℕ) (e : Data) → m < i → get_item m (items_view vs) ≡ Some e → get_item m (items_view (take i vs)) ≡ Some e
 item_in_front [] i zero e inside got = absurd (cc)
@@ -37,13 +37,12 @@ module _ {A : Type 0} (Means : Data → A → Type 0) where
   item_fault HasFault vs i v list fault inside is h k =
       (i, view v, item_at vs i v inside is, k, λ m e earlier got. items_read (items_view (take i vs)) list h m e (item_in_front vs i m e earlier got))
 
-module _ {A B : Type 0} (Means : Data → A → Type 0) (f : B → A) where
-  pub given_read : (o : Option Data) (x : Option B) → IsOptional (λ d b. Means d (f b)) o x → IsGivenRead Means o
+module _ {A : Type 0} (Means : Data → A → Type 0) where
+  pub given_read : (o : Option Data) (x : Option A) → IsOptional Means o x → IsGivenRead Means o
   given_read None x h = tt
   given_read (Some d) None h = absurd h
-  given_read (Some d) (Some b) h = (f b, h)
+  given_read (Some d) (Some a) h = (a, h)
 
-module _ {A : Type 0} (Means : Data → A → Type 0) where
   pub given_or_read : (default : A) (o : Option Data) (a : A) → IsGivenOr Means default o a → IsGivenRead Means o
   given_or_read default None a h = tt
   given_or_read default (Some d) a h = (a, h)

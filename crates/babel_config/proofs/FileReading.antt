@@ -3,8 +3,8 @@ use Rattle.std.proofs.Common.{◌≡◌, ℕ, ◌<◌, List, [], ◌++◌, lengt
 use Rattle.std.specs.Option.{option_map}
 use Rattle.std.proofs.lemmas.List.{length-take, take_all}
 use Rattle.toml.specs.Data.{Data}
-use Rattle.babel_config.specs.declared.errors.FileFault.{FileFault}
-use Rattle.babel_config.specs.Faults.{IsCaused}
+use Rattle.babel_toml.specs.declared.errors.FileFault.{FileFault}
+use Rattle.babel_toml.specs.Faults.{IsCaused}
 use Rattle.babel_config.specs.Files.{IsFileOf, HasFileFault}
 
 module _ {A : Type 0} (Means : Data → A → Type 0) (HasFault : Data → FileFault → Type 0) (octets : List ℕ) (d : Data) where

@@ -6,11 +6,11 @@ use Rattle.babel_text.specs.Prefixes.{IsPrefixText}
 use Rattle.babel_text.specs.RouterIds.{IsRouterIdText}
 use Rattle.babel_state.specs.declared.configs.Config.{Config}
 use Rattle.babel_state.specs.declared.configs.Interface.{Interface}
-use Rattle.babel_config.specs.declared.errors.FileFault.{FileFault}
+use Rattle.babel_toml.specs.declared.errors.FileFault.{FileFault}
 use Rattle.babel_config.specs.declared.keys.TableKind.TheVariants as kinds
-use Rattle.babel_config.specs.Keys.{is_table_of}
-use Rattle.babel_config.specs.Values.{IsText, IsRequired, IsOptional, IsGivenOr, IsList}
-use Rattle.babel_config.specs.Faults.{HasFormFault, HasTextFault, HasListFault, HasTableFault, RequiredThen, GivenThen, NoFault}
+use Rattle.babel_config.specs.Keys.{is_table_of, HasTableFault}
+use Rattle.babel_toml.specs.Values.{IsText, IsRequired, IsOptional, IsGivenOr, IsList}
+use Rattle.babel_toml.specs.Faults.{HasFormFault, HasTextFault, HasListFault, RequiredThen, GivenThen, NoFault}
 use Rattle.babel_config.specs.Scalars.{IsNumber, IsFlag, IsTransport, IsIpv4NetworkText, IsIpv6AddrText}
 
 -- The table of an interface. Its cost is 96 if it names none, and its Hello interval 400 centiseconds.

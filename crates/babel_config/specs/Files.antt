@@ -1,12 +1,9 @@
 -- Files of configurations and scenarios (profile).
-use Rattle.std.specs.Prelude.{◌≡◌, ◌⊎◌, ◌<◌, ◌≤◌, ℕ, List, ◌++◌, length, codes, Some, None, IsUtf8}
-use Rattle.std.specs.Fmt.{decimal}
-use Rattle.std.specs.declared.io.ErrorKind.{ErrorKind}
-use Rattle.std.specs.declared.io.ErrorKind.TheVariants.{OutOfMemory}
+use Rattle.std.specs.Prelude.{◌≡◌, ◌⊎◌, ◌<◌, ◌≤◌, ℕ, List, length, Some, None, IsUtf8}
 use Rattle.toml.specs.Data.{Data, table, Members}
 use Rattle.toml.specs.Parse.{parse_document}
-use Rattle.babel_config.specs.declared.errors.FileFault.{FileFault}
-use Rattle.babel_config.specs.declared.errors.FileFault.TheVariants.{NotToml, Form, Text, Memory, Unreadable, Event}
+use Rattle.babel_toml.specs.declared.errors.FileFault.{FileFault}
+use Rattle.babel_toml.specs.declared.errors.FileFault.TheVariants.{NotToml, Unreadable}
 
 -- The greatest length of a file, in octets.
 abbrev pub max_file_len : ℕ
@@ -26,17 +23,3 @@ HasNoTable octets fault =
 -- Why a file cannot be read: F5, else F1, else the fault of its table.
 abbrev pub HasFileFault : (Data → FileFault → Type 0) → List ℕ → FileFault → Type 0
 HasFileFault HasFault octets fault = HasNoTable octets fault ⊎ IsFileOf (λ d. HasFault d fault) octets
-
--- Why the octets of a file aren't read: F4 if an allocation failed, else F5.
-abbrev pub reading_fault : ErrorKind → FileFault
-reading_fault OutOfMemory = Memory
-reading_fault kind = Unreadable
-
--- The code of a fault, as a command prints it. The number of the event is after F6.
-abbrev pub fault_text : FileFault → List ℕ
-fault_text NotToml = codes "F1"
-fault_text Form = codes "F2"
-fault_text Text = codes "F3"
-fault_text Memory = codes "F4"
-fault_text Unreadable = codes "F5"
-fault_text (Event number) = codes "F6 " ++ decimal number

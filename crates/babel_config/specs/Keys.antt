@@ -1,8 +1,10 @@
 -- The keys of each kind of table (profile).
-use Rattle.std.specs.Prelude.{ℕ, Bool, true, false, ◌&&◌, List, [], ◌∷◌, codes}
+use Rattle.std.specs.Prelude.{◌≡◌, ◌⊎◌, ℕ, Bool, true, false, ◌&&◌, List, [], ◌∷◌, codes}
 use Rattle.std.specs.List.{list_any}
 use Rattle.std.specs.Str.{bytes_eq}
 use Rattle.toml.specs.Data.{Data, table, Members, no_members, member}
+use Rattle.babel_toml.specs.declared.errors.FileFault.{FileFault}
+use Rattle.babel_toml.specs.declared.errors.FileFault.TheVariants.{Form}
 use Rattle.babel_config.specs.declared.keys.TableKind.{TableKind}
 use Rattle.babel_config.specs.declared.keys.TableKind.TheVariants.{Scenario, Config, Interface}
 
@@ -22,3 +24,8 @@ all_keys_of kind (member key d members) = is_key_of kind key && all_keys_of kind
 abbrev pub is_table_of : TableKind → Data → Bool
 is_table_of kind (table members) = all_keys_of kind members
 is_table_of kind _ = false
+
+-- F2: the value is no table, or has a key that its kind lacks. Else the fault of a key.
+abbrev pub HasTableFault : TableKind → (Data → FileFault → Type 0) → Data → FileFault → Type 0
+HasTableFault kind HasKeyFault d fault =
+    ((fault ≡ Form) × (is_table_of kind d ≡ false)) ⊎ ((is_table_of kind d ≡ true) × HasKeyFault d fault)

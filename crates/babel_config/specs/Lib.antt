@@ -1,6 +1,4 @@
-pub mod Values
 pub mod Keys
-pub mod Faults
 pub mod Scalars
 pub mod Configs
 pub mod Events

@@ -1,14 +1,14 @@
 -- The scenario that a table of a file is, and why a table is none (profile).
 use Rattle.std.specs.Prelude.{◌≡◌, ◌⊎◌, ℕ, true, [], List, codes, Some, None}
 use Rattle.toml.specs.Data.{Data, get, as_str}
-use Rattle.babel_config.specs.declared.errors.FileFault.{FileFault}
-use Rattle.babel_config.specs.declared.errors.FileFault.TheVariants as faults
+use Rattle.babel_toml.specs.declared.errors.FileFault.{FileFault}
+use Rattle.babel_toml.specs.declared.errors.FileFault.TheVariants as faults
 use Rattle.babel_config.specs.declared.keys.TableKind.TheVariants as kinds
 use Rattle.babel_config.specs.declared.scenario_events.ScenarioEvent.{ScenarioEvent}
 use Rattle.babel_config.specs.declared.scenarios.Scenario.{Scenario}
-use Rattle.babel_config.specs.Keys.{is_table_of}
-use Rattle.babel_config.specs.Values.{IsText, IsGivenOr, IsList}
-use Rattle.babel_config.specs.Faults.{HasListFault, HasTableFault, GivenThen, NoFault}
+use Rattle.babel_config.specs.Keys.{is_table_of, HasTableFault}
+use Rattle.babel_toml.specs.Values.{IsText, IsGivenOr, IsList}
+use Rattle.babel_toml.specs.Faults.{HasListFault, GivenThen, NoFault}
 use Rattle.babel_config.specs.Configs.{IsConfig, HasConfigFault}
 use Rattle.babel_config.specs.ScenarioEvents.{IsScenarioEventText}
 

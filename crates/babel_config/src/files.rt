@@ -4,13 +4,13 @@ ghost use Rattle.std.specs.Prelude.{◌≡◌, ◌⊎◌, ◌<◌, ◌≤◌, le
 ghost use Rattle.toml.specs.View.{view};
 ghost use Rattle.babel_config.specs.Configs.{IsConfig, HasConfigFault};
 ghost use Rattle.babel_config.specs.Scenarios.{IsScenario, HasScenarioFault};
-ghost use Rattle.babel_config.specs.Faults.{IsCaused};
+ghost use Rattle.babel_toml.specs.Faults.{IsCaused};
 ghost use Rattle.babel_config.specs.Files.{max_file_len, IsFileOf, HasNoTable, HasFileFault};
 
-use crate::FileFault;
+use crate::configs::ConfigTable;
 use crate::scenarios::{Scenario, scenario_from_toml};
-use crate::values::FromToml;
 use babel_state::Config;
+use babel_toml::{FileFault, Kind};
 use std::alloc::Global;
 use std::io::Read;
 use toml::Value;
@@ -26,7 +26,7 @@ pub fn read_config(alloc: Global, octets: &[u8]) -> Result<Config, FileFault>
     ensures too_long { max_file_len < length octets.now → result ≡ Err FileFault.Unreadable }
 {
     let file = read_toml(alloc, octets)?;
-    Config::from_toml(alloc, &file)
+    ConfigTable::read(alloc, &file)
 }
 
 /// Reads a scenario from the octets of a TOML file.

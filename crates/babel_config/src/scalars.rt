@@ -1,51 +1,62 @@
-//! Numbers, truth values, and texts.
+//! The kinds of single values: numbers, truth values, and texts.
 
-use crate::FileFault;
-use crate::values::FromToml;
 use babel_text::{parse_network, parse_prefix, parse_router_id};
+use babel_toml::{FileFault, Kind};
 use babel_value::{Addr, Family, Prefix};
 use std::alloc::Global;
 use toml::Value;
 
 /// A number from 0 to 65535.
-impl FromToml for u16 {
+pub(crate) struct Number;
+
+impl Kind for Number {
     ghost use Rattle.babel_config.specs.Scalars.{IsNumber};
-    ghost use Rattle.babel_config.specs.Faults.{HasFormFault};
+    ghost use Rattle.babel_toml.specs.Faults.{HasFormFault};
+
+    type Output = u16;
 
     ghost means = { IsNumber };
 
     ghost fault = { HasFormFault IsNumber };
 
-    fn from_toml(_alloc: Global, value: &Value) -> Result<u16, FileFault> {
+    fn read(_alloc: Global, value: &Value) -> Result<u16, FileFault> {
         let number = value.as_integer().ok_or(FileFault::Form)?;
         u16::try_from(number).map_err(|_| FileFault::Form)
     }
 }
 
 /// A truth value.
-impl FromToml for bool {
+pub(crate) struct Flag;
+
+impl Kind for Flag {
     ghost use Rattle.babel_config.specs.Scalars.{IsFlag};
-    ghost use Rattle.babel_config.specs.Faults.{HasFormFault};
+    ghost use Rattle.babel_toml.specs.Faults.{HasFormFault};
+
+    type Output = bool;
 
     ghost means = { IsFlag };
 
     ghost fault = { HasFormFault IsFlag };
 
-    fn from_toml(_alloc: Global, value: &Value) -> Result<bool, FileFault> {
+    fn read(_alloc: Global, value: &Value) -> Result<bool, FileFault> {
         value.as_bool().ok_or(FileFault::Form)
     }
 }
 
-/// `ipv4` or `ipv6`.
-impl FromToml for Family {
+/// The word of a family of addresses: `ipv4` or `ipv6`.
+pub(crate) struct Transport;
+
+impl Kind for Transport {
     ghost use Rattle.babel_config.specs.Scalars.{IsTransport};
-    ghost use Rattle.babel_config.specs.Faults.{HasFormFault};
+    ghost use Rattle.babel_toml.specs.Faults.{HasFormFault};
+
+    type Output = Family;
 
     ghost means = { IsTransport };
 
     ghost fault = { HasFormFault IsTransport };
 
-    fn from_toml(_alloc: Global, value: &Value) -> Result<Family, FileFault> {
+    fn read(_alloc: Global, value: &Value) -> Result<Family, FileFault> {
         match value.as_str() {
             Some("ipv4") => Ok(Family::Ipv4),
             Some("ipv6") => Ok(Family::Ipv6),
@@ -55,100 +66,107 @@ impl FromToml for Family {
 }
 
 /// The text of an address.
-impl FromToml for Addr {
+pub(crate) struct AddrText;
+
+impl Kind for AddrText {
     ghost use Rattle.babel_value.specs.Texts.{IsAddrText};
-    ghost use Rattle.babel_config.specs.Values.{IsText};
-    ghost use Rattle.babel_config.specs.Faults.{HasTextFault};
+    ghost use Rattle.babel_toml.specs.Values.{IsText};
+    ghost use Rattle.babel_toml.specs.Faults.{HasTextFault};
+
+    type Output = Addr;
 
     ghost means = { IsText IsAddrText };
 
     ghost fault = { HasTextFault IsAddrText };
 
-    fn from_toml(_alloc: Global, value: &Value) -> Result<Addr, FileFault> {
+    fn read(_alloc: Global, value: &Value) -> Result<Addr, FileFault> {
         let text = value.as_str().ok_or(FileFault::Form)?;
         text.parse::<Addr>().map_err(|_| FileFault::Text)
     }
 }
 
 /// The text of a prefix.
-impl FromToml for Prefix {
+pub(crate) struct PrefixText;
+
+impl Kind for PrefixText {
     ghost use Rattle.babel_text.specs.Prefixes.{IsPrefixText};
-    ghost use Rattle.babel_config.specs.Values.{IsText};
-    ghost use Rattle.babel_config.specs.Faults.{HasTextFault};
+    ghost use Rattle.babel_toml.specs.Values.{IsText};
+    ghost use Rattle.babel_toml.specs.Faults.{HasTextFault};
+
+    type Output = Prefix;
 
     ghost means = { IsText IsPrefixText };
 
     ghost fault = { HasTextFault IsPrefixText };
 
-    fn from_toml(_alloc: Global, value: &Value) -> Result<Prefix, FileFault> {
+    fn read(_alloc: Global, value: &Value) -> Result<Prefix, FileFault> {
         let text = value.as_str().ok_or(FileFault::Form)?;
         parse_prefix(text).ok_or(FileFault::Text)
     }
 }
 
-/// The octets of a router-id.
-#[derive(Clone, Copy)]
-pub(crate) struct RouterIdOctets(pub(crate) [u8; 8]);
-
 /// The text of a router-id, reserved or not.
-impl FromToml for RouterIdOctets {
-    ghost use Rattle.babel_text.specs.RouterIds.{IsRouterIdText};
-    ghost use Rattle.babel_config.specs.Values.{IsText};
-    ghost use Rattle.babel_config.specs.Faults.{HasTextFault};
+pub(crate) struct RouterIdText;
 
-    ghost means = { λ d router. IsText IsRouterIdText d router.0 };
+impl Kind for RouterIdText {
+    ghost use Rattle.babel_text.specs.RouterIds.{IsRouterIdText};
+    ghost use Rattle.babel_toml.specs.Values.{IsText};
+    ghost use Rattle.babel_toml.specs.Faults.{HasTextFault};
+
+    type Output = [u8; 8];
+
+    ghost means = { IsText IsRouterIdText };
 
     ghost fault = { HasTextFault IsRouterIdText };
 
-    fn from_toml(_alloc: Global, value: &Value) -> Result<RouterIdOctets, FileFault> {
+    fn read(_alloc: Global, value: &Value) -> Result<[u8; 8], FileFault> {
         let text = value.as_str().ok_or(FileFault::Form)?;
-        parse_router_id(text)
-            .map(RouterIdOctets)
-            .ok_or(FileFault::Text)
+        parse_router_id(text).ok_or(FileFault::Text)
     }
 }
 
-/// An IPv4 address, and the length of its network's prefix.
-#[derive(Clone, Copy)]
-pub(crate) struct Ipv4Network(pub(crate) ([u8; 4], u8));
+/// The text `address/length` of an IPv4 address and the length of its network's prefix, which may
+/// be up to 255.
+pub(crate) struct Ipv4NetworkText;
 
-/// The text `address/length`, whose length may be up to 255.
-impl FromToml for Ipv4Network {
+impl Kind for Ipv4NetworkText {
     ghost use Rattle.babel_config.specs.Scalars.{IsIpv4NetworkText};
-    ghost use Rattle.babel_config.specs.Values.{IsText};
-    ghost use Rattle.babel_config.specs.Faults.{HasTextFault};
+    ghost use Rattle.babel_toml.specs.Values.{IsText};
+    ghost use Rattle.babel_toml.specs.Faults.{HasTextFault};
 
-    ghost means = { λ d net. IsText IsIpv4NetworkText d net.0 };
+    type Output = ([u8; 4], u8);
+
+    ghost means = { IsText IsIpv4NetworkText };
 
     ghost fault = { HasTextFault IsIpv4NetworkText };
 
-    fn from_toml(_alloc: Global, value: &Value) -> Result<Ipv4Network, FileFault> {
+    fn read(_alloc: Global, value: &Value) -> Result<([u8; 4], u8), FileFault> {
         let text = value.as_str().ok_or(FileFault::Form)?;
         match parse_network(text) {
-            Some((Addr::V4(octets), length)) => Ok(Ipv4Network((octets, length))),
+            Some((Addr::V4(octets), length)) => Ok((octets, length)),
             _ => Err(FileFault::Text),
         }
     }
 }
 
-/// The octets of an IPv6 address.
-#[derive(Clone, Copy)]
-pub(crate) struct Ipv6Octets(pub(crate) [u8; 16]);
-
 /// The text of an IPv6 address.
-impl FromToml for Ipv6Octets {
-    ghost use Rattle.babel_config.specs.Scalars.{IsIpv6AddrText};
-    ghost use Rattle.babel_config.specs.Values.{IsText};
-    ghost use Rattle.babel_config.specs.Faults.{HasTextFault};
+pub(crate) struct Ipv6AddrText;
 
-    ghost means = { λ d addr. IsText IsIpv6AddrText d addr.0 };
+impl Kind for Ipv6AddrText {
+    ghost use Rattle.babel_config.specs.Scalars.{IsIpv6AddrText};
+    ghost use Rattle.babel_toml.specs.Values.{IsText};
+    ghost use Rattle.babel_toml.specs.Faults.{HasTextFault};
+
+    type Output = [u8; 16];
+
+    ghost means = { IsText IsIpv6AddrText };
 
     ghost fault = { HasTextFault IsIpv6AddrText };
 
-    fn from_toml(_alloc: Global, value: &Value) -> Result<Ipv6Octets, FileFault> {
+    fn read(_alloc: Global, value: &Value) -> Result<[u8; 16], FileFault> {
         let text = value.as_str().ok_or(FileFault::Form)?;
         match text.parse::<Addr>() {
-            Ok(Addr::V6(octets)) => Ok(Ipv6Octets(octets)),
+            Ok(Addr::V6(octets)) => Ok(octets),
             _ => Err(FileFault::Text),
         }
     }

@@ -1,25 +1,25 @@
 //! The events of a scenario: those of the network's own nodes, and datagrams that they hear from others.
 
-ghost use Rattle.std.specs.Prelude.{◌≡◌, IfOk, IfErr, IfSome, IsNone};
+ghost use Rattle.std.specs.Prelude.{◌≡◌, [], codes, IfOk, IfErr, IfSome, IsNone};
+ghost use Rattle.toml.specs.Data.{get};
 ghost use Rattle.toml.specs.View.{view};
 ghost use Rattle.babel_text.specs.Readings.{Reads};
-ghost use Rattle.babel_config.specs.Values.{IsText, IsList};
-ghost use Rattle.babel_config.specs.Faults.{IsCaused, HasListFault};
+ghost use Rattle.babel_toml.specs.Values.{IsText, IsGivenOr, IsList};
+ghost use Rattle.babel_toml.specs.Faults.{IsCaused, HasGivenFault, HasListFault};
 ghost use Rattle.babel_config.specs.Events.{after_blank};
 ghost use Rattle.babel_config.specs.Heard.{IsHearing};
 ghost use Rattle.babel_config.specs.ScenarioEvents.{IsScenarioEventText};
 ghost use Rattle.babel_config.specs.Scenarios.{HasEventFault};
 
-use crate::FileFault;
 use crate::events::{parse_event, split_word};
 use crate::heard::{HeardDatagram, parse_heard};
-use crate::values::FromToml;
 use babel_machine::Event;
+use babel_toml::FileFault;
 use std::alloc::{AllocError, Global};
 use toml::Value;
 
 /// One event of a scenario.
-#[derive(Debug, Drop)]
+#[derive(Drop)]
 pub enum ScenarioEvent {
     /// An event of the network's own nodes.
     Ours(Event),
@@ -52,23 +52,14 @@ fn parse_scenario_event(alloc: Global, text: &str) -> Result<Option<ScenarioEven
     }
 }
 
-/// The events of a scenario.
-#[derive(Drop)]
-pub(crate) struct Events(pub(crate) Vec<ScenarioEvent>);
-
-/// A list of the texts of events.
-impl FromToml for Events {
-    ghost use Rattle.babel_config.specs.Values.{IsText, IsList};
-    ghost use Rattle.babel_config.specs.Faults.{HasListFault};
-    ghost use Rattle.babel_config.specs.ScenarioEvents.{IsScenarioEventText};
-    ghost use Rattle.babel_config.specs.Scenarios.{HasEventFault};
-
-    ghost means = { λ d events. IsList (IsText IsScenarioEventText) d events.0.items };
-
-    ghost fault = { HasListFault (IsText IsScenarioEventText) HasEventFault };
-
-    fn from_toml(alloc: Global, value: &Value) -> Result<Events, FileFault> {
-        Ok(Events(read_events(alloc, value)?))
+/// Reads the events of a scenario's table: none if it lacks the key.
+pub(crate) fn given_events(alloc: Global, table: &Value) -> Result<Vec<ScenarioEvent>, FileFault>
+    ensures ok { IfOk result (λ events. IsGivenOr (IsList (IsText IsScenarioEventText)) [] (get (codes "events") (view table.now)) events.items) }
+    ensures refused { IfErr result (IsCaused (HasGivenFault (HasListFault (IsText IsScenarioEventText) HasEventFault) (get (codes "events") (view table.now)))) }
+{
+    match table.get("events") {
+        Some(value) => read_events(alloc, value),
+        None => Ok(Vec::new(alloc)),
     }
 }
 

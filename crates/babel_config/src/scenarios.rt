@@ -3,18 +3,19 @@
 ghost use Rattle.std.specs.Prelude.{IfOk, IfErr};
 ghost use Rattle.toml.specs.View.{view};
 ghost use Rattle.babel_config.specs.Scenarios.{IsScenario, HasScenarioFault};
-ghost use Rattle.babel_config.specs.Faults.{IsCaused};
+ghost use Rattle.babel_toml.specs.Faults.{IsCaused};
 
-use crate::FileFault;
+use crate::configs::ConfigTable;
 use crate::keys::{TableKind, is_table_of};
-use crate::scenario_events::{Events, ScenarioEvent};
-use crate::values::optional;
+use crate::lists::given_list;
+use crate::scenario_events::{ScenarioEvent, given_events};
 use babel_state::Config;
+use babel_toml::FileFault;
 use std::alloc::Global;
 use toml::Value;
 
 /// A network and what happens in it.
-#[derive(Debug, Drop)]
+#[derive(Drop)]
 pub struct Scenario {
     /// The configurations of the nodes, by their numbers from 0 on.
     pub configs: Vec<Config>,
@@ -30,11 +31,7 @@ pub(crate) fn scenario_from_toml(alloc: Global, value: &Value) -> Result<Scenari
     if !is_table_of(TableKind::Scenario, value) {
         return Err(FileFault::Form);
     }
-    let read: Option<Events> = optional(alloc, value, "events")?;
-    let configs: Option<Vec<Config>> = optional(alloc, value, "node")?;
-    let Events(events) = read.unwrap_or(Events(Vec::new(alloc)));
-    Ok(Scenario {
-        configs: configs.unwrap_or(Vec::new(alloc)),
-        events,
-    })
+    let events = given_events(alloc, value)?;
+    let configs = given_list::<ConfigTable>(alloc, value, "node")?;
+    Ok(Scenario { configs, events })
 }

@@ -1,8 +1,8 @@
 -- One more event.
 use Rattle.std.proofs.Common.{inr, rules}
 use Rattle.toml.specs.View.{view, items_view}
-use Rattle.babel_config.specs.Values.{IsText}
-use Rattle.babel_config.specs.Faults.{HasListFault}
+use Rattle.babel_toml.specs.Values.{IsText}
+use Rattle.babel_toml.specs.Faults.{HasListFault}
 use Rattle.babel_config.specs.ScenarioEvents.{IsScenarioEventText}
 use Rattle.babel_config.specs.Scenarios.{HasEventFault}
 use Rattle.babel_config.proofs.Reading.{items_grow}

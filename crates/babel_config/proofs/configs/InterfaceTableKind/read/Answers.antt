@@ -2,21 +2,18 @@
 use Rattle.std.proofs.Common.{inl, inr, []}
 use Rattle.toml.specs.View.{view}
 use Rattle.babel_value.specs.Texts.{IsAddrText}
-use Rattle.babel_config.specs.declared.scalars.Ipv4Network.{Ipv4Network}
-use Rattle.babel_config.specs.declared.scalars.Ipv6Octets.{Ipv6Octets}
 use Rattle.babel_config.specs.Configs.{HasInterfaceFault}
 use Rattle.babel_config.specs.Scalars.{IsNumber, IsIpv4NetworkText, IsIpv6AddrText}
-use Rattle.babel_config.specs.Values.{IsText, IsList}
+use Rattle.babel_toml.specs.Values.{IsText, IsList}
 use Rattle.babel_config.proofs.Faults.{given_read, given_or_read, err_caused}
-use Rattle.babel_config.proofs.Reading.{optional_map}
-use Rattle.babel_config.proofs.configs.InterfaceFromToml.from_toml.Goals as goal
+use Rattle.babel_config.proofs.configs.InterfaceTableKind.read.Goals as goal
 
 pub returns-clause-ok : goal.returns-clause-ok
 returns-clause-ok c = record {
   keys = cc;
   transport = c.in_ok-transport.ensures.ok;
-  ipv4 = optional_map (IsText IsIpv4NetworkText) (λ (n : Ipv4Network). n.0) _ c.in_ok-ipv4.ipv4 c.network_of.result c.network_of.ensures c.in_ok-ipv4.ensures.ok;
-  ipv6 = optional_map (IsText IsIpv6AddrText) (λ (a : Ipv6Octets). a.0) _ c.in_ok-ipv6.ipv6 c.octets_of.result c.octets_of.ensures c.in_ok-ipv6.ensures.ok;
+  ipv4 = c.in_ok-ipv4.ensures.ok;
+  ipv6 = c.in_ok-ipv6.ensures.ok;
   peers = c.in_ok-peers.ensures.ok;
   cost = c.in_ok-cost.ensures.ok;
   hello = c.in_ok-hello.ensures.ok;
@@ -29,7 +26,7 @@ returns-in_err-ipv6-clause-refused c =
       inr (
         (_, c.in_ok-transport.ensures.ok),
         inr (
-          given_read (IsText IsIpv4NetworkText) (λ (n : Ipv4Network). n.0) _ c.in_ok-ipv4.ipv4 c.in_ok-ipv4.ensures.ok,
+          given_read (IsText IsIpv4NetworkText) _ c.in_ok-ipv4.ipv4 c.in_ok-ipv4.ensures.ok,
           inl (c.in_err-ipv6.ensures.refused other),
         ),
       ),
@@ -42,9 +39,9 @@ returns-in_err-peers-clause-refused c =
       inr (
         (_, c.in_ok-transport.ensures.ok),
         inr (
-          given_read (IsText IsIpv4NetworkText) (λ (n : Ipv4Network). n.0) _ c.in_ok-ipv4.ipv4 c.in_ok-ipv4.ensures.ok,
+          given_read (IsText IsIpv4NetworkText) _ c.in_ok-ipv4.ipv4 c.in_ok-ipv4.ensures.ok,
           inr (
-            given_read (IsText IsIpv6AddrText) (λ (a : Ipv6Octets). a.0) _ c.in_ok-ipv6.ipv6 c.in_ok-ipv6.ensures.ok,
+            given_read (IsText IsIpv6AddrText) _ c.in_ok-ipv6.ipv6 c.in_ok-ipv6.ensures.ok,
             inl (c.in_err-peers.ensures.refused other),
           ),
         ),
@@ -58,9 +55,9 @@ returns-in_err-cost-clause-refused c =
       inr (
         (_, c.in_ok-transport.ensures.ok),
         inr (
-          given_read (IsText IsIpv4NetworkText) (λ (n : Ipv4Network). n.0) _ c.in_ok-ipv4.ipv4 c.in_ok-ipv4.ensures.ok,
+          given_read (IsText IsIpv4NetworkText) _ c.in_ok-ipv4.ipv4 c.in_ok-ipv4.ensures.ok,
           inr (
-            given_read (IsText IsIpv6AddrText) (λ (a : Ipv6Octets). a.0) _ c.in_ok-ipv6.ipv6 c.in_ok-ipv6.ensures.ok,
+            given_read (IsText IsIpv6AddrText) _ c.in_ok-ipv6.ipv6 c.in_ok-ipv6.ensures.ok,
             inr (
               given_or_read (IsList (IsText IsAddrText)) [] _ c.in_ok-peers.peers.items c.in_ok-peers.ensures.ok,
               inl (c.in_err-cost.ensures.refused other),
@@ -77,9 +74,9 @@ returns-in_err-hello-clause-refused c =
       inr (
         (_, c.in_ok-transport.ensures.ok),
         inr (
-          given_read (IsText IsIpv4NetworkText) (λ (n : Ipv4Network). n.0) _ c.in_ok-ipv4.ipv4 c.in_ok-ipv4.ensures.ok,
+          given_read (IsText IsIpv4NetworkText) _ c.in_ok-ipv4.ipv4 c.in_ok-ipv4.ensures.ok,
           inr (
-            given_read (IsText IsIpv6AddrText) (λ (a : Ipv6Octets). a.0) _ c.in_ok-ipv6.ipv6 c.in_ok-ipv6.ensures.ok,
+            given_read (IsText IsIpv6AddrText) _ c.in_ok-ipv6.ipv6 c.in_ok-ipv6.ensures.ok,
             inr (
               given_or_read (IsList (IsText IsAddrText)) [] _ c.in_ok-peers.peers.items c.in_ok-peers.ensures.ok,
               inr (

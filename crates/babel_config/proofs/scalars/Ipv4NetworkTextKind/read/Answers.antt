@@ -1,7 +1,7 @@
 -- A text that spells no network spells no network of IPv4.
 use Rattle.std.proofs.Common.{inr, refl, rules}
 use Rattle.babel_config.proofs.Faults.{no_network}
-use Rattle.babel_config.proofs.scalars.Ipv4NetworkFromToml.from_toml.Goals as goal
+use Rattle.babel_config.proofs.scalars.Ipv4NetworkTextKind.read.Goals as goal
 
 pub returns-in_default-2-clause-refused : goal.returns-in_default-2-clause-refused
 returns-in_default-2-clause-refused c = λ other. inr (

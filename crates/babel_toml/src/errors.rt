@@ -49,7 +49,7 @@ pub struct FileFaultCode {
 /// The code, with the number of the event after `F6`.
 impl fmt::Display for FileFaultCode {
     ghost use Rattle.std.specs.Prelude.{Some};
-    ghost use Rattle.babel_config.specs.Files.{fault_text};
+    ghost use Rattle.babel_toml.specs.Faults.{fault_text};
 
     ghost output = { λ code. Some (fault_text code.fault) };
 
@@ -66,7 +66,7 @@ impl fmt::Display for FileFaultCode {
 }
 
 impl From<AllocError> for FileFault {
-    ghost use Rattle.babel_config.specs.declared.errors.FileFault.TheVariants.{Memory};
+    ghost use Rattle.babel_toml.specs.declared.errors.FileFault.TheVariants.{Memory};
 
     ghost from_gives = { λ _ fault. fault ≡ Memory };
 
@@ -76,7 +76,7 @@ impl From<AllocError> for FileFault {
 }
 
 impl<T: Drop> From<AllocFailed<T>> for FileFault {
-    ghost use Rattle.babel_config.specs.declared.errors.FileFault.TheVariants.{Memory};
+    ghost use Rattle.babel_toml.specs.declared.errors.FileFault.TheVariants.{Memory};
 
     ghost from_gives = { λ _ fault. fault ≡ Memory };
 
@@ -89,7 +89,7 @@ impl<T: Drop> From<AllocFailed<T>> for FileFault {
 impl From<io::Error> for FileFault {
     ghost use Rattle.std.specs.Prelude.{◌≡◌};
     ghost use Rattle.std.specs.IoError.{error_kind};
-    ghost use Rattle.babel_config.specs.Files.{reading_fault};
+    ghost use Rattle.babel_toml.specs.Faults.{reading_fault};
 
     ghost from_gives = { λ error fault. fault ≡ reading_fault (error_kind error) };
 

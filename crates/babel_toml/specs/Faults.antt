@@ -1,12 +1,13 @@
 -- Why a value of a file cannot be read (profile): F2 for its form, F3 for its text.
 -- Of several causes the first one counts, in the order of a list's items and of a table's keys as its definition lists them.
-use Rattle.std.specs.Prelude.{◌≡◌, ◌≢◌, ◌⊎◌, ◌<◌, ℕ, true, false, List, Option, Some, None}
+use Rattle.std.specs.Prelude.{◌≡◌, ◌≢◌, ◌⊎◌, ◌<◌, ℕ, List, ◌++◌, Option, Some, None, codes}
+use Rattle.std.specs.Fmt.{decimal}
+use Rattle.std.specs.declared.io.ErrorKind.{ErrorKind}
+use Rattle.std.specs.declared.io.ErrorKind.TheVariants.{OutOfMemory}
 use Rattle.toml.specs.Data.{Data, Items, get_item, as_str, as_array}
-use Rattle.babel_config.specs.declared.errors.FileFault.{FileFault}
-use Rattle.babel_config.specs.declared.errors.FileFault.TheVariants.{Form, Text, Memory}
-use Rattle.babel_config.specs.declared.keys.TableKind.{TableKind}
-use Rattle.babel_config.specs.Keys.{is_table_of}
-use Rattle.babel_config.specs.Values.{IsRequired}
+use Rattle.babel_toml.specs.declared.errors.FileFault.{FileFault}
+use Rattle.babel_toml.specs.declared.errors.FileFault.TheVariants.{NotToml, Form, Text, Memory, Unreadable, Event}
+use Rattle.babel_toml.specs.Values.{IsRequired}
 
 -- Each fault but F4 has its cause.
 abbrev pub IsCaused : (FileFault → Type 0) → FileFault → Type 0
@@ -38,11 +39,6 @@ HasListFault Means HasFault d fault =
     ((fault ≡ Form) × (as_array d ≡ None))
     ⊎ ((items : Items) × (as_array d ≡ Some items) × HasItemFault Means HasFault items fault)
 
--- F2: the value is no table, or has a key that its kind lacks. Else the fault of a key.
-abbrev pub HasTableFault : TableKind → (Data → FileFault → Type 0) → Data → FileFault → Type 0
-HasTableFault kind HasKeyFault d fault =
-    ((fault ≡ Form) × (is_table_of kind d ≡ false)) ⊎ ((is_table_of kind d ≡ true) × HasKeyFault d fault)
-
 -- The fault at a key that the table must have.
 abbrev pub HasRequiredFault : (Data → FileFault → Type 0) → Option Data → FileFault → Type 0
 HasRequiredFault HasFault None fault = fault ≡ Form
@@ -70,3 +66,17 @@ GivenThen Means HasFault key Later fault = HasGivenFault HasFault key fault ⊎ 
 -- The end of the keys.
 abbrev pub NoFault : FileFault → Type 0
 NoFault fault = ⊥
+
+-- Why the octets of a file aren't read: F4 if an allocation failed, else F5.
+abbrev pub reading_fault : ErrorKind → FileFault
+reading_fault OutOfMemory = Memory
+reading_fault kind = Unreadable
+
+-- The code of a fault, as a command prints it. The number of the event is after F6.
+abbrev pub fault_text : FileFault → List ℕ
+fault_text NotToml = codes "F1"
+fault_text Form = codes "F2"
+fault_text Text = codes "F3"
+fault_text Memory = codes "F4"
+fault_text Unreadable = codes "F5"
+fault_text (Event number) = codes "F6 " ++ decimal number

@@ -3,7 +3,7 @@ use Rattle.std.proofs.Common.{inr, refl, rules}
 use Rattle.babel_value.specs.declared.addresses.Addr.TheVariants.{V6}
 use Rattle.babel_value.specs.Texts.{IsAddrText}
 use Rattle.babel_config.proofs.Faults.{never_spelled}
-use Rattle.babel_config.proofs.scalars.Ipv6OctetsFromToml.from_toml.Goals as goal
+use Rattle.babel_config.proofs.scalars.Ipv6AddrTextKind.read.Goals as goal
 
 pub returns-in_default-2-clause-refused : goal.returns-in_default-2-clause-refused
 returns-in_default-2-clause-refused c = λ other. inr (

@@ -2,19 +2,16 @@
 use Rattle.std.proofs.Common.{inl, inr, [], false}
 use Rattle.toml.specs.View.{view}
 use Rattle.babel_text.specs.Prefixes.{IsPrefixText}
-use Rattle.babel_text.specs.RouterIds.{IsRouterIdText}
-use Rattle.babel_config.specs.declared.scalars.RouterIdOctets.{RouterIdOctets}
 use Rattle.babel_config.specs.Configs.{HasConfigFault}
 use Rattle.babel_config.specs.Scalars.{IsNumber, IsFlag}
-use Rattle.babel_config.specs.Values.{IsText, IsList}
+use Rattle.babel_toml.specs.Values.{IsText, IsList}
 use Rattle.babel_config.proofs.Faults.{given_or_read, err_caused}
-use Rattle.babel_config.proofs.Reading.{required_map}
-use Rattle.babel_config.proofs.configs.ConfigFromToml.from_toml.Goals as goal
+use Rattle.babel_config.proofs.configs.ConfigTableKind.read.Goals as goal
 
 pub returns-clause-ok : goal.returns-clause-ok
 returns-clause-ok c = record {
   keys = cc;
-  router_id = required_map (IsText IsRouterIdText) (λ (r : RouterIdOctets). r.0) _ c.in_ok-router_id.field-0 c.in_ok-router_id.ensures.ok;
+  router_id = c.in_ok-router_id.ensures.ok;
   seqno = c.in_ok-seqno.ensures.ok;
   collect = c.in_ok-collect.ensures.ok;
   prefixes = c.in_ok-prefixes.ensures.ok;
@@ -26,7 +23,7 @@ returns-in_err-interfaces-clause-refused c =
     err_caused _ (HasConfigFault (view c.args.value.now)) c.in_err-interfaces.field-0.0 c.from_residual-in_err-interfaces.ensures.1 (λ other. inr (
       cc,
       inr (
-        (_, required_map (IsText IsRouterIdText) (λ (r : RouterIdOctets). r.0) _ c.in_ok-router_id.field-0 c.in_ok-router_id.ensures.ok),
+        (_, c.in_ok-router_id.ensures.ok),
         inr (
           given_or_read IsNumber 0 _ c.in_ok-seqno.seqno c.in_ok-seqno.ensures.ok,
           inr (

@@ -1,8 +1,0 @@
--- The items so far mean the values so far.
-use Rattle.std.proofs.Common.{take}
-use Rattle.toml.specs.View.{items_view}
-use Rattle.babel_config.specs.Values.{IsItems}
-use Rattle.babel_config.proofs.lists.VecFromToml.from_toml.Given as goal
-
-abbrev pub invariant-loop-item : goal.invariant-loop-item
-invariant-loop-item g l = IsItems g.T.FromToml.means (items_view (take l.item-index l.item-items)) l.list.items
