@@ -15,7 +15,7 @@ use std::cmp::Ordering;
 use std::marker::Model;
 
 /// A row, and the identifier that its lines have.
-#[derive(Clone, Copy)]
+#[derive(Drop)]
 pub(crate) struct Known<T: Row> {
     id: u64,
     row: T,
@@ -24,7 +24,7 @@ pub(crate) struct Known<T: Row> {
 /// What was written of a speaker last: its devices, neighbours, announced prefixes and routes.
 #[derive(Drop)]
 pub struct Changes {
-    alloc: Global,
+    pub(crate) alloc: Global,
     /// The devices by their numbers. One that was never written has no entry.
     devices: Vec<Option<DeviceAddresses>>,
     neighbours: Vec<Known<NeighbourRow>>,
@@ -61,10 +61,6 @@ impl Changes {
         }
     }
 
-    pub(crate) fn allocator(&self) -> Global {
-        self.alloc
-    }
-
     /// How many neighbours there were when the speaker was looked at last.
     pub fn neighbour_count(&self) -> usize
         ensures { result ≡ length self.now.neighbours }
@@ -98,11 +94,10 @@ impl Changes {
             devices,
             last_id: self.last_id,
         };
-        let neighbours = writing.write_rows(&self.neighbours, &rows.neighbours, out)?;
-        self.neighbours = neighbours;
-        write_prefixes(&self.prefixes, &rows.prefixes, out)?;
-        let routes = writing.write_rows(&self.routes, &rows.routes, out)?;
-        self.routes = routes;
+        self.neighbours = writing.write_rows(&self.neighbours, &rows.neighbours, out)?;
+        write_missing(&self.prefixes, &rows.prefixes, Event::Flush, out)?;
+        write_missing(&rows.prefixes, &self.prefixes, Event::Add, out)?;
+        self.routes = writing.write_rows(&self.routes, &rows.routes, out)?;
         self.last_id = writing.last_id;
         self.prefixes = rows.prefixes;
         Ok(())
@@ -185,23 +180,23 @@ fn write_device(
     push_interface(out, Event::Change, device)
 }
 
-/// Writes a line for each prefix that is new or gone.
-fn write_prefixes(before: &[Prefix], now: &[Prefix], out: &mut String) -> Result<(), AllocError> {
-    for prefix in before {
-        if !now.contains(prefix) {
-            push_xroute(out, Event::Flush, prefix)?;
-        }
-    }
-    for prefix in now {
-        if !before.contains(prefix) {
-            push_xroute(out, Event::Add, prefix)?;
+/// Writes a line for each of these prefixes that isn't among the others.
+fn write_missing(
+    prefixes: &[Prefix],
+    others: &[Prefix],
+    event: Event,
+    out: &mut String,
+) -> Result<(), AllocError> {
+    for prefix in prefixes {
+        if !others.contains(prefix) {
+            push_xroute(out, event, prefix)?;
         }
     }
     Ok(())
 }
 
 /// With what rows are written.
-#[derive(Drop)]
+#[derive(Clone, Copy)]
 struct Writing<'p, 'v> {
     alloc: Global,
     devices: &'p [DeviceView<'v>],
@@ -219,56 +214,50 @@ impl Writing<'_, '_> {
     ) -> Result<Vec<Known<T>>, AllocError> {
         let mut rows = Vec::new(self.alloc);
         let mut from = 0;
-        for row in now {
-            let place = first_not_before(before, from, row);
-            write_gone(before, from, place, self.devices, out)?;
-            from = place;
-            let id = match before.get(place) {
+        for number in 0..=now.len() {
+            let row = now.get(number);
+            from = write_gone(before, from, row, self.devices, out)?;
+            let Some(row) = row else {
+                break;
+            };
+            let (event, id) = match before.get(from) {
                 Some(known) if known.row.compare(row) == Ordering::Equal => {
-                    from = place.saturating_add(1);
-                    if known.row != *row {
-                        row.push_line(out, Event::Change, known.id, self.devices)?;
-                    }
-                    known.id
+                    from = from.saturating_add(1);
+                    let is_another = known.row != *row;
+                    (is_another.then_some(Event::Change), known.id)
                 }
                 _ => {
                     self.last_id = self.last_id.saturating_add(1);
-                    let id = self.last_id;
-                    row.push_line(out, Event::Add, id, self.devices)?;
-                    id
+                    (Some(Event::Add), self.last_id)
                 }
             };
+            if let Some(event) = event {
+                row.push_line(out, event, id, self.devices)?;
+            }
             rows.push(Known { id, row: *row })?;
         }
-        write_gone(before, from, before.len(), self.devices, out)?;
         Ok(rows)
     }
 }
 
-/// The index of the first row from `from` on that isn't before this one.
-fn first_not_before<T: Row>(rows: &[Known<T>], from: usize, row: &T) -> usize {
-    for place in from..rows.len() {
-        if let Some(known) = rows.get(place) {
-            if known.row.compare(row) != Ordering::Less {
-                return place;
-            }
-        }
-    }
-    rows.len()
-}
-
-/// Writes that the rows from `from` on, and below `end`, are gone.
+/// Writes that the rows from `from` on are gone, up to the first that isn't before `end`; without
+/// an `end`, all. Returns the index of the first that isn't gone.
 fn write_gone<T: Row>(
     rows: &[Known<T>],
     from: usize,
-    end: usize,
+    end: Option<&T>,
     devices: &[DeviceView<'_>],
     out: &mut String,
-) -> Result<(), AllocError> {
-    for place in from..end {
+) -> Result<usize, AllocError> {
+    for place in from..rows.len() {
         if let Some(known) = rows.get(place) {
+            if let Some(end) = end {
+                if known.row.compare(end) != Ordering::Less {
+                    return Ok(place);
+                }
+            }
             known.row.push_line(out, Event::Flush, known.id, devices)?;
         }
     }
-    Ok(())
+    Ok(rows.len())
 }

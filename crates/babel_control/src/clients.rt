@@ -32,7 +32,7 @@ pub enum Access {
 }
 
 /// What becomes of the connection.
-#[derive(Clone, Copy, PartialEq, Eq)]
+#[derive(Clone, Copy)]
 pub enum Stage {
     /// It goes on.
     Open,
@@ -142,7 +142,7 @@ impl Client {
         ensures monitoring { self.new.monitoring ≡ self.old.monitoring }
         ensures logging { self.new.logging ≡ self.old.logging }
     {
-        if self.stage == Stage::Open {
+        if let Stage::Open = self.stage {
             self.stage = Stage::Closing;
         }
     }
@@ -216,7 +216,7 @@ impl Client {
         ensures monitoring { self.new.monitoring ≡ self.old.monitoring }
         ensures logging { self.new.logging ≡ self.old.logging }
     {
-        if self.stage != Stage::Open {
+        if !matches!(self.stage, Stage::Open) {
             return None;
         }
         match self.input.take(octet) {
@@ -253,7 +253,7 @@ impl Client {
         ensures access { self.new.access ≡ self.old.access }
         ensures line { self.new.line ≡ self.old.line }
     {
-        if self.stage == Stage::Broken {
+        if let Stage::Broken = self.stage {
             // Nothing more is sent to it, and no time is spent on it.
             return Wish::Nothing;
         }

@@ -40,7 +40,7 @@ pub(crate) fn push_answer<T: Tables>(
             writeln!(out, "ok")
         }
         Command::Why(prefix) => push_why(out, prefix, view),
-        Command::Expiries => push_expiries(out, view, changes.allocator()),
+        Command::Expiries => push_expiries(out, view, changes.alloc),
         Command::Counts => {
             let neighbours = changes.neighbour_count();
             push_counts(out, view.counts, neighbours, changes.route_count())

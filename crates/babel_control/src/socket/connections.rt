@@ -4,7 +4,6 @@ use crate::socket::streams::Stream;
 use crate::{Client, Command};
 use mio::unix::SourceFd;
 use mio::{Interest, Registry, Token};
-use std::alloc::Global;
 use std::io;
 
 /// How often a client is read from in a turn, and how many octets each time.
@@ -19,11 +18,11 @@ const READ_ROOM: usize = 512;
 /// A command of the client with this number. `None` is one that there isn't.
 pub(crate) type Asked = (usize, Option<Command>);
 
-/// A client, and the stream that it is connected by.
+/// A client, and the stream that it is connected by, which is watched with the token.
 #[derive(Drop)]
 pub(crate) struct Connection {
-    stream: Stream,
-    token: usize,
+    pub(crate) stream: Stream,
+    pub(crate) token: usize,
     pub(crate) client: Client,
 }
 
@@ -41,22 +40,6 @@ enum Came {
 }
 
 impl Connection {
-    /// A client whose stream is watched with the token.
-    pub(crate) fn open(
-        stream: Stream,
-        registry: &Registry,
-        token: usize,
-        client: Client,
-    ) -> io::Result<Connection> {
-        let fd = stream.descriptor();
-        registry.register(&mut SourceFd(&fd), Token(token), both_ways())?;
-        Ok(Connection {
-            stream,
-            token,
-            client,
-        })
-    }
-
     /// Takes what the client sent, and adds its commands.
     pub(crate) fn read(&mut self, number: usize, registry: &Registry, asked: &mut Vec<Asked>) {
         let mut room = [0u8; READ_ROOM];
@@ -87,20 +70,17 @@ impl Connection {
             }
             match self.stream.send(self.client.waiting()) {
                 Ok(count) => self.client.note_sent(count),
-                Err(error) => return self.note_error(error),
+                Err(error) => match error.kind() {
+                    io::ErrorKind::WouldBlock | io::ErrorKind::Interrupted => return,
+                    _ => return self.client.note_failure(),
+                },
             }
-        }
-    }
-
-    fn note_error(&mut self, error: io::Error) {
-        match error.kind() {
-            io::ErrorKind::WouldBlock | io::ErrorKind::Interrupted => {}
-            _ => self.client.note_failure(),
         }
     }
 }
 
-fn both_ways() -> Interest {
+/// For what the stream of a client is watched.
+pub(crate) fn both_ways() -> Interest {
     Interest::READABLE | Interest::WRITABLE
 }
 

@@ -91,18 +91,14 @@ pub fn bind_path<R: Files + Net>(rt: &R, path: &str) -> io::Result<UnixListener>
 
 /// Whether a socket is at the path on which no process listens.
 fn is_stale<R: Files + Net>(rt: &R, path: &str) -> bool {
-    if !is_socket(rt, path) {
+    let Ok(metadata) = fs::symlink_metadata(rt, path) else {
+        return false;
+    };
+    if !metadata.file_type().is_socket() {
         return false;
     }
     match UnixStream::connect(rt, path) {
         Ok(_) => false,
-        Err(error) => error.kind() == io::ErrorKind::ConnectionRefused,
-    }
-}
-
-fn is_socket<R: Files>(rt: &R, path: &str) -> bool {
-    match fs::symlink_metadata(rt, path) {
-        Ok(metadata) => metadata.file_type().is_socket(),
-        Err(_) => false,
+        Err(error) => matches!(error.kind(), io::ErrorKind::ConnectionRefused),
     }
 }

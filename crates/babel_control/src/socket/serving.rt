@@ -1,6 +1,6 @@
 //! All clients, served once a turn.
 
-use crate::socket::connections::{Asked, Connection};
+use crate::socket::connections::{Asked, Connection, both_ways};
 use crate::socket::listening::Listener;
 use crate::{Changes, Client, ControlPlace, Logging, Monitoring, Tables, View, Wish, needs_tables};
 use mio::unix::SourceFd;
@@ -77,7 +77,7 @@ impl ControlSocket {
     pub fn has_log_reader(&self) -> bool {
         for slot in &self.clients {
             if let Some(connection) = slot {
-                if connection.client.logging() == Logging::On {
+                if let Logging::On = connection.client.logging() {
                     return true;
                 }
             }
@@ -90,7 +90,11 @@ impl ControlSocket {
     pub fn push_log(&mut self, lines: Option<&str>) {
         for slot in self.clients.iter_mut() {
             if let Some(connection) = slot {
-                push_log_to(&mut connection.client, lines);
+                if let Some(lines) = lines {
+                    connection.client.push_log(lines);
+                } else if let Logging::On = connection.client.logging() {
+                    connection.client.note_failure();
+                }
             }
         }
     }
@@ -105,8 +109,7 @@ impl ControlSocket {
         let mut wish = Wish::Nothing;
         for (number, command) in asked {
             if let Some(Some(connection)) = self.clients.get_mut(*number) {
-                let answered = connection.client.answer(command, view, &self.changes);
-                if answered == Wish::Stop {
+                if let Wish::Stop = connection.client.answer(command, view, &self.changes) {
                     wish = Wish::Stop;
                 }
             }
@@ -120,27 +123,24 @@ impl ControlSocket {
             let Ok(stream) = self.listener.accept() else {
                 return;
             };
-            let Some(number) = free_slot(&self.clients) else {
+            let Some((number, slot)) = free_slot(&mut self.clients) else {
                 continue;
             };
             let token = self.token.saturating_add(number).saturating_add(1);
-            let client = Client::new(self.alloc, self.listener.access(), view);
-            let opened = Connection::open(stream, registry, token, client);
-            if let (Some(slot), Ok(connection)) = (self.clients.get_mut(number), opened) {
-                *slot = Some(connection);
+            let fd = stream.descriptor();
+            let watched = registry.register(&mut SourceFd(&fd), Token(token), both_ways());
+            if watched.is_ok() {
+                let client = Client::new(self.alloc, self.listener.access(), view);
+                *slot = Some(Connection {
+                    stream,
+                    token,
+                    client,
+                });
             }
         }
         // So that those that are left are reported again.
         let fd = self.listener.descriptor();
         let _ = registry.reregister(&mut SourceFd(&fd), Token(self.token), Interest::READABLE);
-    }
-}
-
-fn push_log_to(client: &mut Client, lines: Option<&str>) {
-    match lines {
-        Some(lines) => client.push_log(lines),
-        None if client.logging() == Logging::On => client.note_failure(),
-        None => {}
     }
 }
 
@@ -173,7 +173,7 @@ fn read_all(
 fn has_monitor(clients: &[Option<Connection>]) -> bool {
     for slot in clients {
         if let Some(connection) = slot {
-            if connection.client.monitoring() == Monitoring::Yes {
+            if let Monitoring::Yes = connection.client.monitoring() {
                 return true;
             }
         }
@@ -206,11 +206,11 @@ fn push_changes(
     }
 }
 
-/// The number of a client that there isn't.
-fn free_slot(clients: &[Option<Connection>]) -> Option<usize> {
-    for (number, slot) in clients.iter().enumerate() {
+/// The number of a client that there isn't, and where it will be.
+fn free_slot(clients: &mut [Option<Connection>]) -> Option<(usize, &mut Option<Connection>)> {
+    for (number, slot) in clients.iter_mut().enumerate() {
         if slot.is_none() {
-            return Some(number);
+            return Some((number, slot));
         }
     }
     None
@@ -218,14 +218,10 @@ fn free_slot(clients: &[Option<Connection>]) -> Option<usize> {
 
 /// Sends what waits for a client, and closes its connection if that has ended.
 fn write_to(slot: &mut Option<Connection>) {
-    let has_ended = match slot {
-        Some(connection) => {
-            connection.write();
-            connection.client.has_ended()
+    if let Some(connection) = slot {
+        connection.write();
+        if connection.client.has_ended() {
+            *slot = None;
         }
-        None => false,
-    };
-    if has_ended {
-        *slot = None;
     }
 }
