@@ -1,7 +1,7 @@
 //! What machines read of a run: a JSON object a line. Moments and times are in centiseconds.
 
 use crate::outcome::{Counts, HopChange, HopKind, Phase, Route, Tested};
-use crate::shown::Shown;
+use crate::shown::{NumberOr, Shown};
 use babel_topology::Step;
 use babel_value::Prefix;
 use std::alloc::Global;
@@ -64,9 +64,9 @@ fn write_step<W: Write>(
     let text = format!(in alloc; "{}", shown.step(step.action))?;
     writeln!(
         out,
-        "{{\"type\":\"step\",\"time\":{},\"step\":\"{}\"}}",
+        "{{\"type\":\"step\",\"time\":{},\"step\":{}}}",
         step.at,
-        Escaped(text.as_str())
+        Quoted(text.as_str())
     )
 }
 
@@ -78,51 +78,55 @@ fn write_change<W: Write>(shown: &Shown<'_>, change: &HopChange, out: &mut W) ->
     let is_loop = matches!(change.kind, HopKind::Loop);
     writeln!(
         out,
-        "{{\"type\":\"hop\",\"time\":{},\"node\":\"{}\",\"prefix\":\"{prefix}\",\"via\":{},\"loop\":{is_loop}}}",
+        "{{\"type\":\"hop\",\"time\":{},\"node\":{},\"prefix\":\"{prefix}\",\"via\":{},\"loop\":{is_loop}}}",
         change.at,
-        Escaped(shown.name(change.node)),
+        Quoted(shown.name(change.node)),
         Via(shown.via(change.hop))
     )
 }
 
 /// Begins the object of a phase.
 fn write_phase<W: Write>(phase: &Phase, out: &mut W) -> io::Result<()> {
-    write!(
-        out,
-        "{{\"type\":\"phase\",\"from\":{},\"until\":{},\"steps\":{},\"changes\":{},\
-\"settled_after\":{},\"datagrams\":{},\"octets\":{},\"all_datagrams\":{},\"all_octets\":{}",
-        phase.from,
-        phase.until,
-        phase.steps,
-        phase.changes,
-        phase.settled_after,
-        phase.datagrams,
-        phase.octets,
-        phase.all_datagrams,
-        phase.all_octets
-    )?;
     let quality = phase.quality;
-    write!(
+    out.write_all(b"{\"type\":\"phase\"")?;
+    write_numbers(
+        &[
+            ("from", phase.from),
+            ("until", phase.until),
+            ("steps", phase.steps as u64),
+            ("changes", phase.changes as u64),
+            ("settled_after", phase.settled_after),
+            ("datagrams", phase.datagrams),
+            ("octets", phase.octets),
+            ("all_datagrams", phase.all_datagrams),
+            ("all_octets", phase.all_octets),
+            ("shortest", quality.shortest as u64),
+            ("longer", quality.longer as u64),
+            ("missing", quality.missing as u64),
+            ("unreachable", quality.unreachable as u64),
+            ("broken", quality.broken as u64),
+            ("loops", quality.loops as u64),
+        ],
         out,
-        ",\"shortest\":{},\"longer\":{},\"missing\":{},\
-\"unreachable\":{},\"broken\":{},\"loops\":{}",
-        quality.shortest,
-        quality.longer,
-        quality.missing,
-        quality.unreachable,
-        quality.broken,
-        quality.loops
     )
+}
+
+/// Writes further members of an object, which are numbers.
+fn write_numbers<W: Write>(members: &[(&str, u64)], out: &mut W) -> io::Result<()> {
+    for (key, number) in members {
+        write!(out, ",\"{key}\":{number}")?;
+    }
+    Ok(())
 }
 
 /// Ends the object of a phase with the ways that are not shortest at its end.
 fn write_not_shortest<W: Write>(shown: &Shown<'_>, ways: &[Route], out: &mut W) -> io::Result<()> {
     out.write_all(b",\"not_shortest\":[")?;
-    let mut separator = "";
+    let mut begin = "{";
     for way in ways {
-        if let Some(keys) = keys_of(shown, way) {
-            write!(out, "{separator}{{{keys}}}")?;
-            separator = ",";
+        if let Some(prefix) = shown.prefix(way.prefix) {
+            write_way(shown, prefix, way, begin, out)?;
+            begin = ",{";
         }
     }
     out.write_all(b"]}\n")
@@ -130,49 +134,34 @@ fn write_not_shortest<W: Write>(shown: &Shown<'_>, ways: &[Route], out: &mut W) 
 
 /// Writes a way at the end, if its prefix is shown.
 fn write_route<W: Write>(shown: &Shown<'_>, way: &Route, out: &mut W) -> io::Result<()> {
-    match keys_of(shown, way) {
-        Some(keys) => writeln!(out, "{{\"type\":\"route\",{keys}}}"),
-        None => Ok(()),
-    }
+    let Some(prefix) = shown.prefix(way.prefix) else {
+        return Ok(());
+    };
+    write_way(shown, prefix, way, "{\"type\":\"route\",", out)?;
+    out.write_all(b"\n")
 }
 
-/// The keys of a way as JSON, if its prefix is shown.
-fn keys_of<'a>(shown: &Shown<'a>, way: &Route) -> Option<WayKeys<'a>> {
-    let prefix = shown.prefix(way.prefix)?;
-    Some(WayKeys {
-        name: shown.name(way.node),
-        prefix,
-        via: shown.via(way.hop),
-        way: *way,
-    })
-}
-
-/// The keys of a way as JSON.
-#[derive(Clone, Copy)]
-struct WayKeys<'a> {
-    name: &'a str,
+/// Writes the object of a way to the prefix, which begins so.
+fn write_way<W: Write>(
+    shown: &Shown<'_>,
     prefix: Prefix,
-    via: Option<&'a str>,
-    way: Route,
-}
-
-impl fmt::Display for WayKeys<'_> {
-    fn fmt<W: fmt::Write>(&self, f: &mut fmt::Formatter<W>) -> fmt::Result {
-        write!(
-            f,
-            "\"node\":\"{}\",\"prefix\":\"{}\",\"via\":{}",
-            Escaped(self.name),
-            self.prefix,
-            Via(self.via)
-        )?;
-        write!(
-            f,
-            ",\"cost\":{},\"shortest\":{},\"kind\":\"{}\"",
-            Maybe(self.way.cost),
-            Maybe(self.way.shortest),
-            self.way.kind.word()
-        )
-    }
+    way: &Route,
+    begin: &str,
+    out: &mut W,
+) -> io::Result<()> {
+    let name = Quoted(shown.name(way.node));
+    let via = Via(shown.via(way.hop));
+    write!(
+        out,
+        "{begin}\"node\":{name},\"prefix\":\"{prefix}\",\"via\":{via}"
+    )?;
+    let cost = NumberOr(way.cost, "null");
+    let shortest = NumberOr(way.shortest, "null");
+    let kind = way.kind.word();
+    write!(
+        out,
+        ",\"cost\":{cost},\"shortest\":{shortest},\"kind\":\"{kind}\"}}"
+    )
 }
 
 fn write_counts<W: Write>(
@@ -181,19 +170,20 @@ fn write_counts<W: Write>(
     counts: &Counts,
     out: &mut W,
 ) -> io::Result<()> {
-    write!(
+    let name = Quoted(shown.name(node));
+    write!(out, "{{\"type\":\"node\",\"node\":{name}")?;
+    write_numbers(
+        &[
+            ("datagrams", counts.datagrams),
+            ("octets", counts.octets),
+            ("received", counts.received),
+            ("lost", counts.lost),
+            ("changes", counts.changes),
+            ("raises", counts.raises),
+        ],
         out,
-        "{{\"type\":\"node\",\"node\":\"{}\",\"datagrams\":{},\"octets\":{},\"received\":{}",
-        Escaped(shown.name(node)),
-        counts.datagrams,
-        counts.octets,
-        counts.received
     )?;
-    writeln!(
-        out,
-        ",\"lost\":{},\"changes\":{},\"raises\":{}}}",
-        counts.lost, counts.changes, counts.raises
-    )
+    out.write_all(b"}\n")
 }
 
 fn write_tested<W: Write>(shown: &Shown<'_>, tested: &Tested, out: &mut W) -> io::Result<()> {
@@ -202,9 +192,9 @@ fn write_tested<W: Write>(shown: &Shown<'_>, tested: &Tested, out: &mut W) -> io
     };
     writeln!(
         out,
-        "{{\"type\":\"expect\",\"time\":{},\"node\":\"{}\",\"prefix\":\"{}\",\"via\":{},\"found\":{},\"met\":{}}}",
+        "{{\"type\":\"expect\",\"time\":{},\"node\":{},\"prefix\":\"{}\",\"via\":{},\"found\":{},\"met\":{}}}",
         expectation.at,
-        Escaped(shown.name(expectation.node)),
+        Quoted(shown.name(expectation.node)),
         expectation.prefix,
         Via(shown.via(expectation.hop)),
         Via(shown.via(tested.found)),
@@ -214,11 +204,18 @@ fn write_tested<W: Write>(shown: &Shown<'_>, tested: &Tested, out: &mut W) -> io
 
 fn write_end<W: Write>(shown: &Shown<'_>, out: &mut W) -> io::Result<()> {
     let outcome = shown.outcome;
-    writeln!(
+    out.write_all(b"{\"type\":\"end\"")?;
+    write_numbers(
+        &[
+            ("time", outcome.ended),
+            ("seed", shown.seed),
+            ("events", outcome.events),
+            ("datagrams", outcome.datagrams),
+            ("octets", outcome.octets),
+        ],
         out,
-        "{{\"type\":\"end\",\"time\":{},\"seed\":{},\"events\":{},\"datagrams\":{},\"octets\":{}}}",
-        outcome.ended, shown.seed, outcome.events, outcome.datagrams, outcome.octets
-    )
+    )?;
+    out.write_all(b"}\n")
 }
 
 /// A next hop as JSON: a name, or no value.
@@ -228,31 +225,19 @@ struct Via<'a>(Option<&'a str>);
 impl fmt::Display for Via<'_> {
     fn fmt<W: fmt::Write>(&self, f: &mut fmt::Formatter<W>) -> fmt::Result {
         match self.0 {
-            Some(name) => write!(f, "\"{}\"", Escaped(name)),
+            Some(name) => Quoted(name).fmt(f),
             None => f.write_str("null"),
         }
     }
 }
 
-/// A number as JSON, or no value.
+/// A text as JSON.
 #[derive(Clone, Copy)]
-struct Maybe(Option<u64>);
+struct Quoted<'a>(&'a str);
 
-impl fmt::Display for Maybe {
+impl fmt::Display for Quoted<'_> {
     fn fmt<W: fmt::Write>(&self, f: &mut fmt::Formatter<W>) -> fmt::Result {
-        match self.0 {
-            Some(number) => write!(f, "{number}"),
-            None => f.write_str("null"),
-        }
-    }
-}
-
-/// A text within the quotes of JSON.
-#[derive(Clone, Copy)]
-struct Escaped<'a>(&'a str);
-
-impl fmt::Display for Escaped<'_> {
-    fn fmt<W: fmt::Write>(&self, f: &mut fmt::Formatter<W>) -> fmt::Result {
+        f.write_char('"')?;
         for letter in self.0.chars() {
             match letter {
                 '"' | '\\' => write!(f, "\\{letter}"),
@@ -260,6 +245,6 @@ impl fmt::Display for Escaped<'_> {
                 letter => f.write_char(letter),
             }?;
         }
-        Ok(())
+        f.write_char('"')
     }
 }

@@ -1,7 +1,7 @@
 //! What is shown of a run, and the texts of its parts.
 
 use crate::outcome::{Outcome, Phase, Route};
-use babel_topology::{Action, Expectation, NextHop, Step, Topology};
+use babel_topology::{Action, NextHop, Step, Topology};
 use babel_value::Prefix;
 use std::fmt;
 
@@ -97,11 +97,11 @@ impl<'a> Shown<'a> {
         }
     }
 
-    /// The names of the ends of a link.
-    fn ends(&self, link: usize) -> (&'a str, &'a str) {
+    /// The names of the ends of a link, and what is between them.
+    fn ends(&self, link: usize) -> (&'a str, &'a str, &'a str) {
         match self.topology.links.get(link) {
-            Some(link) => (self.name(link.a.node), self.name(link.b.node)),
-            None => ("?", "?"),
+            Some(link) => (self.name(link.a.node), "-", self.name(link.b.node)),
+            None => ("?", "-", "?"),
         }
     }
 
@@ -115,19 +115,9 @@ impl<'a> Shown<'a> {
             Action::Announce { node, .. }
             | Action::Withdraw { node, .. }
             | Action::Restart { node }
-            | Action::Crash { node } => (self.name(node), ""),
+            | Action::Crash { node } => (self.name(node), "", ""),
         };
         StepText { action, names }
-    }
-
-    /// An expectation, as it is written.
-    pub(crate) fn expectation(&self, expectation: Expectation) -> ExpectationText<'a> {
-        ExpectationText {
-            at: expectation.at,
-            name: self.name(expectation.node),
-            prefix: expectation.prefix,
-            via: self.via(expectation.hop),
-        }
     }
 }
 
@@ -158,6 +148,19 @@ impl fmt::Display for Counted {
     }
 }
 
+/// A number, or the text in its place if there is none.
+#[derive(Clone, Copy)]
+pub(crate) struct NumberOr(pub(crate) Option<u64>, pub(crate) &'static str);
+
+impl fmt::Display for NumberOr {
+    fn fmt<W: fmt::Write>(&self, f: &mut fmt::Formatter<W>) -> fmt::Result {
+        match self.0 {
+            Some(number) => number.fmt(f),
+            None => f.write_str(self.1),
+        }
+    }
+}
+
 /// A next hop, as it is written: the name of a node, or none.
 #[derive(Clone, Copy)]
 pub(crate) struct HopText<'a>(pub(crate) Option<&'a str>);
@@ -175,44 +178,31 @@ impl fmt::Display for HopText<'_> {
 #[derive(Clone, Copy)]
 pub struct StepText<'a> {
     action: Action,
-    /// Of the ends of its link, or of its node.
-    names: (&'a str, &'a str),
+    /// Of the ends of its link, with what is between them, or of its node.
+    names: (&'a str, &'a str, &'a str),
 }
 
 impl fmt::Display for StepText<'_> {
     fn fmt<W: fmt::Write>(&self, f: &mut fmt::Formatter<W>) -> fmt::Result {
-        let (one, other) = self.names;
+        let word = match self.action {
+            Action::Cut { .. } => "cut",
+            Action::Join { .. } => "join",
+            Action::SetCost { .. } => "cost",
+            Action::SetLoss { .. } => "lossy",
+            Action::Announce { .. } => "announce",
+            Action::Withdraw { .. } => "withdraw",
+            Action::Restart { .. } => "restart",
+            Action::Crash { .. } => "crash",
+        };
+        let (one, between, other) = self.names;
+        write!(f, "{word} {one}{between}{other}")?;
         match self.action {
-            Action::Cut { .. } => write!(f, "cut {one}-{other}"),
-            Action::Join { .. } => write!(f, "join {one}-{other}"),
-            Action::SetCost { cost, .. } => write!(f, "cost {one}-{other} {cost}"),
-            Action::SetLoss { loss, .. } => write!(f, "lossy {one}-{other} {loss} %"),
-            Action::Announce { prefix, .. } => write!(f, "announce {one} {prefix}"),
-            Action::Withdraw { prefix, .. } => write!(f, "withdraw {one} {prefix}"),
-            Action::Restart { .. } => write!(f, "restart {one}"),
-            Action::Crash { .. } => write!(f, "crash {one}"),
+            Action::SetCost { cost, .. } => write!(f, " {cost}"),
+            Action::SetLoss { loss, .. } => write!(f, " {loss} %"),
+            Action::Announce { prefix, .. } | Action::Withdraw { prefix, .. } => {
+                write!(f, " {prefix}")
+            }
+            _ => Ok(()),
         }
-    }
-}
-
-/// An expectation, as it is written.
-#[derive(Clone, Copy)]
-pub(crate) struct ExpectationText<'a> {
-    at: u64,
-    name: &'a str,
-    prefix: Prefix,
-    via: Option<&'a str>,
-}
-
-impl fmt::Display for ExpectationText<'_> {
-    fn fmt<W: fmt::Write>(&self, f: &mut fmt::Formatter<W>) -> fmt::Result {
-        let hop = HopText(self.via);
-        write!(
-            f,
-            "{} {} {} {hop}",
-            Seconds(self.at),
-            self.name,
-            self.prefix
-        )
     }
 }

@@ -110,19 +110,6 @@ impl<'a> Table<'a> {
         };
         let between = if place > 0 { "  " } else { "" };
         let end = if is_last { "\n" } else { "" };
-        write!(out, "{between}{}{text}{}{end}", Spaces(left), Spaces(right))
-    }
-}
-
-/// So many spaces.
-#[derive(Clone, Copy)]
-struct Spaces(usize);
-
-impl fmt::Display for Spaces {
-    fn fmt<W: fmt::Write>(&self, f: &mut fmt::Formatter<W>) -> fmt::Result {
-        for _ in 0..self.0 {
-            f.write_char(' ')?;
-        }
-        Ok(())
+        write!(out, "{between}{:left$}{text}{:right$}{end}", "", "")
     }
 }

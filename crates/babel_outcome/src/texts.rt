@@ -1,7 +1,7 @@
 //! What people read of a run.
 
 use crate::outcome::{Counts, HopChange, HopKind, Phase, Quality, Route, RouteKind, Tested};
-use crate::shown::{Counted, HopText, Seconds, Shown, StepText};
+use crate::shown::{Counted, HopText, NumberOr, Seconds, Shown, StepText};
 use crate::tables::{Column, Side, Table};
 use babel_topology::{NextHop, Step};
 use std::alloc::Global;
@@ -298,25 +298,12 @@ fn push_route(shown: &Shown<'_>, route: &Route, table: &mut Table<'_>) {
     table.push(shown.name(route.node));
     table.push(prefix);
     table.push(hop);
-    table.push(CostText(route.cost));
-    table.push(CostText(route.shortest));
+    table.push(NumberOr(route.cost, "-"));
+    table.push(NumberOr(route.shortest, "-"));
     table.push(WayText {
         shown,
         route: *route,
     });
-}
-
-/// The cost of a way, if there is one, as it is written.
-#[derive(Clone, Copy)]
-struct CostText(Option<u64>);
-
-impl fmt::Display for CostText {
-    fn fmt<W: fmt::Write>(&self, f: &mut fmt::Formatter<W>) -> fmt::Result {
-        match self.0 {
-            Some(cost) => write!(f, "{cost}"),
-            None => f.write_str("-"),
-        }
-    }
 }
 
 /// The names of the nodes along a way, and what is wrong with it.
@@ -386,10 +373,14 @@ fn write_tested<W: Write>(shown: &Shown<'_>, tested: &Tested, out: &mut W) -> io
     let Some(expectation) = shown.topology.expectations.get(tested.expectation) else {
         return Ok(());
     };
-    let text = shown.expectation(*expectation);
+    let begin = if tested.is_met { "met    " } else { "not met" };
+    let at = Seconds(expectation.at);
+    let name = shown.name(expectation.node);
+    let hop = HopText(shown.via(expectation.hop));
+    write!(out, "{begin}  {at} {name} {} {hop}", expectation.prefix)?;
     if tested.is_met {
-        return writeln!(out, "met      {text}");
+        return writeln!(out);
     }
     let found = HopText(shown.via(tested.found));
-    writeln!(out, "not met  {text}: there was {found}")
+    writeln!(out, ": there was {found}")
 }
