@@ -60,18 +60,20 @@ pub(crate) fn write_objects<W: Write>(
     Ok(())
 }
 
-fn write_object<'l, W: Write>(
-    answer: &'l str,
-    line: &'l str,
+fn write_object<W: Write>(
+    answer: &str,
+    line: &str,
     columns: &[Column; COLUMNS],
     out: &mut W,
 ) -> io::Result<()> {
-    let mut members = [("", Value::Null); COLUMNS];
-    for number in 0..COLUMNS {
-        let column = &columns[number];
-        members[number] = (column.key, value_of(answer, line, column));
+    let mut mark = "{";
+    for column in columns {
+        let key = column.key;
+        let value = value_of(answer, line, column);
+        write!(out, "{mark}\"{key}\":{value}")?;
+        mark = ",";
     }
-    write_members(&members, out)
+    writeln!(out, "}}")
 }
 
 /// Writes the object of these members.
