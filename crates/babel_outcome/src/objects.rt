@@ -87,36 +87,32 @@ fn write_change<W: Write>(shown: &Shown<'_>, change: &HopChange, out: &mut W) ->
 
 /// Begins the object of a phase.
 fn write_phase<W: Write>(phase: &Phase, out: &mut W) -> io::Result<()> {
-    let quality = phase.quality;
-    out.write_all(b"{\"type\":\"phase\"")?;
-    write_numbers(
-        &[
-            ("from", phase.from),
-            ("until", phase.until),
-            ("steps", phase.steps as u64),
-            ("changes", phase.changes as u64),
-            ("settled_after", phase.settled_after),
-            ("datagrams", phase.datagrams),
-            ("octets", phase.octets),
-            ("all_datagrams", phase.all_datagrams),
-            ("all_octets", phase.all_octets),
-            ("shortest", quality.shortest as u64),
-            ("longer", quality.longer as u64),
-            ("missing", quality.missing as u64),
-            ("unreachable", quality.unreachable as u64),
-            ("broken", quality.broken as u64),
-            ("loops", quality.loops as u64),
-        ],
+    write!(
         out,
+        "{{\"type\":\"phase\",\"from\":{},\"until\":{},\"steps\":{},\"changes\":{},\
+\"settled_after\":{},\"datagrams\":{},\"octets\":{},\"all_datagrams\":{},\"all_octets\":{}",
+        phase.from,
+        phase.until,
+        phase.steps,
+        phase.changes,
+        phase.settled_after,
+        phase.datagrams,
+        phase.octets,
+        phase.all_datagrams,
+        phase.all_octets
+    )?;
+    let quality = phase.quality;
+    write!(
+        out,
+        ",\"shortest\":{},\"longer\":{},\"missing\":{},\
+\"unreachable\":{},\"broken\":{},\"loops\":{}",
+        quality.shortest,
+        quality.longer,
+        quality.missing,
+        quality.unreachable,
+        quality.broken,
+        quality.loops
     )
-}
-
-/// Writes further members of an object, which are numbers.
-fn write_numbers<W: Write>(members: &[(&str, u64)], out: &mut W) -> io::Result<()> {
-    for (key, number) in members {
-        write!(out, ",\"{key}\":{number}")?;
-    }
-    Ok(())
 }
 
 /// Ends the object of a phase with the ways that are not shortest at its end.
@@ -170,20 +166,19 @@ fn write_counts<W: Write>(
     counts: &Counts,
     out: &mut W,
 ) -> io::Result<()> {
-    let name = Quoted(shown.name(node));
-    write!(out, "{{\"type\":\"node\",\"node\":{name}")?;
-    write_numbers(
-        &[
-            ("datagrams", counts.datagrams),
-            ("octets", counts.octets),
-            ("received", counts.received),
-            ("lost", counts.lost),
-            ("changes", counts.changes),
-            ("raises", counts.raises),
-        ],
+    write!(
         out,
+        "{{\"type\":\"node\",\"node\":{},\"datagrams\":{},\"octets\":{},\"received\":{}",
+        Quoted(shown.name(node)),
+        counts.datagrams,
+        counts.octets,
+        counts.received
     )?;
-    out.write_all(b"}\n")
+    writeln!(
+        out,
+        ",\"lost\":{},\"changes\":{},\"raises\":{}}}",
+        counts.lost, counts.changes, counts.raises
+    )
 }
 
 fn write_tested<W: Write>(shown: &Shown<'_>, tested: &Tested, out: &mut W) -> io::Result<()> {
@@ -204,18 +199,11 @@ fn write_tested<W: Write>(shown: &Shown<'_>, tested: &Tested, out: &mut W) -> io
 
 fn write_end<W: Write>(shown: &Shown<'_>, out: &mut W) -> io::Result<()> {
     let outcome = shown.outcome;
-    out.write_all(b"{\"type\":\"end\"")?;
-    write_numbers(
-        &[
-            ("time", outcome.ended),
-            ("seed", shown.seed),
-            ("events", outcome.events),
-            ("datagrams", outcome.datagrams),
-            ("octets", outcome.octets),
-        ],
+    writeln!(
         out,
-    )?;
-    out.write_all(b"}\n")
+        "{{\"type\":\"end\",\"time\":{},\"seed\":{},\"events\":{},\"datagrams\":{},\"octets\":{}}}",
+        outcome.ended, shown.seed, outcome.events, outcome.datagrams, outcome.octets
+    )
 }
 
 /// A next hop as JSON: a name, or no value.
