@@ -37,24 +37,26 @@ fn octet_of(number: usize) -> u8 {
     u8::try_from(number).unwrap_or(u8::MAX)
 }
 
-/// The prefixes of a topology, in ascending order.
-pub(crate) fn prefixes_of(alloc: Global, topology: &Topology) -> Result<Vec<Prefix>, AllocError> {
-    let mut prefixes = Vec::new(alloc);
+/// Adds the prefixes of a topology, in ascending order.
+pub(crate) fn add_prefixes(
+    topology: &Topology,
+    prefixes: &mut Vec<Prefix>,
+) -> Result<(), AllocError> {
     for node in &topology.nodes {
         for prefix in &node.prefixes {
-            add_prefix(&mut prefixes, *prefix)?;
+            add_prefix(prefixes, *prefix)?;
         }
     }
     for step in &topology.steps {
         if let Action::Announce { prefix, .. } = step.action {
-            add_prefix(&mut prefixes, prefix)?;
+            add_prefix(prefixes, prefix)?;
         }
     }
     for expectation in &topology.expectations {
-        add_prefix(&mut prefixes, expectation.prefix)?;
+        add_prefix(prefixes, expectation.prefix)?;
     }
     prefixes.sort_unstable();
-    Ok(prefixes)
+    Ok(())
 }
 
 fn add_prefix(prefixes: &mut Vec<Prefix>, prefix: Prefix) -> Result<(), AllocError> {
@@ -67,13 +69,15 @@ fn add_prefix(prefixes: &mut Vec<Prefix>, prefix: Prefix) -> Result<(), AllocErr
     Ok(())
 }
 
-/// The node that each speaker of the network runs: a speaker for each node, and one for each time that a node begins again with
+/// Adds the node that each speaker of the network runs: a speaker for each node, and one for each time that a node begins again with
 /// nothing.
 ///
 /// A node that begins again with nothing isn't the router that it was: it has another router-id and other addresses, as RFC 8966,
 /// section 3.2.2, advises routers that keep no seqno. So it is another speaker of the network, which has run nothing until then.
-pub(crate) fn speakers_of(alloc: Global, topology: &Topology) -> Result<Vec<usize>, AllocError> {
-    let mut speakers = Vec::with_capacity(alloc, topology.nodes.len())?;
+pub(crate) fn add_speakers(
+    topology: &Topology,
+    speakers: &mut Vec<usize>,
+) -> Result<(), AllocError> {
     for node in 0..topology.nodes.len() {
         speakers.push(node)?;
     }
@@ -84,7 +88,7 @@ pub(crate) fn speakers_of(alloc: Global, topology: &Topology) -> Result<Vec<usiz
             }
         }
     }
-    Ok(speakers)
+    Ok(())
 }
 
 /// Whether the node begins again with nothing.
@@ -101,7 +105,8 @@ pub(crate) fn begins_empty(topology: &Topology, node: usize) -> bool {
 ///
 /// `AllocError` if an allocation fails.
 pub fn configs(alloc: Global, topology: &Topology) -> Result<Vec<Config>, AllocError> {
-    let speakers = speakers_of(alloc, topology)?;
+    let mut speakers = Vec::new(alloc);
+    add_speakers(topology, &mut speakers)?;
     configs_of(alloc, topology, &speakers)
 }
 

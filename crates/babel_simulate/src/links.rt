@@ -56,14 +56,28 @@ impl Links {
 
     /// Adds the links of a topology, which all work.
     pub(crate) fn add_all(&mut self, alloc: Global, topology: &Topology) -> Result<(), AllocError> {
-        for link in &topology.links {
+        for _ in 0..topology.nodes.len() {
+            self.ways.push(Vec::new(alloc))?;
+        }
+        for (number, link) in topology.links.iter().enumerate() {
             self.states.push(LinkState {
                 link: *link,
                 condition: Condition::Up,
             })?;
+            self.add_way(number, link.a, link.b)?;
+            self.add_way(number, link.b, link.a)?;
         }
-        for node in 0..topology.nodes.len() {
-            self.ways.push(ways_of(alloc, topology, node)?)?;
+        Ok(())
+    }
+
+    /// Adds the way over the link from one of its ends to the other.
+    fn add_way(&mut self, link: usize, near: End, far: End) -> Result<(), AllocError> {
+        if let Some(ways) = self.ways.get_mut(near.node) {
+            ways.push(Way {
+                link,
+                iface: near.iface,
+                far,
+            })?;
         }
         Ok(())
     }
@@ -101,46 +115,8 @@ impl Links {
         None
     }
 
-    /// The link works from now on, or no longer.
-    pub(crate) fn set_condition(&mut self, link: usize, condition: Condition) {
-        if let Some(state) = self.states.get_mut(link) {
-            state.condition = condition;
-        }
-    }
-
-    /// The link loses so many of 100 datagrams from now on.
-    pub(crate) fn set_loss(&mut self, link: usize, loss: u16) {
-        if let Some(state) = self.states.get_mut(link) {
-            state.link.loss = loss;
-        }
-    }
-
-    /// The link has this cost from now on.
-    pub(crate) fn set_cost(&mut self, link: usize, cost: u16) {
-        if let Some(state) = self.states.get_mut(link) {
-            state.link.cost = cost;
-        }
-    }
-}
-
-/// The ways from the node, in the order of the links.
-fn ways_of(alloc: Global, topology: &Topology, node: usize) -> Result<Vec<Way>, AllocError> {
-    let mut ways = Vec::new(alloc);
-    for (number, link) in topology.links.iter().enumerate() {
-        if link.a.node == node {
-            ways.push(way_over(number, link.a, link.b))?;
-        }
-        if link.b.node == node {
-            ways.push(way_over(number, link.b, link.a))?;
-        }
-    }
-    Ok(ways)
-}
-
-fn way_over(link: usize, near: End, far: End) -> Way {
-    Way {
-        link,
-        iface: near.iface,
-        far,
+    /// The link of this number, which may change.
+    pub(crate) fn get_mut(&mut self, link: usize) -> Option<&mut LinkState> {
+        self.states.get_mut(link)
     }
 }

@@ -5,7 +5,7 @@ use crate::hops::Hops;
 use crate::links::{Condition, LinkState, Links};
 use crate::shortest::{Edge, INFINITY, shortest_ways};
 use babel_outcome::{Counts, HopKind, Quality, Route, RouteKind};
-use babel_topology::{Link, NextHop, Topology};
+use babel_topology::NextHop;
 use std::alloc::{AllocError, Global};
 
 /// A node at a moment.
@@ -53,17 +53,6 @@ impl Moment {
             links: Links::new(alloc),
             hops: Hops::new(alloc),
         }
-    }
-
-    /// Makes the links of a topology, and the room for next hops to so many prefixes.
-    pub(crate) fn prepare(
-        &mut self,
-        alloc: Global,
-        topology: &Topology,
-        prefixes: usize,
-    ) -> Result<(), AllocError> {
-        self.hops = Hops::of(alloc, topology.nodes.len(), prefixes)?;
-        self.links.add_all(alloc, topology)
     }
 
     /// Whether the node sends and receives.
@@ -130,7 +119,11 @@ impl Moment {
         let mut edges = Vec::with_capacity(alloc, self.links.states().len())?;
         for state in self.links.states() {
             if self.carries(state) {
-                edges.push(edge_of(&state.link))?;
+                edges.push(Edge {
+                    a: state.link.a.node,
+                    b: state.link.b.node,
+                    cost: state.link.cost,
+                })?;
             }
         }
         Ok(edges)
@@ -249,30 +242,23 @@ impl Moment {
     }
 }
 
-fn edge_of(link: &Link) -> Edge {
-    Edge {
-        a: link.a.node,
-        b: link.b.node,
-        cost: link.cost,
-    }
-}
-
 /// Whether a way of this kind is longer, missing, broken or a loop.
 fn is_not_shortest(kind: RouteKind) -> bool {
-    match kind {
-        RouteKind::Longer | RouteKind::Missing | RouteKind::Broken | RouteKind::Loop => true,
-        RouteKind::Own | RouteKind::Shortest | RouteKind::Unreachable | RouteKind::Down => false,
-    }
+    matches!(
+        kind,
+        RouteKind::Longer | RouteKind::Missing | RouteKind::Broken | RouteKind::Loop
+    )
 }
 
 fn add_kind(quality: &mut Quality, kind: RouteKind) {
-    match kind {
-        RouteKind::Own | RouteKind::Down => {}
-        RouteKind::Shortest => quality.shortest = quality.shortest.saturating_add(1),
-        RouteKind::Longer => quality.longer = quality.longer.saturating_add(1),
-        RouteKind::Missing => quality.missing = quality.missing.saturating_add(1),
-        RouteKind::Unreachable => quality.unreachable = quality.unreachable.saturating_add(1),
-        RouteKind::Broken => quality.broken = quality.broken.saturating_add(1),
-        RouteKind::Loop => quality.loops = quality.loops.saturating_add(1),
-    }
+    let count = match kind {
+        RouteKind::Own | RouteKind::Down => return,
+        RouteKind::Shortest => &mut quality.shortest,
+        RouteKind::Longer => &mut quality.longer,
+        RouteKind::Missing => &mut quality.missing,
+        RouteKind::Unreachable => &mut quality.unreachable,
+        RouteKind::Broken => &mut quality.broken,
+        RouteKind::Loop => &mut quality.loops,
+    };
+    *count = count.saturating_add(1);
 }

@@ -2,8 +2,7 @@
 
 use babel_machine::Event;
 use babel_state::{Config, Interface};
-use babel_value::{Addr, Prefix};
-use std::fmt;
+use babel_value::Addr;
 use std::io::{self, Write};
 
 /// Writes the configurations of a network and its events as a file of a scenario.
@@ -18,7 +17,7 @@ pub fn write_scenario<W: Write>(
 ) -> io::Result<()> {
     writeln!(out, "# The events of a run of babel simulate.\nevents = [")?;
     for event in events.iter() {
-        writeln!(out, "  \"{}\",", EventText(*event))?;
+        write_event(event, out)?;
     }
     out.write_all(b"]\n")?;
     for config in configs.iter() {
@@ -27,56 +26,42 @@ pub fn write_scenario<W: Write>(
     Ok(())
 }
 
-/// An event, as it is written.
-#[derive(Clone, Copy)]
-struct EventText(Event);
-
-impl fmt::Display for EventText {
-    fn fmt<W: fmt::Write>(&self, f: &mut fmt::Formatter<W>) -> fmt::Result {
-        match self.0 {
-            Event::Tick { node, now } => write!(f, "tick {node} {now}"),
-            Event::Emit { node, now } => write!(f, "emit {node} {now}"),
-            Event::Deliver {
-                datagram,
-                node,
-                iface,
-                now,
-            } => write!(f, "deliver {datagram} {node} {iface} {now}"),
-            Event::SetCost { node, iface, cost } => write!(f, "cost {node} {iface} {cost}"),
-            Event::Raise { node } => write!(f, "raise {node}"),
-            Event::Announce { node, prefix } => write!(f, "announce {node} {prefix}"),
-            Event::Withdraw { node, prefix } => write!(f, "withdraw {node} {prefix}"),
-            Event::Restart { node, now } => write!(f, "restart {node} {now}"),
-        }
-    }
+fn write_event<W: Write>(event: &Event, out: &mut W) -> io::Result<()> {
+    out.write_all(b"  \"")?;
+    match *event {
+        Event::Tick { node, now } => write!(out, "tick {node} {now}"),
+        Event::Emit { node, now } => write!(out, "emit {node} {now}"),
+        Event::Deliver {
+            datagram,
+            node,
+            iface,
+            now,
+        } => write!(out, "deliver {datagram} {node} {iface} {now}"),
+        Event::SetCost { node, iface, cost } => write!(out, "cost {node} {iface} {cost}"),
+        Event::Raise { node } => write!(out, "raise {node}"),
+        Event::Announce { node, prefix } => write!(out, "announce {node} {prefix}"),
+        Event::Withdraw { node, prefix } => write!(out, "withdraw {node} {prefix}"),
+        Event::Restart { node, now } => write!(out, "restart {node} {now}"),
+    }?;
+    out.write_all(b"\",\n")
 }
 
 fn write_config<W: Write>(config: &Config, out: &mut W) -> io::Result<()> {
     let router_id = u64::from_be_bytes(config.router_id);
-    let prefixes = Listed(&config.prefixes);
-    writeln!(
+    write!(
         out,
-        "\n[[node]]\nrouter-id = \"{router_id:016x}\"\nprefixes = [{prefixes}]"
+        "\n[[node]]\nrouter-id = \"{router_id:016x}\"\nprefixes = ["
     )?;
+    let mut separator = "";
+    for prefix in config.prefixes.iter() {
+        write!(out, "{separator}\"{prefix}\"")?;
+        separator = ", ";
+    }
+    out.write_all(b"]\n")?;
     for interface in config.interfaces.iter() {
         write_interface(interface, out)?;
     }
     Ok(())
-}
-
-/// Prefixes, as the items of a list.
-#[derive(Clone, Copy)]
-struct Listed<'a>(&'a [Prefix]);
-
-impl fmt::Display for Listed<'_> {
-    fn fmt<W: fmt::Write>(&self, f: &mut fmt::Formatter<W>) -> fmt::Result {
-        let mut separator = "";
-        for prefix in self.0 {
-            write!(f, "{separator}\"{prefix}\"")?;
-            separator = ", ";
-        }
-        Ok(())
-    }
 }
 
 fn write_interface<W: Write>(interface: &Interface, out: &mut W) -> io::Result<()> {

@@ -1,10 +1,10 @@
 //! The run of a network.
 
 use crate::agenda::{Agenda, Entry};
-use crate::building::{begins_empty, configs, prefixes_of, speakers_of};
+use crate::building::{add_prefixes, add_speakers, configs};
 use crate::chances::Chances;
 use crate::errors::SimulationFault;
-use crate::hops::Origin;
+use crate::hops::{Hops, Origin};
 use crate::links::Condition;
 use crate::moments::{Moment, NodeState};
 use crate::options::Options;
@@ -80,10 +80,12 @@ impl<'a> Simulation<'a> {
 
     /// Makes the links and nodes, and plans what happens to them.
     fn prepare(&mut self) -> Result<(), AllocError> {
-        self.speakers = speakers_of(self.alloc, self.topology)?;
-        self.outcome.prefixes = prefixes_of(self.alloc, self.topology)?;
-        self.moment
-            .prepare(self.alloc, self.topology, self.outcome.prefixes.len())?;
+        let topology = self.topology;
+        add_speakers(topology, &mut self.speakers)?;
+        add_prefixes(topology, &mut self.outcome.prefixes)?;
+        let prefixes = self.outcome.prefixes.len();
+        self.moment.hops = Hops::of(self.alloc, topology.nodes.len(), prefixes)?;
+        self.moment.links.add_all(self.alloc, topology)?;
         self.add_plan()?;
         self.add_nodes()
     }

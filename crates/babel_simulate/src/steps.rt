@@ -8,7 +8,7 @@ use crate::phases::Measured;
 use crate::simulation::Simulation;
 use babel_machine::Event;
 use babel_outcome::Tested;
-use babel_topology::{Action, End, NextHop};
+use babel_topology::{Action, End, Link, NextHop};
 use babel_value::Prefix;
 use std::alloc::AllocError;
 
@@ -18,33 +18,33 @@ impl Simulation<'_> {
         let Some(step) = self.topology.steps.get(number).copied() else {
             return Ok(());
         };
-        self.begin_phase(number)?;
-        self.act(step.action)
-    }
-
-    /// A phase begins with the step of this number, if none began at this moment.
-    fn begin_phase(&mut self, number: usize) -> Result<(), AllocError> {
         if !self.measured.began_at(self.now) {
             self.end_phase()?;
             self.measured = Measured::new(self.now, number, self.sent);
         }
         self.measured.add_step();
-        Ok(())
+        self.act(step.action)
     }
 
     /// Does what a step asks for.
     fn act(&mut self, action: Action) -> Result<(), SimulationFault> {
         match action {
             Action::Cut { link } => {
-                self.moment.links.set_condition(link, Condition::Down);
+                if let Some(state) = self.moment.links.get_mut(link) {
+                    state.condition = Condition::Down;
+                }
                 Ok(())
             }
             Action::Join { link } => {
-                self.moment.links.set_condition(link, Condition::Up);
+                if let Some(state) = self.moment.links.get_mut(link) {
+                    state.condition = Condition::Up;
+                }
                 Ok(())
             }
             Action::SetLoss { link, loss } => {
-                self.moment.links.set_loss(link, loss);
+                if let Some(state) = self.moment.links.get_mut(link) {
+                    state.link.loss = loss;
+                }
                 Ok(())
             }
             Action::SetCost { link, cost } => self.change_cost(link, cost),
@@ -86,12 +86,13 @@ impl Simulation<'_> {
 
     /// The interfaces at both ends of the link have this cost from now on.
     fn change_cost(&mut self, link: usize, cost: u16) -> Result<(), SimulationFault> {
-        let Some(state) = self.moment.links.get(link) else {
+        let Some(state) = self.moment.links.get_mut(link) else {
             return Ok(());
         };
-        self.moment.links.set_cost(link, cost);
-        self.change_end(state.link.a, cost)?;
-        self.change_end(state.link.b, cost)
+        state.link.cost = cost;
+        let Link { a, b, .. } = state.link;
+        self.change_end(a, cost)?;
+        self.change_end(b, cost)
     }
 
     fn change_end(&mut self, end: End, cost: u16) -> Result<(), SimulationFault> {
@@ -187,11 +188,6 @@ impl Simulation<'_> {
     /// A speaker that begins announces the prefixes of its configuration, and its interfaces have the costs that are there. Those
     /// that the plan has changed are changed again.
     pub(crate) fn restore_settings(&mut self, node: usize) -> Result<(), SimulationFault> {
-        self.restore_prefixes(node)?;
-        self.restore_costs(node)
-    }
-
-    fn restore_prefixes(&mut self, node: usize) -> Result<(), SimulationFault> {
         let speaker = self.speaker_of(node);
         for index in 0..self.outcome.prefixes.len() {
             let prefix = self.outcome.prefixes.get(index).copied();
@@ -203,7 +199,7 @@ impl Simulation<'_> {
                 })?;
             }
         }
-        Ok(())
+        self.restore_costs(node)
     }
 
     /// An interface whose cost changes has one link.
