@@ -1,71 +1,130 @@
 //! Why an event of a scenario can't be read, or is refused.
 
-use crate::event_problems::{EventProblem, EventWord};
 use crate::findings::Finding;
-use crate::keys::Key;
-use crate::locations::{Location, Owner};
+use crate::locations::Owner;
 use crate::nearest::Nearest;
 use crate::networks::has_address;
-use crate::problems::Problem;
-use crate::ranges::AddrRange;
-use babel_config::{HeardDatagram, Scenario, ScenarioEvent};
+use crate::sentences::{Sentence, Word};
+use babel_config::{HeardDatagram, Scenario, ScenarioEvent, read_scenario};
 use babel_machine::{Event, StepFault};
 use babel_net::HearFault;
 use babel_state::Config;
 use babel_value::Addr;
 use std::alloc::Global;
-use toml::Value;
+use std::fmt;
+use toml::Table;
+
+/// The first word of each event, and what follows it.
+static FORMS: [(&str, &str); 9] = [
+    ("tick", "N T"),
+    ("emit", "N T"),
+    ("deliver", "K N I T"),
+    ("cost", "N I C"),
+    ("raise", "N"),
+    ("announce", "N P"),
+    ("withdraw", "N P"),
+    ("restart", "N T"),
+    ("hear", "N I A T HEX"),
+];
 
 /// Why the text is no event.
-pub(crate) fn event_text_problem(alloc: Global, text: &str) -> EventProblem {
+pub(crate) fn event_text_problem<'a>(alloc: Global, text: &'a str) -> Sentence<'a> {
     let (name, _fields) = text.split_once(' ').unwrap_or((text, ""));
     let mut nearest = Nearest::to(name);
-    for word in EventWord::ALL {
-        if word.name() == name {
-            return EventProblem::Form(word);
+    for (word, fields) in FORMS.iter() {
+        if *word == name {
+            return Sentence {
+                text: form_sentence(name),
+                words: [Word::Text(word), Word::Text(fields), Word::Empty],
+            };
         }
-        nearest.take(alloc, word, word.name());
+        nearest.take(alloc, word);
     }
-    EventProblem::UnknownWord(nearest.found)
+    match nearest.found {
+        Some(near) => Sentence {
+            text: "unknown event '{}'; did you mean '{}'?",
+            words: [Word::Text(name), Word::Text(near), Word::Empty],
+        },
+        None => Sentence {
+            text: "unknown event '{}'; the events are tick, emit, deliver, cost, raise, announce, \
+                withdraw, restart and hear",
+            words: [Word::Text(name), Word::Empty, Word::Empty],
+        },
+    }
 }
 
-/// Why the event of this number is refused. `file` is the table of the file.
-pub(crate) fn refused_event<'a>(
-    file: &'a Value,
-    scenario: &Scenario,
-    number: usize,
-    fault: StepFault,
+/// The sentence about an event with this first word that has another form.
+fn form_sentence(name: &str) -> &'static str {
+    match name {
+        "hear" => {
+            "it is not of the form '{} {}'; write one blank between words, numbers without leading \
+            zeros, A as 192.168.0.9 or fe80::9, and HEX with two digits for each of at most 65535 \
+            octets"
+        }
+        _ => {
+            "it is not of the form '{} {}'; write one blank between words, and numbers without \
+            leading zeros"
+        }
+    }
+}
+
+/// Why an event is refused, by its number.
+#[derive(Clone, Copy)]
+pub(crate) enum EventFault {
+    /// It is an event of the scenario's nodes.
+    Ours(usize, StepFault),
+    /// It brings a datagram of another router.
+    Heard(usize, HearFault),
+}
+
+impl fmt::Display for EventFault {
+    fn fmt<W: fmt::Write>(&self, f: &mut fmt::Formatter<W>) -> fmt::Result {
+        match *self {
+            EventFault::Ours(number, fault) => write!(f, "event {number}: {fault}"),
+            EventFault::Heard(number, fault) => write!(f, "event {number}: {fault}"),
+        }
+    }
+}
+
+/// The sentence about an event that is refused. `octets` are those of the scenario's file.
+pub(crate) fn refused_event(
+    alloc: Global,
+    octets: &[u8],
+    fault: EventFault,
+) -> Option<Sentence<'static>> {
+    match read_scenario(alloc, octets) {
+        Ok(scenario) => event_problem(&scenario, fault),
+        Err(_) => None,
+    }
+}
+
+fn event_problem(scenario: &Scenario, fault: EventFault) -> Option<Sentence<'static>> {
+    match fault {
+        EventFault::Ours(number, fault) => match scenario.events.get(number)? {
+            ScenarioEvent::Ours(event) => step_problem(scenario, event, fault),
+            ScenarioEvent::Heard(_) => None,
+        },
+        EventFault::Heard(number, fault) => match scenario.events.get(number)? {
+            ScenarioEvent::Heard(heard) => hear_problem(scenario, heard, fault),
+            ScenarioEvent::Ours(_) => None,
+        },
+    }
+}
+
+/// The problem of an event, with its text in the table of the file.
+pub(crate) fn found_event<'a>(
+    file: &'a Table,
+    fault: EventFault,
+    problem: Sentence<'a>,
 ) -> Option<Finding<'a>> {
-    match scenario.events.get(number)? {
-        ScenarioEvent::Ours(event) => of_event(file, number, step_problem(scenario, event, fault)?),
-        ScenarioEvent::Heard(_) => None,
-    }
-}
-
-/// Why the datagram that the event of this number brings isn't heard. `file` is the table of the
-/// file.
-pub(crate) fn refused_hearing<'a>(
-    file: &'a Value,
-    scenario: &Scenario,
-    number: usize,
-    fault: HearFault,
-) -> Option<Finding<'a>> {
-    match scenario.events.get(number)? {
-        ScenarioEvent::Heard(heard) => of_event(
-            file,
-            number,
-            hear_problem(scenario, heard, fault)?,
-        ),
-        ScenarioEvent::Ours(_) => None,
-    }
-}
-
-/// The problem of the event of this number.
-fn of_event<'a>(file: &'a Value, number: usize, problem: EventProblem) -> Option<Finding<'a>> {
+    let number = match fault {
+        EventFault::Ours(number, _) | EventFault::Heard(number, _) => number,
+    };
+    let text = file.get("events")?.get(number)?.as_str()?;
     Some(Finding {
-        at: Location::of_element(Owner::FILE, Key::Events, number),
-        text: file.get("events")?.get(number)?.as_str()?,
-        problem: Problem::Event(number, problem),
+        at: Owner::FILE.key("events").element(number),
+        event: Some((number, text)),
+        problem,
     })
 }
 
@@ -73,19 +132,19 @@ fn hear_problem(
     scenario: &Scenario,
     heard: &HeardDatagram,
     fault: HearFault,
-) -> Option<EventProblem> {
-    let node = heard.node;
+) -> Option<Sentence<'static>> {
     match fault {
-        HearFault::OwnAddress => Some(EventProblem::OwnAddress(
-            heard.source,
-            owner_of(scenario.configs.as_slice(), heard.source)?,
-        )),
-        HearFault::NoNode => Some(EventProblem::NoNode(node, scenario.configs.len())),
-        HearFault::NoInterface => {
-            let count = scenario.configs.get(node)?.interfaces.len();
-            Some(EventProblem::NoInterface(node, heard.iface, count))
+        HearFault::OwnAddress => {
+            let node = owner_of(scenario.configs.as_slice(), heard.source)?;
+            Some(Sentence {
+                text: "{} is an address of node {}; hear is for routers that are no nodes, and \
+                    deliver for what a node sent",
+                words: [Word::Addr(heard.source), Word::Count(node), Word::Empty],
+            })
         }
-        HearFault::Memory => Some(EventProblem::Memory),
+        HearFault::NoNode => Some(no_node(scenario, heard.node)),
+        HearFault::NoInterface => no_interface(scenario, heard.node, heard.iface),
+        HearFault::Memory => Some(Sentence::memory()),
     }
 }
 
@@ -101,26 +160,55 @@ fn owner_of(configs: &[Config], addr: Addr) -> Option<usize> {
     None
 }
 
-fn step_problem(scenario: &Scenario, event: &Event, fault: StepFault) -> Option<EventProblem> {
+fn step_problem(scenario: &Scenario, event: &Event, fault: StepFault) -> Option<Sentence<'static>> {
     let node = node_of(event);
-    match fault {
-        StepFault::NoNode => Some(EventProblem::NoNode(node, scenario.configs.len())),
-        StepFault::NoDatagram => match event {
-            Event::Deliver { datagram, .. } => Some(EventProblem::NoDatagram(*datagram)),
-            _ => None,
-        },
-        StepFault::NoInterface => {
-            let count = scenario.configs.get(node)?.interfaces.len();
-            Some(EventProblem::NoInterface(node, iface_of(event)?, count))
-        }
-        StepFault::CostOutOfRange => match event {
-            Event::SetCost { cost, .. } => Some(EventProblem::Cost(*cost)),
-            _ => None,
-        },
-        StepFault::NotListed => Some(EventProblem::NotListed(node, prefix_of(event)?)),
-        StepFault::NotAnnounced => Some(EventProblem::NotAnnounced(node, prefix_of(event)?)),
-        StepFault::Memory => Some(EventProblem::Memory),
+    let (text, words) = match fault {
+        StepFault::NoNode => return Some(no_node(scenario, node)),
+        StepFault::NoInterface => return no_interface(scenario, node, iface_of(event)?),
+        StepFault::Memory => return Some(Sentence::memory()),
+        StepFault::NoDatagram => (
+            "no datagram {} was recorded before; each emit that sends records one, from 0 on",
+            [Word::Count(datagram_of(event)?), Word::Empty, Word::Empty],
+        ),
+        StepFault::CostOutOfRange => (
+            "cost = {} is not in 1 to 65534",
+            [Word::Count(cost_of(event)?), Word::Empty, Word::Empty],
+        ),
+        StepFault::NotListed => (
+            "prefix {} is not in the prefixes of node {}",
+            [prefix_of(event)?, Word::Count(node), Word::Empty],
+        ),
+        StepFault::NotAnnounced => (
+            "node {} does not announce {} now",
+            [Word::Count(node), prefix_of(event)?, Word::Empty],
+        ),
+    };
+    Some(Sentence { text, words })
+}
+
+/// There is no such node.
+fn no_node(scenario: &Scenario, node: usize) -> Sentence<'static> {
+    Sentence {
+        text: "there is no node {}; nodes count from 0, and there are {}",
+        words: [
+            Word::Count(node),
+            Word::Count(scenario.configs.len()),
+            Word::Empty,
+        ],
     }
+}
+
+/// The node has no such interface.
+fn no_interface(scenario: &Scenario, node: usize, iface: u8) -> Option<Sentence<'static>> {
+    let count = scenario.configs.get(node)?.interfaces.len();
+    Some(Sentence {
+        text: "node {} has no interface {}; interfaces count from 0, and it has {}",
+        words: [
+            Word::Count(node),
+            Word::Count(usize::from(iface)),
+            Word::Count(count),
+        ],
+    })
 }
 
 fn node_of(event: &Event) -> usize {
@@ -143,11 +231,25 @@ fn iface_of(event: &Event) -> Option<u8> {
     }
 }
 
-fn prefix_of(event: &Event) -> Option<AddrRange> {
+fn datagram_of(event: &Event) -> Option<usize> {
     match event {
-        Event::Announce { prefix, .. } | Event::Withdraw { prefix, .. } => Some(AddrRange::of(
-            prefix,
-        )),
+        Event::Deliver { datagram, .. } => Some(*datagram),
+        _ => None,
+    }
+}
+
+fn cost_of(event: &Event) -> Option<usize> {
+    match event {
+        Event::SetCost { cost, .. } => Some(usize::from(*cost)),
+        _ => None,
+    }
+}
+
+fn prefix_of(event: &Event) -> Option<Word<'static>> {
+    match event {
+        Event::Announce { prefix, .. } | Event::Withdraw { prefix, .. } => {
+            Some(Word::prefix(prefix))
+        }
         _ => None,
     }
 }

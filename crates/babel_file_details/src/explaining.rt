@@ -1,15 +1,14 @@
 //! The calls of this crate: a fault becomes a line.
 
 use crate::configs::{config_problem, ipv6_transport};
-use crate::events::{refused_event, refused_hearing};
+use crate::events::{EventFault, found_event, refused_event};
 use crate::findings::Finding;
 use crate::locations::Owner;
 use crate::networks::network_problem;
-use crate::problems::Problem;
 use crate::schema::Schema;
-use crate::toml_places::{FileText, Position, Side, Step, position_at};
-use crate::warnings::warnings_of;
-use babel_config::{FileFault, Scenario, read_config, read_scenario};
+use crate::toml_places::{FileText, Position};
+use crate::warnings::write_config_warnings;
+use babel_config::{FileFault, read_config, read_scenario};
 use babel_machine::{NetFault, StepFault};
 use babel_net::HearFault;
 use babel_state::ConfigFault;
@@ -36,17 +35,14 @@ pub fn explain_file<W: Write>(
     fault: FileFault,
     out: &mut W,
 ) -> io::Result<()> {
+    let schema = Schema {
+        bad_event: event_of(fault),
+        alloc,
+    };
     match toml::table_from_slice(alloc, file.octets) {
         Ok(table) => {
             let table = Value::Table(table);
-            let schema = Schema {
-                bad_event: event_of(fault),
-                alloc,
-            };
-            match schema.file_problem(kind, &table) {
-                Some(finding) => write_finding(alloc, file, &finding, out),
-                None => writeln!(out, "{}: {fault}", file.name),
-            }
+            write_found(alloc, file, schema.file_problem(kind, &table), &fault, out)
         }
         Err(error) => write_syntax_error(file, &error, &fault, out),
     }
@@ -62,23 +58,26 @@ pub(crate) fn write_syntax_error<F: fmt::Display, W: Write>(
 ) -> io::Result<()> {
     match error.span() {
         Some(span) => {
-            let position = Position::after(file.octets, span.start);
-            write_sentence(file.name, Some(position), &error.message(), out)
+            write_place(
+                file.name,
+                Some(Position::after(file.octets, span.start)),
+                out,
+            )?;
+            writeln!(out, "{}", error.message())
         }
-        None => write_sentence(file.name, None, fault, out),
+        None => writeln!(out, "{}: {fault}", file.name),
     }
 }
 
-/// Writes a sentence about a file, after the file's name, and the position if it is found.
-pub(crate) fn write_sentence<S: fmt::Display, W: Write>(
+/// Writes the name of a file before a sentence, and the position if it is found.
+pub(crate) fn write_place<W: Write>(
     name: &str,
     position: Option<Position>,
-    sentence: &S,
     out: &mut W,
 ) -> io::Result<()> {
     match position {
-        Some(position) => writeln!(out, "{name}:{position}: {sentence}"),
-        None => writeln!(out, "{name}: {sentence}"),
+        Some(position) => write!(out, "{name}:{position}: "),
+        None => write!(out, "{name}: "),
     }
 }
 
@@ -97,12 +96,11 @@ pub fn explain_config<W: Write>(
     fault: ConfigFault,
     out: &mut W,
 ) -> io::Result<()> {
-    if let Ok(config) = read_config(alloc, file.octets) {
-        if let Some(finding) = config_problem(Owner::FILE, &config, fault) {
-            return write_finding(alloc, file, &finding, out);
-        }
-    }
-    writeln!(out, "{}: {fault}", file.name)
+    let found = match read_config(alloc, file.octets) {
+        Ok(config) => config_problem(Owner::FILE, &config, fault),
+        Err(_) => None,
+    };
+    write_found(alloc, file, found, &fault, out)
 }
 
 /// Writes which interface of the configuration in a file has IPv6 transport: W1.
@@ -111,12 +109,11 @@ pub fn explain_transport<W: Write>(
     file: FileText<'_>,
     out: &mut W,
 ) -> io::Result<()> {
-    if let Ok(config) = read_config(alloc, file.octets) {
-        if let Some(finding) = ipv6_transport(&config) {
-            return write_finding(alloc, file, &finding, out);
-        }
-    }
-    writeln!(out, "{}: an interface has IPv6 transport", file.name)
+    let found = match read_config(alloc, file.octets) {
+        Ok(config) => ipv6_transport(&config),
+        Err(_) => None,
+    };
+    write_found(alloc, file, found, &"an interface has IPv6 transport", out)
 }
 
 /// Writes why no network can be made of the configurations in the file of a scenario: M1 to M7.
@@ -126,12 +123,11 @@ pub fn explain_network<W: Write>(
     fault: NetFault,
     out: &mut W,
 ) -> io::Result<()> {
-    if let Ok(scenario) = read_scenario(alloc, file.octets) {
-        if let Some(finding) = network_problem(scenario.configs.as_slice(), fault) {
-            return write_finding(alloc, file, &finding, out);
-        }
-    }
-    writeln!(out, "{}: {fault}", file.name)
+    let found = match read_scenario(alloc, file.octets) {
+        Ok(scenario) => network_problem(scenario.configs.as_slice(), fault),
+        Err(_) => None,
+    };
+    write_found(alloc, file, found, &fault, out)
 }
 
 /// Writes why an event of a scenario's nodes is refused: N1 to N7.
@@ -142,12 +138,7 @@ pub fn explain_event<W: Write>(
     fault: StepFault,
     out: &mut W,
 ) -> io::Result<()> {
-    if let Some((table, scenario)) = read_twice(alloc, file.octets) {
-        if let Some(finding) = refused_event(&table, &scenario, number, fault) {
-            return write_finding(alloc, file, &finding, out);
-        }
-    }
-    writeln!(out, "{}: event {number}: {fault}", file.name)
+    explain_event_fault(alloc, file, EventFault::Ours(number, fault), out)
 }
 
 /// Writes why a node of a scenario doesn't hear the datagram of an event: N8, N1, N3 or N6.
@@ -158,77 +149,52 @@ pub fn explain_hearing<W: Write>(
     fault: HearFault,
     out: &mut W,
 ) -> io::Result<()> {
-    if let Some((table, scenario)) = read_twice(alloc, file.octets) {
-        if let Some(finding) = refused_hearing(&table, &scenario, number, fault) {
-            return write_finding(alloc, file, &finding, out);
-        }
-    }
-    writeln!(out, "{}: event {number}: {fault}", file.name)
+    explain_event_fault(alloc, file, EventFault::Heard(number, fault), out)
 }
 
-/// The table of the file, and the scenario that it is.
-fn read_twice(alloc: Global, octets: &[u8]) -> Option<(Value, Scenario)> {
-    let table = toml::table_from_slice(alloc, octets).ok()?;
-    let scenario = read_scenario(alloc, octets).ok()?;
-    Some((Value::Table(table), scenario))
+fn explain_event_fault<W: Write>(
+    alloc: Global,
+    file: FileText<'_>,
+    fault: EventFault,
+    out: &mut W,
+) -> io::Result<()> {
+    let Some(problem) = refused_event(alloc, file.octets, fault) else {
+        return write_found(alloc, file, None, &fault, out);
+    };
+    match toml::table_from_slice(alloc, file.octets) {
+        Ok(table) => write_found(
+            alloc,
+            file,
+            found_event(&table, fault, problem),
+            &fault,
+            out,
+        ),
+        Err(_) => write_found(alloc, file, None, &fault, out),
+    }
 }
 
 /// Writes a line for each thing of a configuration that can't work, though a speaker can be made
 /// of it.
 pub fn write_warnings<W: Write>(alloc: Global, file: FileText<'_>, out: &mut W) -> io::Result<()> {
-    let Ok(config) = read_config(alloc, file.octets) else {
-        return Ok(());
-    };
-    let found = warnings_of(alloc, &config)?;
-    write_each_warning(alloc, file, found.as_slice(), out)
-}
-
-fn write_each_warning<W: Write>(
-    alloc: Global,
-    file: FileText<'_>,
-    found: &[Finding<'_>],
-    out: &mut W,
-) -> io::Result<()> {
-    for finding in found {
-        let position = position_of(alloc, file.octets, finding);
-        write_sentence(file.name, position, &Warning(finding), out)?;
-    }
-    Ok(())
-}
-
-/// What can't work, as it is written.
-#[derive(Clone, Copy)]
-struct Warning<'a>(&'a Finding<'a>);
-
-impl fmt::Display for Warning<'_> {
-    fn fmt<W: fmt::Write>(&self, f: &mut fmt::Formatter<W>) -> fmt::Result {
-        write!(f, "warning: {}", self.0)
+    match read_config(alloc, file.octets) {
+        Ok(config) => write_config_warnings(alloc, file, &config, out),
+        Err(_) => Ok(()),
     }
 }
 
-fn write_finding<W: Write>(
+/// Writes the cause of a fault, or the sentence of its code if the cause isn't found.
+fn write_found<F: fmt::Display, W: Write>(
     alloc: Global,
     file: FileText<'_>,
-    finding: &Finding<'_>,
+    found: Option<Finding<'_>>,
+    fault: &F,
     out: &mut W,
 ) -> io::Result<()> {
-    write_sentence(
-        file.name,
-        position_of(alloc, file.octets, finding),
-        finding,
-        out,
-    )
-}
-
-fn position_of(alloc: Global, octets: &[u8], finding: &Finding<'_>) -> Option<Position> {
-    let mut path = finding.at.path();
-    let side = match finding.problem {
-        // The problem is about a key, and not about its value.
-        Problem::UnknownKey(_, _) => {
-            path.push(Step::Key(finding.text));
-            Side::Key
+    match found {
+        Some(finding) => {
+            write_place(file.name, finding.at.position(alloc, file.octets), out)?;
+            writeln!(out, "{finding}")
         }
-        _ => Side::Value,
-    };
-    position_at(alloc, octets, &path, side)
+        None => writeln!(out, "{}: {fault}", file.name),
+    }
 }

@@ -2,7 +2,7 @@
 //! to do.
 //!
 //! A code is for scripts; these sentences are for people. Each `explain_` call finds the cause of
-//! a fault whose code is known, and writes one line.
+//! a fault whose code is known, and writes one line. `sentences` has what such a line is made of.
 //!
 //! - `explaining` has the calls for the files of configurations and of scenarios. `schema` finds
 //!   the first fault of a file's keys, `configs`, `networks` and `events` that of what was read,
@@ -12,19 +12,16 @@
 #![tactic(auto)]
 
 mod configs;
-mod event_problems;
 mod events;
 mod explaining;
 mod findings;
-mod keys;
 mod locations;
 mod nearest;
 mod networks;
-mod problems;
-mod ranges;
 mod routers;
 mod rules;
 mod schema;
+mod sentences;
 mod toml_places;
 mod topologies;
 mod warnings;

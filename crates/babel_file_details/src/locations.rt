@@ -1,7 +1,7 @@
 //! Where a value is in the tables of a file.
 
-use crate::keys::Key;
-use crate::toml_places::{Path, Step};
+use crate::toml_places::{Path, Position, Side, Step, position_at};
+use std::alloc::Global;
 use std::fmt;
 
 /// The table that a key is in.
@@ -35,6 +35,26 @@ impl Owner {
             iface: Some(iface),
         }
     }
+
+    /// The table itself.
+    pub(crate) fn table<'a>(self) -> Location<'a> {
+        Location {
+            owner: self,
+            key: None,
+            index: None,
+            side: Side::Value,
+        }
+    }
+
+    /// The value at a key of the table.
+    pub(crate) fn key<'a>(self, key: &'a str) -> Location<'a> {
+        Location {
+            owner: self,
+            key: Some(key),
+            index: None,
+            side: Side::Value,
+        }
+    }
 }
 
 /// The table as the subject of a sentence.
@@ -49,47 +69,42 @@ impl fmt::Display for Owner {
     }
 }
 
-/// Where a value is.
+/// Where a value is, or its key.
 #[derive(Clone, Copy)]
-pub(crate) struct Location {
+pub(crate) struct Location<'a> {
     /// The table.
     pub(crate) owner: Owner,
     /// The key in the table; the table itself has none.
-    pub(crate) key: Option<Key>,
+    key: Option<&'a str>,
     /// The index in the list at the key, if it is one of its elements.
     pub(crate) index: Option<usize>,
+    /// Whether it is the place of the key.
+    side: Side,
 }
 
-impl Location {
-    /// The table itself.
-    pub(crate) fn of_table(owner: Owner) -> Location {
-        Location {
-            owner,
-            key: None,
-            index: None,
-        }
-    }
-
-    /// The value at a key of the table.
-    pub(crate) fn of_key(owner: Owner, key: Key) -> Location {
+impl<'a> Location<'a> {
+    /// A key of the table, in place of its value.
+    pub(crate) fn of_name(owner: Owner, key: &'a str) -> Location<'a> {
         Location {
             owner,
             key: Some(key),
             index: None,
+            side: Side::Key,
         }
     }
 
-    /// An element of the list at a key of the table.
-    pub(crate) fn of_element(owner: Owner, key: Key, index: usize) -> Location {
+    /// An element of the list at this key.
+    pub(crate) fn element(self, index: usize) -> Location<'a> {
         Location {
-            owner,
-            key: Some(key),
+            owner: self.owner,
+            key: self.key,
             index: Some(index),
+            side: Side::Value,
         }
     }
 
-    /// The path from the table of the file.
-    pub(crate) fn path<'a>(&self) -> Path<'a> {
+    /// The position in the text of the file.
+    pub(crate) fn position(&self, alloc: Global, octets: &[u8]) -> Option<Position> {
         let mut path = Path::new();
         if let Some(node) = self.owner.node {
             path.push_element("node", node);
@@ -98,11 +113,11 @@ impl Location {
             path.push_element("interface", iface);
         }
         if let Some(key) = self.key {
-            path.push(Step::Key(key.name()));
+            path.push(Step::Key(key));
         }
         if let Some(index) = self.index {
             path.push(Step::Index(index));
         }
-        path
+        position_at(alloc, octets, &path, self.side)
     }
 }

@@ -10,16 +10,16 @@ const MAX_LEN: usize = 40;
 const MAX_EDITS: usize = 2;
 
 /// The name to which the fewest edits lead from a text, if they are few.
-#[derive(Drop)]
-pub(crate) struct Nearest<'a, T: Copy> {
+#[derive(Clone, Copy)]
+pub(crate) struct Nearest<'a> {
     text: &'a str,
     edits: usize,
-    pub(crate) found: Option<T>,
+    pub(crate) found: Option<&'static str>,
 }
 
-impl<'a, T: Copy> Nearest<'a, T> {
+impl<'a> Nearest<'a> {
     /// No name yet.
-    pub(crate) fn to(text: &'a str) -> Nearest<'a, T> {
+    pub(crate) fn to(text: &'a str) -> Nearest<'a> {
         Nearest {
             text,
             edits: MAX_EDITS + 1,
@@ -27,15 +27,15 @@ impl<'a, T: Copy> Nearest<'a, T> {
         }
     }
 
-    /// Takes the value with this name if it is nearer than those before.
-    pub(crate) fn take(&mut self, alloc: Global, value: T, name: &str) {
+    /// Takes the name if it is nearer than those before.
+    pub(crate) fn take(&mut self, alloc: Global, name: &'static str) {
         if self.text.len() > MAX_LEN {
             return;
         }
         if let Ok(edits) = osa_distance(alloc, self.text, name) {
             if edits < self.edits && edits < name.len() {
                 self.edits = edits;
-                self.found = Some(value);
+                self.found = Some(name);
             }
         }
     }

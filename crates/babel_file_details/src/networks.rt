@@ -2,9 +2,8 @@
 
 use crate::configs::config_problem;
 use crate::findings::Finding;
-use crate::keys::Key;
 use crate::locations::Owner;
-use crate::problems::Problem;
+use crate::sentences::Word;
 use babel_machine::NetFault;
 use babel_state::{Config, Interface};
 use babel_value::Addr;
@@ -13,38 +12,45 @@ use babel_value::Addr;
 const MAX_NODES: usize = 64;
 
 /// The cause of a fault whose code is known.
-pub(crate) fn network_problem<'a>(configs: &[Config], fault: NetFault) -> Option<Finding<'a>> {
+pub(crate) fn network_problem(configs: &[Config], fault: NetFault) -> Option<Finding<'static>> {
     match fault {
         NetFault::TooManyNodes => {
-            let problem = Problem::NodeCount(configs.len());
-            Some(Finding::of_table(Owner::of_node(MAX_NODES), problem))
+            let words = [Word::Count(configs.len()), Word::Empty, Word::Empty];
+            let text = "there are {} nodes, and at most 64 are allowed";
+            Some(Finding::new(Owner::of_node(MAX_NODES).table(), text, words))
         }
         NetFault::BadConfig { node, fault } => {
             config_problem(Owner::of_node(node), configs.get(node)?, fault)
         }
-        NetFault::CollectsSources => {
-            for (node, config) in configs.iter().enumerate() {
-                if config.collect {
-                    let owner = Owner::of_node(node);
-                    return Some(Finding::of_key(owner, Key::Collect, Problem::Collects));
-                }
-            }
-            None
-        }
+        NetFault::CollectsSources => collects_sources(configs),
         NetFault::AddressTwice => address_twice(configs),
         NetFault::RouterIdTwice => router_id_twice(configs),
-        NetFault::Memory => Some(Finding::of_table(Owner::FILE, Problem::Memory)),
+        NetFault::Memory => Some(Finding::memory()),
     }
 }
 
+/// The first node that collects sources.
+fn collects_sources(configs: &[Config]) -> Option<Finding<'static>> {
+    for (node, config) in configs.iter().enumerate() {
+        if config.collect {
+            let owner = Owner::of_node(node);
+            let words = [Word::Owner(owner), Word::Empty, Word::Empty];
+            let text = "{} collects sources, which a network can't; write collect = false";
+            return Some(Finding::new(owner.key("collect"), text, words));
+        }
+    }
+    None
+}
+
 /// The first router-id that an earlier node has too.
-fn router_id_twice<'a>(configs: &[Config]) -> Option<Finding<'a>> {
+fn router_id_twice(configs: &[Config]) -> Option<Finding<'static>> {
     for (node, config) in configs.iter().enumerate() {
         for (first, other) in configs.iter().enumerate().take(node) {
             if other.router_id == config.router_id {
                 let owner = Owner::of_node(node);
-                let problem = Problem::RouterIdTwice(first);
-                return Some(Finding::of_key(owner, Key::RouterId, problem));
+                let words = [Word::Owner(owner), Word::Count(first), Word::Empty];
+                let text = "the router-id of {} is that of node {} too";
+                return Some(Finding::new(owner.key("router-id"), text, words));
             }
         }
     }
@@ -52,12 +58,13 @@ fn router_id_twice<'a>(configs: &[Config]) -> Option<Finding<'a>> {
 }
 
 /// The first interface with an address that an earlier one has too.
-fn address_twice<'a>(configs: &[Config]) -> Option<Finding<'a>> {
+fn address_twice(configs: &[Config]) -> Option<Finding<'static>> {
     for (node, config) in configs.iter().enumerate() {
         for (iface, interface) in config.interfaces.iter().enumerate() {
             let owner = Owner::of_node(node).interface(iface);
-            if let Some(finding) = shared_with_earlier(configs, owner, interface) {
-                return Some(finding);
+            let found = shared_with_earlier(configs, owner, interface);
+            if found.is_some() {
+                return found;
             }
         }
     }
@@ -65,11 +72,11 @@ fn address_twice<'a>(configs: &[Config]) -> Option<Finding<'a>> {
 }
 
 /// An address of the interface that an interface before it has too.
-fn shared_with_earlier<'a>(
+fn shared_with_earlier(
     configs: &[Config],
     owner: Owner,
     interface: &Interface,
-) -> Option<Finding<'a>> {
+) -> Option<Finding<'static>> {
     for (node, config) in configs.iter().enumerate() {
         let found = shared_in(Owner::of_node(node), config, owner, interface);
         if found.is_some() {
@@ -84,35 +91,39 @@ fn shared_with_earlier<'a>(
 
 /// An address of the interface that another one of the configuration has too, among those before
 /// it.
-pub(crate) fn shared_in<'a>(
+pub(crate) fn shared_in(
     config_owner: Owner,
     config: &Config,
     owner: Owner,
     interface: &Interface,
-) -> Option<Finding<'a>> {
+) -> Option<Finding<'static>> {
     for (iface, other) in config.interfaces.iter().enumerate() {
         let other_owner = config_owner.interface(iface);
         if other_owner == owner {
             return None;
         }
         if let Some((key, addr)) = shared_address(interface, other) {
-            let problem = Problem::AddressTwice(addr, other_owner);
-            return Some(Finding::of_key(owner, key, problem));
+            let words = [
+                Word::Addr(addr),
+                Word::Owner(owner),
+                Word::Owner(other_owner),
+            ];
+            return Some(Finding::new(owner.key(key), "address {} of {} is that of {} too", words));
         }
     }
     None
 }
 
 /// An address that both have, and its key.
-fn shared_address(interface: &Interface, other: &Interface) -> Option<(Key, Addr)> {
+fn shared_address(interface: &Interface, other: &Interface) -> Option<(&'static str, Addr)> {
     if let Some(addr) = ipv4_of(interface) {
         if is_same(addr, ipv4_of(other)) {
-            return Some((Key::Ipv4, addr));
+            return Some(("ipv4", addr));
         }
     }
     let addr = ipv6_of(interface)?;
     if is_same(addr, ipv6_of(other)) {
-        Some((Key::Ipv6, addr))
+        Some(("ipv6", addr))
     } else {
         None
     }

@@ -1,13 +1,12 @@
 //! The sentence about a file of `run --config` that is refused: line and column, key, value, and
 //! what is allowed.
 
-use crate::explaining::{FileKind, explain_file, write_sentence};
+use crate::explaining::{FileKind, explain_file, write_place};
+use crate::sentences::{Sentence, Word};
 use crate::toml_places::{FileText, Path, Position, Side, Step, position_at};
 use babel_config::FileFault;
-use babel_line_details::Excerpt;
 use babel_router_file::{Cause, DEVICE, DEVICE_KEYS, FILE_KEYS, Kind, Problem, first_problem};
 use std::alloc::Global;
-use std::fmt;
 use std::io::{self, Write};
 
 /// Writes why the file is refused: F1 to F3, and F4. If the cause isn't found, the sentence is that of the code.
@@ -32,8 +31,8 @@ fn write_problem<W: Write>(
     problem: &Problem<'_>,
     out: &mut W,
 ) -> io::Result<()> {
-    let position = position_of(alloc, file.octets, problem);
-    write_sentence(file.name, position, &Sentence(problem), out)
+    write_place(file.name, position_of(alloc, file.octets, problem), out)?;
+    writeln!(out, "{}", sentence_of(problem))
 }
 
 fn position_of(alloc: Global, octets: &[u8], problem: &Problem<'_>) -> Option<Position> {
@@ -63,27 +62,35 @@ fn path_of<'a>(problem: &Problem<'a>) -> Path<'a> {
     path
 }
 
-/// A problem, as it is written.
-#[derive(Clone, Copy)]
-struct Sentence<'a>(&'a Problem<'a>);
-
-impl fmt::Display for Sentence<'_> {
-    fn fmt<W: fmt::Write>(&self, f: &mut fmt::Formatter<W>) -> fmt::Result {
-        let key = self.0.key;
-        match (self.0.cause, self.0.device) {
-            (Cause::UnknownKey, Some(device)) => write!(
-                f,
-                "unknown key '{key}' of device {device}; the keys are {DEVICE_KEYS}"
+fn sentence_of<'a>(problem: &Problem<'a>) -> Sentence<'a> {
+    let key = Word::Text(problem.key);
+    let (text, words) = match problem.cause {
+        Cause::UnknownKey => match problem.device {
+            Some(device) => (
+                "unknown key '{}' of device {}; the keys are {}",
+                [key, Word::Text(device), Word::Text(DEVICE_KEYS)],
             ),
-            (Cause::UnknownKey, None) => {
-                write!(
-                    f,
-                    "unknown key '{key}' in the file; the keys are {FILE_KEYS}"
-                )
-            }
-            (Cause::WrongKind(kind), _) => write!(f, "'{key}' must be {kind}"),
-            (Cause::OutOfRange(number, kind), _) => write!(f, "{key} = {number} is not {kind}"),
-            (Cause::BadText(text, kind), _) => write!(f, "{key} {} is not {kind}", Excerpt(text)),
+            None => (
+                "unknown key '{}' in the file; the keys are {}",
+                [key, Word::Text(FILE_KEYS), Word::Empty],
+            ),
+        },
+        Cause::WrongKind(kind) => (
+            "'{}' must be {}",
+            [key, Word::RouterKind(kind), Word::Empty],
+        ),
+        Cause::OutOfRange(number, kind) => {
+            (
+                "{} = {} is not {}",
+                [key, Word::Number(number), Word::RouterKind(kind)],
+            )
         }
-    }
+        Cause::BadText(text, kind) => {
+            (
+                "{} {} is not {}",
+                [key, Word::Excerpt(text), Word::RouterKind(kind)],
+            )
+        }
+    };
+    Sentence { text, words }
 }

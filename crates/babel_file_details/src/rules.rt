@@ -1,6 +1,5 @@
 //! The keys of each table, in the order in which they are read, and what their values are.
 
-use crate::keys::Key;
 use std::fmt;
 
 /// A kind of table in a file.
@@ -16,33 +15,22 @@ pub(crate) enum TableKind {
 
 impl TableKind {
     /// The keys that the table may have.
-    pub(crate) fn keys(self) -> &'static [Key] {
+    pub(crate) fn rules(self) -> &'static [Rule] {
         match self {
-            TableKind::Scenario => &SCENARIO_KEYS,
-            TableKind::Config => &CONFIG_KEYS,
-            TableKind::Interface => &INTERFACE_KEYS,
+            TableKind::Scenario => &SCENARIO_RULES,
+            TableKind::Config => &CONFIG_RULES,
+            TableKind::Interface => &INTERFACE_RULES,
+        }
+    }
+
+    /// The key of the list of such tables.
+    pub(crate) fn list(self) -> &'static str {
+        match self {
+            TableKind::Interface => "interface",
+            _ => "node",
         }
     }
 }
-
-static SCENARIO_KEYS: [Key; 2] = [Key::Events, Key::Node];
-
-static CONFIG_KEYS: [Key; 5] = [
-    Key::RouterId,
-    Key::Seqno,
-    Key::Collect,
-    Key::Prefixes,
-    Key::Interface,
-];
-
-static INTERFACE_KEYS: [Key; 6] = [
-    Key::Transport,
-    Key::Ipv4,
-    Key::Ipv6,
-    Key::Peers,
-    Key::Cost,
-    Key::Hello,
-];
 
 /// What a value is, if it is no list or table.
 #[derive(Clone, Copy)]
@@ -69,97 +57,99 @@ impl ValueKind {
 /// What the value must be, after `is not` or `must be`.
 impl fmt::Display for ValueKind {
     fn fmt<W: fmt::Write>(&self, f: &mut fmt::Formatter<W>) -> fmt::Result {
-        match *self {
-            ValueKind::RouterId => f.write_str("a router-id of 16 hexadecimal digits"),
+        f.write_str(match *self {
+            ValueKind::RouterId => "a router-id of 16 hexadecimal digits",
             ValueKind::Number(least, greatest) => {
-                write!(f, "a number from {least} to {greatest}")
+                return write!(f, "a number from {least} to {greatest}");
             }
-            ValueKind::TruthValue => f.write_str("true or false"),
-            ValueKind::Transport => f.write_str("\"ipv4\" or \"ipv6\""),
-            ValueKind::Ipv4Network => {
-                f.write_str("an IPv4 address with a length, as 192.168.0.2/24")
-            }
-            ValueKind::Ipv6Address => f.write_str("an IPv6 address, as fe80::1"),
-            ValueKind::Address => f.write_str("an address, as 192.168.0.1 or fe80::1"),
-            ValueKind::Prefix => f.write_str("a prefix, as 10.0.0.0/8 or 2001:db8::/32"),
-            ValueKind::Event => f.write_str("an event, as \"tick 0 100\""),
-        }
+            ValueKind::TruthValue => "true or false",
+            ValueKind::Transport => "\"ipv4\" or \"ipv6\"",
+            ValueKind::Ipv4Network => "an IPv4 address with a length, as 192.168.0.2/24",
+            ValueKind::Ipv6Address => "an IPv6 address, as fe80::1",
+            ValueKind::Address => "an address, as 192.168.0.1 or fe80::1",
+            ValueKind::Prefix => "a prefix, as 10.0.0.0/8 or 2001:db8::/32",
+            ValueKind::Event => "an event, as \"tick 0 100\"",
+        })
     }
 }
 
-/// Whether the value at a key is one value, or a list of them.
+/// What is at a key.
 #[derive(Clone, Copy)]
-pub(crate) enum Shape {
-    One,
-    List,
+pub(crate) enum Form {
+    /// A value of this kind, which the table must have.
+    Required(ValueKind),
+    /// A value of this kind, which the table may have.
+    Optional(ValueKind),
+    /// A list of such values, and what one of them is called.
+    List(ValueKind, &'static str),
+    /// A list of tables. It is read last.
+    Tables,
 }
 
-/// Whether a table must have the key.
-#[derive(Clone, Copy)]
-pub(crate) enum Presence {
-    Required,
-    Optional,
-}
-
-/// What the value at a key is.
+/// A key, and what is there.
 #[derive(Clone, Copy)]
 pub(crate) struct Rule {
-    pub(crate) key: Key,
-    pub(crate) kind: ValueKind,
-    pub(crate) shape: Shape,
-    pub(crate) presence: Presence,
+    pub(crate) key: &'static str,
+    pub(crate) form: Form,
 }
 
-fn required(key: Key, kind: ValueKind) -> Rule {
+static SCENARIO_RULES: [Rule; 2] = [
     Rule {
-        key,
-        kind,
-        shape: Shape::One,
-        presence: Presence::Required,
-    }
-}
-
-fn optional(key: Key, kind: ValueKind) -> Rule {
+        key: "events",
+        form: Form::List(ValueKind::Event, "event"),
+    },
     Rule {
-        key,
-        kind,
-        shape: Shape::One,
-        presence: Presence::Optional,
-    }
-}
+        key: "node",
+        form: Form::Tables,
+    },
+];
 
-fn list(key: Key, kind: ValueKind) -> Rule {
+static CONFIG_RULES: [Rule; 5] = [
     Rule {
-        key,
-        kind,
-        shape: Shape::List,
-        presence: Presence::Optional,
-    }
-}
+        key: "router-id",
+        form: Form::Required(ValueKind::RouterId),
+    },
+    Rule {
+        key: "seqno",
+        form: Form::Optional(ValueKind::Number(0, 65535)),
+    },
+    Rule {
+        key: "collect",
+        form: Form::Optional(ValueKind::TruthValue),
+    },
+    Rule {
+        key: "prefixes",
+        form: Form::List(ValueKind::Prefix, "prefix"),
+    },
+    Rule {
+        key: "interface",
+        form: Form::Tables,
+    },
+];
 
-/// The keys of a scenario but `node`, which is read last.
-pub(crate) fn scenario_rules() -> [Rule; 1] {
-    [list(Key::Events, ValueKind::Event)]
-}
-
-/// The keys of a configuration but `interface`, which is read last.
-pub(crate) fn config_rules() -> [Rule; 4] {
-    [
-        required(Key::RouterId, ValueKind::RouterId),
-        optional(Key::Seqno, ValueKind::Number(0, 65535)),
-        optional(Key::Collect, ValueKind::TruthValue),
-        list(Key::Prefixes, ValueKind::Prefix),
-    ]
-}
-
-/// The keys of an interface.
-pub(crate) fn interface_rules() -> [Rule; 6] {
-    [
-        required(Key::Transport, ValueKind::Transport),
-        optional(Key::Ipv4, ValueKind::Ipv4Network),
-        optional(Key::Ipv6, ValueKind::Ipv6Address),
-        list(Key::Peers, ValueKind::Address),
-        optional(Key::Cost, ValueKind::Number(1, 65534)),
-        optional(Key::Hello, ValueKind::Number(1, 4000)),
-    ]
-}
+static INTERFACE_RULES: [Rule; 6] = [
+    Rule {
+        key: "transport",
+        form: Form::Required(ValueKind::Transport),
+    },
+    Rule {
+        key: "ipv4",
+        form: Form::Optional(ValueKind::Ipv4Network),
+    },
+    Rule {
+        key: "ipv6",
+        form: Form::Optional(ValueKind::Ipv6Address),
+    },
+    Rule {
+        key: "peers",
+        form: Form::List(ValueKind::Address, "peer"),
+    },
+    Rule {
+        key: "cost",
+        form: Form::Optional(ValueKind::Number(1, 65534)),
+    },
+    Rule {
+        key: "hello",
+        form: Form::Optional(ValueKind::Number(1, 4000)),
+    },
+];

@@ -3,13 +3,10 @@
 use crate::events::event_text_problem;
 use crate::explaining::FileKind;
 use crate::findings::Finding;
-use crate::keys::Key;
 use crate::locations::{Location, Owner};
 use crate::nearest::Nearest;
-use crate::problems::{Found, Problem};
-use crate::rules::{
-    Presence, Rule, Shape, TableKind, ValueKind, config_rules, interface_rules, scenario_rules,
-};
+use crate::rules::{Form, Rule, TableKind, ValueKind};
+use crate::sentences::Word;
 use babel_text::{parse_network, parse_prefix, parse_router_id};
 use babel_value::Addr;
 use std::alloc::Global;
@@ -33,182 +30,205 @@ impl Schema {
     }
 
     fn scenario_problem<'a>(self, file: &'a Value) -> Option<Finding<'a>> {
-        let Value::Table(table) = file else {
-            return None;
-        };
-        let owner = Owner::FILE;
-        if let Some(finding) = self.unknown_key(TableKind::Scenario, owner, table) {
-            return Some(finding);
+        let found = self.table_problem(TableKind::Scenario, Owner::FILE, file);
+        if found.is_some() {
+            return found;
         }
-        for rule in scenario_rules() {
-            if let Some(finding) = self.rule_problem(rule, owner, file) {
-                return Some(finding);
-            }
-        }
-        self.nodes_problem(file.get("node")?)
-    }
-
-    fn nodes_problem<'a>(self, nodes: &'a Value) -> Option<Finding<'a>> {
-        let Value::Array(nodes) = nodes else {
-            let problem = Problem::NotTables(Key::Node, kind_of(nodes));
-            return Some(Finding::of_key(Owner::FILE, Key::Node, problem));
+        let list = file.get("node")?;
+        let Value::Array(nodes) = list else {
+            return Some(not_tables(Owner::FILE, "node", list));
         };
         for (node, value) in nodes.iter().enumerate() {
-            if let Some(finding) = self.config_problem(Owner::of_node(node), value) {
-                return Some(finding);
+            let found = self.config_problem(Owner::of_node(node), value);
+            if found.is_some() {
+                return found;
             }
         }
         None
     }
 
     fn config_problem<'a>(self, owner: Owner, value: &'a Value) -> Option<Finding<'a>> {
-        let Value::Table(table) = value else {
-            return Some(Finding::of_table(owner, Problem::NotATable(Key::Node)));
-        };
-        if let Some(finding) = self.unknown_key(TableKind::Config, owner, table) {
-            return Some(finding);
+        let found = self.table_problem(TableKind::Config, owner, value);
+        if found.is_some() {
+            return found;
         }
-        for rule in config_rules() {
-            if let Some(finding) = self.rule_problem(rule, owner, value) {
-                return Some(finding);
-            }
-        }
-        self.interfaces_problem(owner, value.get("interface")?)
-    }
-
-    fn interfaces_problem<'a>(self, owner: Owner, list: &'a Value) -> Option<Finding<'a>> {
+        let list = value.get("interface")?;
         let Value::Array(interfaces) = list else {
-            let problem = Problem::NotTables(Key::Interface, kind_of(list));
-            return Some(Finding::of_key(owner, Key::Interface, problem));
+            return Some(not_tables(owner, "interface", list));
         };
         for (iface, value) in interfaces.iter().enumerate() {
-            if let Some(finding) = self.interface_problem(owner.interface(iface), value) {
-                return Some(finding);
+            let found = self.table_problem(TableKind::Interface, owner.interface(iface), value);
+            if found.is_some() {
+                return found;
             }
         }
         None
     }
 
-    fn interface_problem<'a>(self, owner: Owner, value: &'a Value) -> Option<Finding<'a>> {
+    /// The first fault of a table, but for those of the tables in it.
+    fn table_problem<'a>(
+        self,
+        kind: TableKind,
+        owner: Owner,
+        value: &'a Value,
+    ) -> Option<Finding<'a>> {
         let Value::Table(table) = value else {
-            return Some(Finding::of_table(owner, Problem::NotATable(Key::Interface)));
+            let words = [Word::Owner(owner), Word::Text(kind.list()), Word::Empty];
+            let text = "{} is not a table; write [[{}]] above its keys";
+            return Some(Finding::new(owner.table(), text, words));
         };
-        if let Some(finding) = self.unknown_key(TableKind::Interface, owner, table) {
-            return Some(finding);
+        for (key, _value) in table.iter() {
+            let key = key.as_str();
+            if !has_key(kind, key) {
+                return Some(self.unknown_key(kind, owner, key));
+            }
         }
-        for rule in interface_rules() {
-            if let Some(finding) = self.rule_problem(rule, owner, value) {
-                return Some(finding);
+        for rule in kind.rules() {
+            let found = self.rule_problem(*rule, owner, table);
+            if found.is_some() {
+                return found;
             }
         }
         None
     }
 
     /// A key that the table may not have.
-    fn unknown_key<'a>(
-        self,
-        kind: TableKind,
-        owner: Owner,
-        table: &'a Table,
-    ) -> Option<Finding<'a>> {
-        for (key, _value) in table.iter() {
-            let key = key.as_str();
-            if !has_key(kind, key) {
-                return Some(Finding {
-                    at: Location::of_table(owner),
-                    text: key,
-                    problem: Problem::UnknownKey(kind, self.nearest_key(kind, key)),
-                });
-            }
+    fn unknown_key<'a>(self, kind: TableKind, owner: Owner, key: &'a str) -> Finding<'a> {
+        let mut nearest = Nearest::to(key);
+        for rule in kind.rules() {
+            nearest.take(self.alloc, rule.key);
         }
-        None
-    }
-
-    fn nearest_key(self, kind: TableKind, text: &str) -> Option<Key> {
-        let mut nearest = Nearest::to(text);
-        for key in kind.keys() {
-            nearest.take(self.alloc, *key, key.name());
-        }
-        nearest.found
+        let (text, word) = match nearest.found {
+            Some(near) => (
+                "unknown key '{}' in {}; did you mean '{}'?",
+                Word::Text(near),
+            ),
+            None => ("unknown key '{}' in {}; the keys are {}", Word::Keys(kind)),
+        };
+        let words = [Word::Text(key), Word::Owner(owner), word];
+        Finding::new(Location::of_name(owner, key), text, words)
     }
 
     /// What is wrong with the value at a key.
-    fn rule_problem<'a>(self, rule: Rule, owner: Owner, table: &'a Value) -> Option<Finding<'a>> {
-        let at = Location::of_key(owner, rule.key);
-        match table.get(rule.key.name()) {
-            Some(value) => match rule.shape {
-                Shape::One => self.value_problem(rule, at, value),
-                Shape::List => self.list_problem(rule, owner, value),
-            },
-            None => match rule.presence {
-                Presence::Required => {
-                    Some(Finding::of_table(owner, Problem::MissingKey(rule.key)))
-                }
-                Presence::Optional => None,
-            },
+    fn rule_problem<'a>(self, rule: Rule, owner: Owner, table: &'a Table) -> Option<Finding<'a>> {
+        let at = owner.key(rule.key);
+        match (table.get(rule.key), rule.form) {
+            (Some(value), Form::Required(kind)) | (Some(value), Form::Optional(kind)) => {
+                self.value_problem(at, rule.key, kind, value)
+            }
+            (Some(Value::Array(items)), Form::List(kind, noun)) => {
+                self.list_problem(at, noun, kind, items.as_slice())
+            }
+            (Some(value), Form::List(_, _)) => Some(not_a_list(at, rule.key, value)),
+            (None, Form::Required(kind)) => Some(missing_key(owner, rule.key, kind)),
+            _ => None,
         }
     }
 
-    fn list_problem<'a>(self, rule: Rule, owner: Owner, list: &'a Value) -> Option<Finding<'a>> {
-        let Value::Array(items) = list else {
-            let problem = Problem::NotAList(rule.key, kind_of(list));
-            return Some(Finding::of_key(owner, rule.key, problem));
-        };
+    /// What is wrong with an element of the list at a key.
+    fn list_problem<'a>(
+        self,
+        at: Location<'a>,
+        noun: &'static str,
+        kind: ValueKind,
+        items: &'a [Value],
+    ) -> Option<Finding<'a>> {
         for (index, item) in items.iter().enumerate() {
-            let at = Location::of_element(owner, rule.key, index);
-            if let Some(finding) = self.value_problem(rule, at, item) {
-                return Some(finding);
+            let found = self.value_problem(at.element(index), noun, kind, item);
+            if found.is_some() {
+                return found;
             }
         }
         None
     }
 
     /// What is wrong with a value that is no list and no table.
-    fn value_problem<'a>(self, rule: Rule, at: Location, value: &'a Value) -> Option<Finding<'a>> {
-        let text = value.as_str().unwrap_or("");
-        let problem = match value {
-            Value::String(_) if rule.kind.is_text() => self.text_problem(rule, at.index, text)?,
-            Value::Integer(number) => number_problem(rule, *number)?,
-            Value::Boolean(_) if matches!(rule.kind, ValueKind::TruthValue) => return None,
-            other => Problem::WrongKind(rule.key, kind_of(other), rule.kind),
+    fn value_problem<'a>(
+        self,
+        at: Location<'a>,
+        noun: &'static str,
+        kind: ValueKind,
+        value: &'a Value,
+    ) -> Option<Finding<'a>> {
+        let (text, word) = match (value, kind) {
+            (Value::String(text), ValueKind::Event) => {
+                return self.event_problem(at, text.as_str());
+            }
+            (Value::String(text), _) if kind.is_text() => {
+                if is_readable(kind, text.as_str()) {
+                    return None;
+                }
+                ("{} {} is not {}", Word::Excerpt(text.as_str()))
+            }
+            (Value::Integer(number), ValueKind::Number(least, greatest)) => {
+                if u16::try_from(*number).is_ok() {
+                    return None;
+                }
+                return Some(Finding::out_of_range(at, noun, *number, (least, greatest)));
+            }
+            (Value::Boolean(_), ValueKind::TruthValue) => return None,
+            (other, _) => (wrong_kind(kind, other), Word::Text(kind_of(other))),
         };
-        Some(Finding { at, text, problem })
+        Some(Finding::new(at, text, [Word::Text(noun), word, Word::Kind(kind)]))
     }
 
-    fn text_problem(self, rule: Rule, index: Option<usize>, text: &str) -> Option<Problem> {
-        if matches!(rule.kind, ValueKind::Event) {
-            let number = index?;
-            if self.bad_event != Some(number) {
-                return None;
-            }
-            let problem = event_text_problem(self.alloc, text);
-            return Some(Problem::Event(number, problem));
-        }
-        if is_readable(rule.kind, text) {
+    /// What is wrong with the text of an event. Which one can't be read is known.
+    fn event_problem<'a>(self, at: Location<'a>, text: &'a str) -> Option<Finding<'a>> {
+        let number = at.index?;
+        if self.bad_event != Some(number) {
             return None;
         }
-        Some(Problem::BadText(rule.key, rule.kind))
+        Some(Finding {
+            at,
+            event: Some((number, text)),
+            problem: event_text_problem(self.alloc, text),
+        })
     }
 }
 
 /// Whether a table of this kind may have the key.
 fn has_key(kind: TableKind, key: &str) -> bool {
-    for known in kind.keys() {
-        if known.name() == key {
+    for rule in kind.rules() {
+        if rule.key == key {
             return true;
         }
     }
     false
 }
 
-/// What is wrong with a number.
-fn number_problem(rule: Rule, number: i64) -> Option<Problem> {
-    match rule.kind {
-        ValueKind::Number(least, greatest) => match u16::try_from(number) {
-            Ok(_) => None,
-            Err(_) => Some(Problem::OutOfRange(rule.key, number, (least, greatest))),
-        },
-        kind => Some(Problem::WrongKind(rule.key, Found::Number, kind)),
+/// The value at a key isn't a list.
+fn not_a_list<'a>(at: Location<'a>, key: &'a str, value: &Value) -> Finding<'a> {
+    let text = "'{}' is {}, and must be a list, as {} = [..]";
+    let words = [Word::Text(key), Word::Text(kind_of(value)), Word::Text(key)];
+    Finding::new(at, text, words)
+}
+
+/// The value at a key isn't a list of tables.
+fn not_tables<'a>(owner: Owner, key: &'a str, value: &Value) -> Finding<'a> {
+    let text = "'{}' is {}, and must be a list of tables; write [[{}]] above the keys of each";
+    let words = [Word::Text(key), Word::Text(kind_of(value)), Word::Text(key)];
+    Finding::new(owner.key(key), text, words)
+}
+
+fn missing_key<'a>(owner: Owner, key: &'a str, kind: ValueKind) -> Finding<'a> {
+    let text = match kind {
+        ValueKind::Transport => {
+            "{} has no key '{}'; write transport = \"ipv4\" or transport = \"ipv6\""
+        }
+        _ => "{} has no key '{}'; write router-id = \"..\" with 16 hexadecimal digits",
+    };
+    let words = [Word::Owner(owner), Word::Text(key), Word::Empty];
+    Finding::new(owner.table(), text, words)
+}
+
+/// The sentence about a value of another kind than it must be.
+fn wrong_kind(kind: ValueKind, value: &Value) -> &'static str {
+    match value {
+        Value::String(_) => "{} is {}, and must be {}; write it without quotation marks",
+        Value::Integer(_) if kind.is_text() => {
+            "{} is {}, and must be {}; write it in quotation marks"
+        }
+        _ => "{} is {}, and must be {}",
     }
 }
 
@@ -216,7 +236,7 @@ fn number_problem(rule: Rule, number: i64) -> Option<Problem> {
 fn is_readable(kind: ValueKind, text: &str) -> bool {
     match kind {
         ValueKind::RouterId => parse_router_id(text).is_some(),
-        ValueKind::Transport => text == "ipv4" || text == "ipv6",
+        ValueKind::Transport => matches!(text, "ipv4" | "ipv6"),
         ValueKind::Ipv4Network => matches!(parse_network(text), Some((Addr::V4(_), _))),
         ValueKind::Ipv6Address => matches!(text.parse::<Addr>(), Ok(Addr::V6(_))),
         ValueKind::Address => text.parse::<Addr>().is_ok(),
@@ -226,14 +246,14 @@ fn is_readable(kind: ValueKind, text: &str) -> bool {
 }
 
 /// What a value is.
-fn kind_of(value: &Value) -> Found {
+fn kind_of(value: &Value) -> &'static str {
     match value {
-        Value::String(_) => Found::Text,
-        Value::Integer(_) => Found::Number,
-        Value::Float(_) => Found::Fraction,
-        Value::Boolean(_) => Found::TruthValue,
-        Value::Datetime(_) => Found::Date,
-        Value::Array(_) => Found::List,
-        Value::Table(_) => Found::Table,
+        Value::String(_) => "a text",
+        Value::Integer(_) => "a number",
+        Value::Float(_) => "a number with a fraction",
+        Value::Boolean(_) => "a truth value",
+        Value::Datetime(_) => "a date",
+        Value::Array(_) => "a list",
+        Value::Table(_) => "a table",
     }
 }

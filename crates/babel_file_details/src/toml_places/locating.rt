@@ -30,7 +30,12 @@ pub fn locate<'t>(alloc: Global, text: &'t str, path: &[Step<'_>]) -> Option<Pla
         if start.is_empty() {
             return None;
         }
-        rest = match take_line(alloc, start, path, &mut section)? {
+        let line = if start.starts_with('[') {
+            take_header(alloc, start, path, &mut section)?
+        } else {
+            take_pair(alloc, start, path, &section)?
+        };
+        rest = match line {
             Line::Found(place) => return Some(place),
             Line::Other(after) => after,
         };
@@ -98,20 +103,14 @@ impl Section {
         self.at_key(depth, key.last.as_str(), path)
     }
 
-    /// Goes into the table of a header `[key]`.
-    fn enter_table(&mut self, key: &Key, path: &[Step<'_>]) {
-        self.depth = self.along_header(key, path);
-    }
-
-    /// Goes into the new element of a header `[[key]]`.
-    fn enter_element(&mut self, key: &Key, path: &[Step<'_>]) {
-        self.depth = match self.along_header(key, path) {
-            Some(depth) if depth < path.len() => {
+    /// Goes on from the list of a header `[[key]]` into its new element.
+    fn enter_element(&mut self, path: &[Step<'_>]) {
+        if let Some(depth) = self.depth {
+            if depth < path.len() {
                 self.count_element(depth);
-                self.in_last_element(depth, path)
+                self.depth = self.in_last_element(depth, path);
             }
-            other => other,
-        };
+        }
     }
 
     /// One more element of the list after so many steps; the lists in it begin.
@@ -126,20 +125,6 @@ impl Section {
     }
 }
 
-/// Takes a header or a pair.
-fn take_line<'t>(
-    alloc: Global,
-    start: &'t str,
-    path: &[Step<'_>],
-    section: &mut Section,
-) -> Option<Line<'t>> {
-    if start.starts_with('[') {
-        take_header(alloc, start, path, section)
-    } else {
-        take_pair(alloc, start, path, section)
-    }
-}
-
 fn take_header<'t>(
     alloc: Global,
     start: &'t str,
@@ -147,11 +132,12 @@ fn take_header<'t>(
     section: &mut Section,
 ) -> Option<Line<'t>> {
     let rest = match start.strip_prefix("[[") {
-        Some(name) => enter_element(alloc, name, path, section)?.strip_prefix("]]")?,
-        None => {
-            let name = start.strip_prefix('[')?;
-            enter_table(alloc, name, path, section)?.strip_prefix(']')?
+        Some(name) => {
+            let rest = enter(alloc, name, path, section)?.strip_prefix("]]")?;
+            section.enter_element(path);
+            rest
         }
+        None => enter(alloc, start.strip_prefix('[')?, path, section)?.strip_prefix(']')?,
     };
     Some(match section.depth {
         Some(depth) if depth == path.len() => Line::Found(Place {
@@ -162,27 +148,15 @@ fn take_header<'t>(
     })
 }
 
-/// Goes into the new element of a header. Returns what follows its key.
-fn enter_element<'t>(
+/// Goes into the table or list that a header names. Returns what follows its key.
+fn enter<'t>(
     alloc: Global,
     name: &'t str,
     path: &[Step<'_>],
     section: &mut Section,
 ) -> Option<&'t str> {
     let (key, rest) = read_key(alloc, skip_ws(name))?;
-    section.enter_element(&key, path);
-    Some(rest)
-}
-
-/// Goes into the table of a header. Returns what follows its key.
-fn enter_table<'t>(
-    alloc: Global,
-    name: &'t str,
-    path: &[Step<'_>],
-    section: &mut Section,
-) -> Option<&'t str> {
-    let (key, rest) = read_key(alloc, skip_ws(name))?;
-    section.enter_table(&key, path);
+    section.depth = section.along_header(&key, path);
     Some(rest)
 }
 

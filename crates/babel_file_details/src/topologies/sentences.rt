@@ -1,13 +1,13 @@
 //! The sentence about a file that is refused.
 
-use crate::explaining::{write_sentence, write_syntax_error};
+use crate::explaining::{write_place, write_syntax_error};
+use crate::sentences::{Sentence, Word};
 use crate::toml_places::FileText;
 use crate::topologies::places::{element_of, position_of};
 use babel_line_details::Excerpt;
 use babel_topology::TopologyFault;
 use babel_topology::file::{Cause, FILE_KEYS, LINK_KEYS, NODE_KEYS, Part, Problem, first_problem};
 use std::alloc::Global;
-use std::fmt;
 use std::io::{self, Write};
 use toml::Table;
 
@@ -46,8 +46,8 @@ fn write_problem<W: Write>(
     problem: &Problem<'_>,
     out: &mut W,
 ) -> io::Result<()> {
-    let position = position_of(alloc, file.octets, problem);
-    write_sentence(file.name, position, &Sentence(problem), out)
+    write_place(file.name, position_of(alloc, file.octets, problem), out)?;
+    writeln!(out, "{}", sentence_of(problem))
 }
 
 fn write_fault<W: Write>(
@@ -109,46 +109,56 @@ const STEP_FORM: &str =
     "write 'at TIME' and 'cut A-B', 'join A-B', 'cost A-B N' (1 to 65534), 'lossy A-B N %' (0 to 100), \
 'announce A PREFIX', 'withdraw A PREFIX', 'restart A' or 'crash A'";
 
-/// A problem, as it is written.
-#[derive(Clone, Copy)]
-struct Sentence<'a>(&'a Problem<'a>);
-
-impl fmt::Display for Sentence<'_> {
-    fn fmt<W: fmt::Write>(&self, f: &mut fmt::Formatter<W>) -> fmt::Result {
-        let key = self.0.key;
-        match self.0.cause {
-            Cause::UnknownKey => write!(
-                f,
-                "unknown key '{key}' in {}; the keys are {}",
-                TableName(self.0.part),
-                keys_of(self.0.part)
-            ),
-            Cause::MissingKey => write!(f, "{} has no key '{key}'", TableName(self.0.part)),
-            Cause::WrongKind(kind) => write!(f, "'{key}' must be {kind}"),
-            Cause::OutOfRange(number, kind) => write!(f, "{key} = {number} is not {kind}"),
-            Cause::BadText(text, kind) => write!(f, "{key} {} is not {kind}", Excerpt(text)),
-        }
-    }
+fn sentence_of<'a>(problem: &Problem<'a>) -> Sentence<'a> {
+    let key = Word::Text(problem.key);
+    let (text, words) = match problem.cause {
+        Cause::UnknownKey => return unknown_key(problem.part, key),
+        Cause::MissingKey => return missing_key(problem.part, key),
+        Cause::WrongKind(kind) => (
+            "'{}' must be {}",
+            [key, Word::TopologyKind(kind), Word::Empty],
+        ),
+        Cause::OutOfRange(number, kind) => (
+            "{} = {} is not {}",
+            [key, Word::Number(number), Word::TopologyKind(kind)],
+        ),
+        Cause::BadText(text, kind) => (
+            "{} {} is not {}",
+            [key, Word::Excerpt(text), Word::TopologyKind(kind)],
+        ),
+    };
+    Sentence { text, words }
 }
 
-/// The name of a table, as it is written.
-#[derive(Clone, Copy)]
-struct TableName(Part);
-
-impl fmt::Display for TableName {
-    fn fmt<W: fmt::Write>(&self, f: &mut fmt::Formatter<W>) -> fmt::Result {
-        match self.0 {
-            Part::File => f.write_str("the file"),
-            Part::Node(number) => write!(f, "node {number}"),
-            Part::Link(number) => write!(f, "link {number}"),
-        }
-    }
+fn unknown_key(part: Part, key: Word<'_>) -> Sentence<'_> {
+    let (text, words) = match part {
+        Part::File => (
+            "unknown key '{}' in the file; the keys are {}",
+            [key, Word::Text(FILE_KEYS), Word::Empty],
+        ),
+        Part::Node(number) => (
+            "unknown key '{}' in node {}; the keys are {}",
+            [key, Word::Count(number), Word::Text(NODE_KEYS)],
+        ),
+        Part::Link(number) => (
+            "unknown key '{}' in link {}; the keys are {}",
+            [key, Word::Count(number), Word::Text(LINK_KEYS)],
+        ),
+    };
+    Sentence { text, words }
 }
 
-fn keys_of(part: Part) -> &'static str {
-    match part {
-        Part::File => FILE_KEYS,
-        Part::Node(_) => NODE_KEYS,
-        Part::Link(_) => LINK_KEYS,
-    }
+fn missing_key(part: Part, key: Word<'_>) -> Sentence<'_> {
+    let (text, words) = match part {
+        Part::File => ("the file has no key '{}'", [key, Word::Empty, Word::Empty]),
+        Part::Node(number) => (
+            "node {} has no key '{}'",
+            [Word::Count(number), key, Word::Empty],
+        ),
+        Part::Link(number) => (
+            "link {} has no key '{}'",
+            [Word::Count(number), key, Word::Empty],
+        ),
+    };
+    Sentence { text, words }
 }
