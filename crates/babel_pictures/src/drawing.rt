@@ -4,10 +4,12 @@
 //! - `shapes`: the shape of a network, if its links have one.
 //! - `places`: where the nodes are drawn; `forces` places those of a network without a shape.
 //! - `svg`: the whole SVG; `network` and `timeline` are its two parts, and `style` has its colours.
+//! - `elements`: the lines and texts of both.
 //! - `dot`: the file for Graphviz.
 //! - `texts`: escaped and shortened texts; `numbers`: floats, which nothing but drawing needs.
 
 mod dot;
+mod elements;
 mod forces;
 mod network;
 mod numbers;

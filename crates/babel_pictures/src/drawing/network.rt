@@ -1,5 +1,6 @@
 //! The network of an SVG: links, next hops, and a box for each node.
 
+use crate::drawing::elements::{write_line, write_text};
 use crate::drawing::numbers::{Place, greater, smaller, whole};
 use crate::drawing::pictures::{DrawnLink, DrawnNode, Hop, LinkState, Picture};
 use crate::drawing::places::{BOX_HEIGHT, Layout, box_width};
@@ -32,13 +33,11 @@ fn write_link<W: Write>(link: &DrawnLink, layout: &Layout, out: &mut W) -> io::R
         return Ok(());
     };
     let class = match link.state {
-        LinkState::Up => "link",
-        LinkState::Lossy => "link lossy",
-        LinkState::Cut => "link cut",
+        LinkState::Up => "class=\"link\"",
+        LinkState::Lossy => "class=\"link lossy\"",
+        LinkState::Cut => "class=\"link cut\"",
     };
-    let (ax, ay) = (whole(a.x), whole(a.y));
-    let (bx, by) = (whole(b.x), whole(b.y));
-    writeln!(out, "<path class=\"{class}\" d=\"M{ax} {ay}L{bx} {by}\"/>")
+    write_line(class, *a, *b, out)
 }
 
 /// Writes the cost of a link, next to its middle.
@@ -50,11 +49,8 @@ fn write_cost<W: Write>(link: &DrawnLink, layout: &Layout, out: &mut W) -> io::R
         return Ok(());
     };
     let middle = a.plus(*b).times(0.5);
-    let (x, y) = (whole(middle.x), whole(middle.y).saturating_add(4));
-    writeln!(
-        out,
-        "<text class=\"cost\" text-anchor=\"middle\" x=\"{x}\" y=\"{y}\">{cost}</text>"
-    )
+    let at = (whole(middle.x), whole(middle.y).saturating_add(4));
+    write_text("class=\"cost\" text-anchor=\"middle\"", at, &cost, out)
 }
 
 /// Writes the arrow to the next hop of a node.
@@ -79,12 +75,7 @@ fn write_hop<W: Write>(
     let side = if picture.uses(next, node) { 4.0 } else { 0.0 };
     let (from, to) = shifted(*from, *to, side);
     let end = edge_of(from, to, box_width(letters));
-    let (fx, fy) = (whole(from.x), whole(from.y));
-    let (ex, ey) = (whole(end.x), whole(end.y));
-    writeln!(
-        out,
-        "<path class=\"hop\" marker-end=\"url(#head)\" d=\"M{fx} {fy}L{ex} {ey}\"/>"
-    )
+    write_line("class=\"hop\" marker-end=\"url(#head)\"", from, end, out)
 }
 
 /// The same line, so many pixels to the side.

@@ -65,7 +65,7 @@ fn write_legend<W: Write>(moment: Seconds, out: &mut W) -> io::Result<()> {
     write!(
         out,
         "<g transform=\"translate({MARGIN} 50)\">\n\
-<text class=\"quiet\" y=\"4\">after {moment} s:</text>\n{LEGEND}"
+<text class=\"quiet\" y=\"4\">after {moment}:</text>\n{LEGEND}"
     )
 }
 

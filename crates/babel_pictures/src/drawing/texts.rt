@@ -76,7 +76,7 @@ impl fmt::Display for Quoted<'_> {
     }
 }
 
-/// A time as seconds with a fraction, without zeros at its end.
+/// A time as seconds with a fraction, without zeros at its end, and the unit.
 #[derive(Clone, Copy)]
 pub(crate) struct Seconds(pub(crate) u64);
 
@@ -86,11 +86,11 @@ impl fmt::Display for Seconds {
         let tenths = self.0 / 10 % 10;
         let hundredths = self.0 % 10;
         if hundredths != 0 {
-            write!(f, "{whole}.{tenths}{hundredths}")
+            write!(f, "{whole}.{tenths}{hundredths} s")
         } else if tenths != 0 {
-            write!(f, "{whole}.{tenths}")
+            write!(f, "{whole}.{tenths} s")
         } else {
-            write!(f, "{whole}")
+            write!(f, "{whole} s")
         }
     }
 }

@@ -1,9 +1,17 @@
 //! The timeline of an SVG: a row for each node, and the moments at which something happened.
 
+use crate::drawing::elements::{write_text, write_upright};
 use crate::drawing::numbers::{number, smaller, time, whole};
 use crate::drawing::pictures::{Hop, Mark, Picture, Row, Span, Timeline};
 use crate::drawing::texts::{Escaped, Seconds, Short, drawn_len};
 use std::io::{self, Write};
+
+/// The attributes of a text that begins at its place, of one around it, and of one that ends there.
+const START: &str = "class=\"quiet\" text-anchor=\"start\"";
+
+const MIDDLE: &str = "class=\"quiet\" text-anchor=\"middle\"";
+
+const END: &str = "class=\"quiet\" text-anchor=\"end\"";
 
 /// The width of the names on the left, in pixels.
 const NAMES: i64 = 112;
@@ -124,12 +132,8 @@ fn write_axis<W: Write>(scale: &Scale, top: i64, bottom: i64, out: &mut W) -> io
             break;
         }
         let x = scale.at(moment);
-        let seconds = Seconds(moment);
-        writeln!(
-            out,
-            "<path class=\"line\" d=\"M{x} {top}V{bottom}\"/>\n\
-<text class=\"quiet\" text-anchor=\"middle\" x=\"{x}\" y=\"{low}\">{seconds} s</text>"
-        )?;
+        write_upright("line", x, top, bottom, out)?;
+        write_text(MIDDLE, (x, low), &Seconds(moment), out)?;
     }
     Ok(())
 }
@@ -138,13 +142,8 @@ fn write_name<W: Write>(picture: &Picture, node: usize, y: i64, out: &mut W) -> 
     let Some(node) = picture.nodes.get(node) else {
         return Ok(());
     };
-    let name = Short(&node.name);
-    let x = NAMES - 8;
-    let low = y.saturating_add(12);
-    writeln!(
-        out,
-        "<text class=\"quiet\" text-anchor=\"end\" x=\"{x}\" y=\"{low}\">{name}</text>"
-    )
+    let at = (NAMES - 8, y.saturating_add(12));
+    write_text(END, at, &Short(&node.name), out)
 }
 
 fn write_row<W: Write>(
@@ -201,10 +200,10 @@ fn write_bar_text<W: Write>(
     out: &mut W,
 ) -> io::Result<()> {
     let (class, text) = match span.hop {
-        Hop::Announces => ("small in", "announces"),
-        Hop::Via(next) => ("small", name_of(picture, next)),
-        Hop::Unreachable => ("small", "no route"),
-        Hop::Down => ("small quiet", "stopped"),
+        Hop::Announces => ("class=\"small in\"", "announces"),
+        Hop::Via(next) => ("class=\"small\"", name_of(picture, next)),
+        Hop::Unreachable => ("class=\"small\"", "no route"),
+        Hop::Down => ("class=\"small quiet\"", "stopped"),
     };
     let letters = drawn_len(text).min(100) as i64;
     if width < letters.saturating_mul(7).saturating_add(8) {
@@ -216,11 +215,7 @@ fn write_bar_text<W: Write>(
     } else {
         13
     });
-    let short = Short(text);
-    writeln!(
-        out,
-        "<text class=\"{class}\" x=\"{x}\" y=\"{y}\">{short}</text>"
-    )
+    write_text(class, (x, y), &Short(text), out)
 }
 
 fn name_of(picture: &Picture, node: usize) -> &str {
@@ -287,16 +282,12 @@ fn write_mark<W: Write>(
     out: &mut W,
 ) -> io::Result<()> {
     let (x, y) = at;
-    let text = Escaped(&mark.text);
-    let (anchor, begin) = match side {
-        Side::Left => ("end", x.saturating_sub(4)),
-        Side::Right => ("start", x.saturating_add(4)),
+    let (attributes, begin) = match side {
+        Side::Left => (END, x.saturating_sub(4)),
+        Side::Right => (START, x.saturating_add(4)),
     };
-    writeln!(
-        out,
-        "<path class=\"mark\" d=\"M{x} {y}V{bottom}\"/>\n\
-<text class=\"quiet\" text-anchor=\"{anchor}\" x=\"{begin}\" y=\"{y}\">{text}</text>"
-    )
+    write_upright("mark", x, y, bottom, out)?;
+    write_text(attributes, (begin, y), &Escaped(&mark.text), out)
 }
 
 /// Writes the moment that the network is drawn at.
@@ -311,9 +302,6 @@ fn write_moment<W: Write>(
     let low = bottom.saturating_add(6);
     let text = bottom.saturating_add(32);
     let high = top.saturating_sub(2);
-    writeln!(
-        out,
-        "<path class=\"moment\" d=\"M{x} {high}V{low}\"/>\n\
-<text class=\"quiet\" text-anchor=\"middle\" x=\"{x}\" y=\"{text}\">shown above</text>"
-    )
+    write_upright("moment", x, high, low, out)?;
+    write_text(MIDDLE, (x, text), &"shown above", out)
 }
