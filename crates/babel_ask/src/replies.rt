@@ -10,6 +10,7 @@ use crate::objects::{Value, write_objects};
 use crate::reasons::{write_reason_objects, write_reasons};
 use crate::tables::{Colours, write_table};
 use std::io::{self, Write};
+use thiserror::Error;
 
 /// In which form a reply is shown.
 #[derive(Clone, Copy)]
@@ -23,13 +24,16 @@ pub enum AnswerForm {
 }
 
 /// Why a reply isn't shown.
-#[derive(Clone, Copy, Debug, PartialEq, Eq)]
+#[derive(Clone, Copy, Debug, PartialEq, Eq, Error)]
 pub enum AskFault {
     /// No speaker of Babel replied.
+    #[error("is no control socket of a Babel speaker")]
     Foreign,
     /// The speaker doesn't know the command, or can't read the prefix.
+    #[error("the speaker can't answer that")]
     Refused,
     /// The reply can't be written.
+    #[error("the answer can't be written")]
     Output,
 }
 

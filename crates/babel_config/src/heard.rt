@@ -16,7 +16,7 @@ use std::alloc::{AllocError, Global};
 const MAX_DATAGRAM_LEN: usize = 65_535;
 
 /// A datagram that a node hears from a router that is no node of the network.
-#[derive(Drop)]
+#[derive(Debug, Drop)]
 pub struct HeardDatagram {
     /// The node that hears it.
     pub node: usize,

@@ -19,7 +19,7 @@ use std::alloc::{AllocError, Global};
 use toml::Value;
 
 /// One event of a scenario.
-#[derive(Drop)]
+#[derive(Debug, Drop)]
 pub enum ScenarioEvent {
     /// An event of the network's own nodes.
     Ours(Event),

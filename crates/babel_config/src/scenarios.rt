@@ -15,7 +15,7 @@ use std::alloc::Global;
 use toml::Value;
 
 /// A network and what happens in it.
-#[derive(Drop)]
+#[derive(Debug, Drop)]
 pub struct Scenario {
     /// The configurations of the nodes, by their numbers from 0 on.
     pub configs: Vec<Config>,

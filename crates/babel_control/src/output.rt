@@ -5,16 +5,19 @@ ghost use Rattle.babel_control.specs.Limits.{output_room};
 
 use std::alloc::Global;
 use std::marker::Model;
+use thiserror::Error;
 
 /// The most octets that wait for a client.
 pub const MAX_OUTPUT: usize = 1 << 20;
 
 /// There is no room for more, or an allocation failed.
-#[derive(Clone, Copy)]
+#[derive(Clone, Copy, Debug, Error)]
 pub enum OutputFull {
-    /// More than `MAX_OUTPUT` octets would wait: the client doesn't read.
+    /// More than `MAX_OUTPUT` octets would wait.
+    #[error("the client doesn't read")]
     Room,
     /// An allocation failed.
+    #[error("out of memory")]
     Memory,
 }
 

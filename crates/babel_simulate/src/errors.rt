@@ -2,17 +2,22 @@
 
 use babel_machine::{NetFault, StepFault};
 use std::alloc::{AllocError, AllocFailed};
+use thiserror::Error;
 
 /// Why a run ends early.
-#[derive(Clone, Copy)]
+#[derive(Clone, Copy, Debug, Error)]
 pub enum SimulationFault {
     /// No network can be made of the topology.
+    #[error("no network can be made of the nodes")]
     Net(NetFault),
     /// An event of the run is refused.
+    #[error("an event is refused")]
     Step(StepFault),
     /// The run would take more memory than it may.
+    #[error("the run would take more memory than it may")]
     Limit,
     /// An allocation failed.
+    #[error("out of memory")]
     Memory,
 }
 
