@@ -5,7 +5,7 @@
 //! function, but for that of a Next Hop: a value that goes through memory comes back wider than it was
 //! written, which stalls the processor (docs/PERFORMANCE.md).
 
-ghost use Rattle.std.specs.Prelude.{◌≡◌, ◌<◌, ◌+◌, ◌^◌, length, IfOk, IfErr, OnOk, OnErr, MatchOption, [], vec_len, vec_capacity};
+ghost use Rattle.std.specs.Prelude.{◌≡◌, ◌<◌, ◌+◌, ◌^◌, length, IfOk, IfErr, OnOk, OnErr, MatchOption, IsTrue, [], vec_len, vec_capacity};
 ghost use Rattle.babel_tlv.specs.Split.{places_of, fault_of};
 ghost use Rattle.babel_message.specs.Layout.{datagram_header_len};
 ghost use Rattle.babel_packet.specs.Contents.{put};
@@ -101,7 +101,7 @@ fn read_body(body: &[u8], source: Addr, placed: &mut Vec<Placed>) -> Result<(), 
     let mut state = ParserState::new(source);
     let mut tlvs = walk(body);
     while let Some(tlv) = tlvs.next() {
-        if placed.capacity() <= placed.len() && placed.reserve(1).is_err() {
+        if placed.capacity() <= placed.len() && !grows(placed) {
             return Err(out_of_memory(body));
         }
         read_place(tlv, &mut state, placed);
@@ -110,6 +110,16 @@ fn read_body(body: &[u8], source: Addr, placed: &mut Vec<Placed>) -> Result<(), 
         Some(fault) => Err(Refusal::Tlv(header::LEN + fault.offset)),
         None => Ok(()),
     }
+}
+
+/// Makes room for a place more. False if the memory for it was refused.
+#[cold]
+#[inline(never)]
+fn grows(placed: &mut Vec<Placed>) -> bool
+    ensures kept { placed.new.items ≡ placed.old.items }
+    ensures room { IsTrue result → vec_len placed.new < vec_capacity placed.new }
+{
+    placed.reserve(1).is_ok()
 }
 
 /// The refusal when an allocation failed: that of the datagram itself, if it has one.

@@ -1,6 +1,6 @@
 //! Update, and the retractions that it encodes (RFC 8966, section 4.6.9).
 
-ghost use Rattle.std.specs.Prelude.{◌≡◌, ◌≤◌, ◌<◌, ◌+◌, ◌*◌, length, drop, IsTrue, IfSome, vec_len, vec_capacity};
+ghost use Rattle.std.specs.Prelude.{◌≡◌, ◌≤◌, ◌<◌, ◌+◌, ◌*◌, length, drop, None, Some, IsTrue, IfSome, vec_len, vec_capacity};
 ghost use Rattle.babel_value.specs.Prefixes.{cleared};
 ghost use Rattle.babel_message.specs.Layout as layout;
 ghost use Rattle.babel_packet.specs.Numbers as numbers;
@@ -17,7 +17,7 @@ use crate::numbers::{has_flag, word};
 use crate::parser_state::ParserState;
 use crate::placements::{push_ignored, push_message};
 use crate::prefixes::{is_whole, octets_of, prefix_octets};
-use crate::tails::tail_reason;
+use crate::tails::{is_taken, tail_reason};
 use babel_message::layout::addresses::{
     AE_IPV4, AE_IPV6, AE_WILDCARD, IPV4_LEN, IPV6_LEN, ROUTER_ID_LEN,
 };
@@ -92,15 +92,20 @@ fn read_update4(payload: &[u8], offset: usize, state: &mut ParserState, placed: 
     if sets(wire::SETS_ROUTER_ID, payload) {
         state.router = Some(router4(octets));
     }
-    if let Some(reason) = tail_reason(tail(payload)) {
-        return push_ignored(placed, offset, reason);
+    if !is_taken(tail(payload), offset, placed) {
+        return;
     }
     let prefix = Prefix::new_unchecked(Addr::V4(octets), payload[wire::PLEN]);
-    let origin = Origin {
-        router: state.router,
-        next_hop: state.hop4.map(Addr::V4),
-    };
-    push_update(prefix, origin, payload, offset, placed)
+    match state.hop4 {
+        Some(hop) => {
+            let origin = Origin {
+                router: state.router,
+                next_hop: Addr::V4(hop),
+            };
+            push_update(prefix, origin, payload, offset, placed)
+        }
+        None => push_without_next_hop(prefix, state.router, payload, offset, placed),
+    }
 }
 
 /// An Update of an IPv6 prefix.
@@ -126,15 +131,20 @@ fn read_update6(payload: &[u8], offset: usize, state: &mut ParserState, placed: 
     if sets(wire::SETS_ROUTER_ID, payload) {
         state.router = Some(router6(octets));
     }
-    if let Some(reason) = tail_reason(tail(payload)) {
-        return push_ignored(placed, offset, reason);
+    if !is_taken(tail(payload), offset, placed) {
+        return;
     }
     let prefix = Prefix::new_unchecked(Addr::V6(octets), payload[wire::PLEN]);
-    let origin = Origin {
-        router: state.router,
-        next_hop: state.hop6.map(Addr::V6),
-    };
-    push_update(prefix, origin, payload, offset, placed)
+    match state.hop6 {
+        Some(hop) => {
+            let origin = Origin {
+                router: state.router,
+                next_hop: Addr::V6(hop),
+            };
+            push_update(prefix, origin, payload, offset, placed)
+        }
+        None => push_without_next_hop(prefix, state.router, payload, offset, placed),
+    }
 }
 
 /// Whether Plen isn't too large, and the octets of the prefix are there.
@@ -219,11 +229,11 @@ fn router6(octets: [u8; IPV6_LEN]) -> [u8; ROUTER_ID_LEN]
     router
 }
 
-/// What an Update takes from the parser state, if it is set.
+/// What an Update takes from the parser state: a router-id, if one is set, and a next hop.
 #[derive(Clone, Copy)]
 struct Origin {
     router: Option<[u8; ROUTER_ID_LEN]>,
-    next_hop: Option<Addr>,
+    next_hop: Addr,
 }
 
 /// The content of an Update of this prefix.
@@ -238,18 +248,19 @@ fn push_update(
 )
     requires fields { layout.update_len ≤ length payload.now }
     requires room { vec_len placed.old < vec_capacity placed.old }
-    ensures { placed.new.items ≡ put placed.old.items offset (update_of prefix origin.router origin.next_hop payload.now) }
+    ensures { placed.new.items ≡ put placed.old.items offset (update_of prefix origin.router (Some origin.next_hop) payload.now) }
 {
     let interval = word(payload, wire::INTERVAL);
     let metric = Metric(word(payload, wire::METRIC));
     if metric == Metric::INFINITE {
         return push_message(placed, offset, Message::Retraction { prefix, interval });
     }
-    let Some(router) = origin.router.and_then(RouterId::new) else {
+    // In two steps, since `and_then` makes an option of both that is then read again.
+    let Some(octets) = origin.router else {
         return push_ignored(placed, offset, Reason::NoRouterId);
     };
-    let Some(next_hop) = origin.next_hop else {
-        return push_ignored(placed, offset, Reason::NoNextHop);
+    let Some(router) = RouterId::new(octets) else {
+        return push_ignored(placed, offset, Reason::NoRouterId);
     };
     if interval == 0 {
         return push_ignored(placed, offset, Reason::ZeroInterval);
@@ -261,10 +272,36 @@ fn push_update(
         Message::Update {
             prefix,
             router,
-            next_hop,
+            next_hop: origin.next_hop,
             seqno,
             metric,
             interval,
         },
     );
+}
+
+/// The rare case: no next hop of the prefix's family is set, so that only a retraction is taken.
+#[inline(never)]
+#[tactic(auto, unfolding(crate::specs::Updates::update_of))]
+fn push_without_next_hop(
+    prefix: Prefix,
+    router: Option<[u8; ROUTER_ID_LEN]>,
+    payload: &[u8],
+    offset: usize,
+    placed: &mut Vec<Placed>,
+)
+    requires fields { layout.update_len ≤ length payload.now }
+    requires room { vec_len placed.old < vec_capacity placed.old }
+    ensures { placed.new.items ≡ put placed.old.items offset (update_of prefix router None payload.now) }
+{
+    let interval = word(payload, wire::INTERVAL);
+    let metric = Metric(word(payload, wire::METRIC));
+    if metric == Metric::INFINITE {
+        return push_message(placed, offset, Message::Retraction { prefix, interval });
+    }
+    let reason = match router.and_then(RouterId::new) {
+        Some(_) => Reason::NoNextHop,
+        None => Reason::NoRouterId,
+    };
+    push_ignored(placed, offset, reason)
 }
