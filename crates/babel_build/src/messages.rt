@@ -3,9 +3,11 @@
 
 ghost use Rattle.std.specs.Prelude.{◌≡◌, ◌++◌, length, take, is_some, IfSome, IfNone, OnSome};
 ghost use Rattle.std.specs.Bool.{OnTrue, OnFalse};
+ghost use Rattle.babel_tlv.specs.Spelling.{spelled};
+ghost use Rattle.babel_message.specs.Layout as layout;
 ghost use Rattle.babel_message.specs.declared.messages.Message.TheVariants as messages;
 ghost use Rattle.babel_packet.specs.Compressed as compressed;
-ghost use Rattle.babel_packet.specs.Compressed.{router_id_before, next_hop_before, state_with};
+ghost use Rattle.babel_packet.specs.Compressed.{router_id_before, next_hop_before, state_with, update_payload, with_default};
 ghost use Rattle.babel_build.specs.Built.{is_room};
 
 use crate::states::{gives_router, next_hop_is_set, router_is_set, set_default, set_origin};
@@ -44,9 +46,9 @@ pub(crate) fn put_message(
             interval,
         } => put_ihu(datagram, to, rxcost, interval),
         Message::Update {
-            prefix,
+            ref prefix,
             router,
-            next_hop,
+            ref next_hop,
             seqno,
             metric,
             interval,
@@ -64,9 +66,10 @@ pub(crate) fn put_message(
                 advertised,
             )
         }
-        Message::Retraction { prefix, interval } => {
-            put_retraction(datagram, state, prefix, interval)
-        }
+        Message::Retraction {
+            ref prefix,
+            interval,
+        } => put_retraction(datagram, state, prefix, interval),
         Message::RetractAll { interval } => put_retract_all(datagram, interval),
         Message::RouteRequest { prefix } => put_route_request(datagram, prefix),
         Message::DumpRequest => put_dump_request(datagram),
@@ -81,36 +84,64 @@ pub(crate) fn put_message(
 
 /// What the parser state may give an Update: the router-id and the next hop.
 #[derive(Clone, Copy)]
-struct Origin {
+struct Origin<'a> {
     router: RouterId,
-    next_hop: Addr,
+    next_hop: &'a Addr,
 }
 
-/// Appends an Update, after a Router-Id and a Next Hop if the reader needs them.
-#[inline]
+/// Appends an Update, after a Router-Id and a Next Hop if the reader needs them. Mostly it has both.
+#[inline(always)]
+#[tactic(auto, using(crate::proofs::Shared::origin_is_kept))]
 fn put_finite(
     datagram: &mut Datagram,
     state: &mut ParserState,
-    prefix: Prefix,
-    origin: Origin,
+    prefix: &Prefix,
+    origin: Origin<'_>,
     advertised: Advertised,
 ) -> bool
-    ensures fits { result ≡ is_room datagram.old.items (compressed.compressed state.old (messages.Update prefix origin.router origin.next_hop advertised.seqno advertised.metric advertised.interval)) }
+    ensures fits { result ≡ is_room datagram.old.items (compressed.compressed state.old (messages.Update prefix.now origin.entry.router origin.entry.next_hop.now advertised.seqno advertised.metric advertised.interval)) }
     ensures appended { OnTrue result (datagram.new.items
-        ≡ datagram.old.items ++ compressed.compressed state.old (messages.Update prefix origin.router origin.next_hop advertised.seqno advertised.metric advertised.interval)) }
+        ≡ datagram.old.items ++ compressed.compressed state.old (messages.Update prefix.now origin.entry.router origin.entry.next_hop.now advertised.seqno advertised.metric advertised.interval)) }
     ensures state { OnTrue result (state.new
-        ≡ state_with state.old (messages.Update prefix origin.router origin.next_hop advertised.seqno advertised.metric advertised.interval)) }
+        ≡ state_with state.old (messages.Update prefix.now origin.entry.router origin.entry.next_hop.now advertised.seqno advertised.metric advertised.interval)) }
     ensures kept { OnFalse result (take (length datagram.old.items) datagram.new.items ≡ datagram.old.items) }
     ensures unchanged { OnFalse result (state.new ≡ state.old) }
 {
     let Origin { router, next_hop } = origin;
-    let Some(flags) = put_needed_router_id(datagram, state, &prefix, router) else {
+    let has_both = router_is_set(state, router) && next_hop_is_set(state, next_hop);
+    if has_both {
+        // Only the default prefix changes.
+        return put_and_set_default(datagram, state, SETS_PREFIX, prefix, advertised);
+    }
+    let Some(flags) = put_needed_router_id(datagram, state, prefix, router) else {
         return false;
     };
     let fits = put_needed_next_hop(datagram, state, next_hop)
-        && put_update(datagram, state, flags, &prefix, advertised);
+        && put_and_set_default(datagram, state, flags, prefix, advertised);
     if fits {
         set_origin(state, router, next_hop);
+    }
+    fits
+}
+
+/// Appends an Update, which sets the default prefix of its encoding.
+#[inline(always)]
+fn put_and_set_default(
+    datagram: &mut Datagram,
+    state: &mut ParserState,
+    flags: u8,
+    prefix: &Prefix,
+    advertised: Advertised,
+) -> bool
+    ensures fits { result ≡ is_room datagram.old.items
+        (spelled layout.update (update_payload state.old flags prefix.now advertised.interval advertised.seqno advertised.metric)) }
+    ensures appended { OnTrue result (datagram.new.items ≡ datagram.old.items
+        ++ spelled layout.update (update_payload state.old flags prefix.now advertised.interval advertised.seqno advertised.metric)) }
+    ensures state { OnTrue result (state.new ≡ with_default prefix.now.addr state.old) }
+    ensures unchanged { OnFalse result ((datagram.new ≡ datagram.old) × (state.new ≡ state.old)) }
+{
+    let fits = put_update(datagram, state, flags, prefix, advertised);
+    if fits {
         set_default(state, prefix.addr());
     }
     fits
@@ -143,16 +174,16 @@ fn put_needed_router_id(
 
 /// Appends a Next Hop, if the next hop of its family differs.
 #[inline]
-fn put_needed_next_hop(datagram: &mut Datagram, state: &ParserState, next_hop: Addr) -> bool
-    ensures fits { result ≡ is_room datagram.old.items (next_hop_before state.now next_hop) }
-    ensures appended { OnTrue result (datagram.new.items ≡ datagram.old.items ++ next_hop_before state.now next_hop) }
+fn put_needed_next_hop(datagram: &mut Datagram, state: &ParserState, next_hop: &Addr) -> bool
+    ensures fits { result ≡ is_room datagram.old.items (next_hop_before state.now next_hop.now) }
+    ensures appended { OnTrue result (datagram.new.items ≡ datagram.old.items ++ next_hop_before state.now next_hop.now) }
     ensures unchanged { OnFalse result (datagram.new ≡ datagram.old) }
 {
     let _room = datagram.remaining_capacity();
-    if next_hop_is_set(state, &next_hop) {
+    if next_hop_is_set(state, next_hop) {
         return true;
     }
-    put_next_hop(datagram, next_hop)
+    put_next_hop(datagram, *next_hop)
 }
 
 /// Appends the Update that retracts a prefix.
@@ -160,19 +191,15 @@ fn put_needed_next_hop(datagram: &mut Datagram, state: &ParserState, next_hop: A
 fn put_retraction(
     datagram: &mut Datagram,
     state: &mut ParserState,
-    prefix: Prefix,
+    prefix: &Prefix,
     interval: u16,
 ) -> bool
-    ensures fits { result ≡ is_room datagram.old.items (compressed.compressed state.old (messages.Retraction prefix interval)) }
+    ensures fits { result ≡ is_room datagram.old.items (compressed.compressed state.old (messages.Retraction prefix.now interval)) }
     ensures appended { OnTrue result (datagram.new.items
-        ≡ datagram.old.items ++ compressed.compressed state.old (messages.Retraction prefix interval)) }
-    ensures state { OnTrue result (state.new ≡ state_with state.old (messages.Retraction prefix interval)) }
+        ≡ datagram.old.items ++ compressed.compressed state.old (messages.Retraction prefix.now interval)) }
+    ensures state { OnTrue result (state.new ≡ state_with state.old (messages.Retraction prefix.now interval)) }
     ensures unchanged { OnFalse result ((datagram.new ≡ datagram.old) × (state.new ≡ state.old)) }
 {
     let advertised = Advertised::retracted(interval);
-    let fits = put_update(datagram, state, SETS_PREFIX, &prefix, advertised);
-    if fits {
-        set_default(state, prefix.addr());
-    }
-    fits
+    put_and_set_default(datagram, state, SETS_PREFIX, prefix, advertised)
 }

@@ -111,13 +111,13 @@ fn common(one: &[u8], other: &[u8]) -> usize
 
 /// Sets the router-id and the next hop of its family.
 #[inline]
-pub(crate) fn set_origin(state: &mut ParserState, router: RouterId, next_hop: Addr)
-    ensures { state.new ≡ with_hop next_hop (with_router router state.old) }
+pub(crate) fn set_origin(state: &mut ParserState, router: RouterId, next_hop: &Addr)
+    ensures { state.new ≡ with_hop next_hop.now (with_router router state.old) }
 {
     state.router = Some(router.octets());
     match next_hop {
-        Addr::V4(octets) => state.hop4 = Some(octets),
-        Addr::V6(octets) => state.hop6 = Some(octets),
+        Addr::V4(octets) => state.hop4 = Some(*octets),
+        Addr::V6(octets) => state.hop6 = Some(*octets),
     }
 }
 

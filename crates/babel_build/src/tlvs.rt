@@ -27,6 +27,9 @@ use babel_value::{Addr, HelloKind, Metric, Prefix, RouterId, Seqno};
 /// The datagram that is being built.
 pub(crate) type Datagram = ArrayVec<u8, DATAGRAM_LEN>;
 
+/// The octets of an Update before its prefix: type, length and fields.
+const UPDATE_START_LEN: usize = TLV_HEADER_LEN + update::LEN;
+
 /// Appends a TLV whose payload is the fields and then these octets.
 #[inline(always)]
 fn put_tlv(datagram: &mut Datagram, kind: u8, fields: &[u8], octets: &[u8]) -> bool
@@ -207,6 +210,32 @@ fn update_fields(
     [encoding, flags, bits, omitted, i0, i1, s0, s1, m0, m1]
 }
 
+/// The octets of an Update before its prefix, if its payload has this length.
+#[inline]
+fn update_start(length: u8, fields: [u8; update::LEN]) -> [u8; UPDATE_START_LEN]
+    ensures { result ≡ layout.update ∷ length ∷ fields }
+{
+    let [f0, f1, f2, f3, f4, f5, f6, f7, f8, f9] = fields;
+    [UPDATE, length, f0, f1, f2, f3, f4, f5, f6, f7, f8, f9]
+}
+
+/// Appends the start of an Update, in one move, and these octets, if they fit.
+#[inline(always)]
+fn put_start(datagram: &mut Datagram, start: &[u8; UPDATE_START_LEN], octets: &[u8]) -> bool
+    requires { length octets.now ≤ MAX_PAYLOAD_LEN }
+    ensures fits { result ≡ is_room datagram.old.items (start.now ++ octets.now) }
+    ensures appended { OnTrue result (datagram.new.items ≡ datagram.old.items ++ (start.now ++ octets.now)) }
+    ensures unchanged { OnFalse result (datagram.new ≡ datagram.old) }
+{
+    if datagram.remaining_capacity() < UPDATE_START_LEN + octets.len() {
+        return false;
+    }
+    // There is room for all of them.
+    datagram.try_extend_from_slice(start).unwrap();
+    append(datagram, octets);
+    true
+}
+
 /// Update (RFC 8966, section 4.6.9), without the octets of its prefix that the default prefix has.
 #[inline(always)]
 pub(crate) fn put_update(
@@ -226,9 +255,11 @@ pub(crate) fn put_update(
     let bits = prefix.length();
     let octets = reached(&addr, bits);
     let omitted = omitted(state, &addr, octets.len());
+    let written = &octets[omitted..];
+    let length = update::LEN + written.len();
     let encoding = prefix_encoding(prefix);
     let fields = update_fields(encoding, flags, bits, omitted as u8, advertised);
-    put_tlv(datagram, UPDATE, &fields, &octets[omitted..])
+    put_start(datagram, &update_start(length as u8, fields), written)
 }
 
 /// The Update that retracts all prefixes (RFC 8966, section 4.6.9).
