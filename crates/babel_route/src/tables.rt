@@ -5,7 +5,9 @@ ghost use Rattle.babel_table.specs.Digits.{binary_digits};
 ghost use Rattle.babel_table.specs.Gaps.{around};
 
 use babel_choice::{Entry, RouteKey, Selection};
-use babel_table::{Change, Full, GapTable, Memory, Revision, SortedTable, Sought, Steps, Table};
+use babel_table::{
+    Change, Full, GapTable, Memory, Revision, SortedTable, Sought, Steps, Stored, Table,
+};
 use babel_value::Prefix;
 use std::alloc::Global;
 use std::sync::ledger::Ledger;
@@ -46,12 +48,17 @@ impl Table<RouteKey, Entry> for RouteTable {
     }
 
     #[inline(always)]
+    fn put_near(&mut self, near: usize, key: RouteKey, value: Entry) -> Result<usize, Full> {
+        self.table.put_near(near, key, value)
+    }
+
+    #[inline(always)]
     fn change_near<C: Change<Entry>>(
         &mut self,
         near: usize,
         key: RouteKey,
         change: &C,
-    ) -> Result<usize, Full> {
+    ) -> Result<Stored<Entry>, Full> {
         self.table.change_near(near, key, change)
     }
 
@@ -113,12 +120,17 @@ impl Table<Prefix, Selection> for SelectionTable {
     }
 
     #[inline(always)]
+    fn put_near(&mut self, near: usize, key: Prefix, value: Selection) -> Result<usize, Full> {
+        self.table.put_near(near, key, value)
+    }
+
+    #[inline(always)]
     fn change_near<C: Change<Selection>>(
         &mut self,
         near: usize,
         key: Prefix,
         change: &C,
-    ) -> Result<usize, Full> {
+    ) -> Result<Stored<Selection>, Full> {
         self.table.change_near(near, key, change)
     }
 

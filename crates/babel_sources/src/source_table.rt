@@ -4,7 +4,7 @@
 ghost use Rattle.babel_table.specs.Digits.{binary_digits};
 
 use crate::sources::SourceEntry;
-use babel_table::{Change, Full, Memory, Revision, SortedTable, Sought, Steps, Table};
+use babel_table::{Change, Full, Memory, Revision, SortedTable, Sought, Steps, Stored, Table};
 use babel_value::Source;
 use std::alloc::Global;
 use std::sync::ledger::Ledger;
@@ -45,12 +45,17 @@ impl Table<Source, SourceEntry> for SourceTable {
     }
 
     #[inline(always)]
+    fn put_near(&mut self, near: usize, key: Source, value: SourceEntry) -> Result<usize, Full> {
+        self.table.put_near(near, key, value)
+    }
+
+    #[inline(always)]
     fn change_near<C: Change<SourceEntry>>(
         &mut self,
         near: usize,
         key: Source,
         change: &C,
-    ) -> Result<usize, Full> {
+    ) -> Result<Stored<SourceEntry>, Full> {
         self.table.change_near(near, key, change)
     }
 

@@ -161,28 +161,33 @@ impl<T: Table<Source, SourceEntry>> SourcesOver<T> {
         ensures err { OnErr result (self.new ≡ self.old) }
     {
         let mut near = usize::MAX;
-        self.lower_near(now, source, sent, &mut near)
+        match self.lower_near(now, source, sent, &mut near) {
+            Ok(_) => Ok(()),
+            Err(full) => Err(full),
+        }
     }
 
-    /// The same. The search begins near an index, which becomes one near that of the source.
+    /// The same, and it returns the pair that the source had before. The search begins near an index, which becomes one
+    /// near that of the source.
     pub fn lower_near(
         &mut self,
         now: u64,
         source: Source,
         sent: Distance,
         near: &mut usize,
-    ) -> Result<(), Full>
+    ) -> Result<Option<Distance>, Full>
         ensures full { IsErr result ↔ (IsNone (find source_cmp source self.old) × (length self.old ≡ SOURCE_PLACES)) }
         ensures ok { OnOk result (self.new ≡ lowered now source sent self.old) }
+        ensures before { IfOk result (λ before. before ≡ pair_of source self.old) }
         ensures err { OnErr result (self.new ≡ self.old) }
     {
         let due = now.saturating_add(COLLECTION_TIME);
         self.due = self.due.min(due);
         let sending = Sending { sent, due };
         match self.table.change_near(*near, source, &sending) {
-            Ok(place) => {
-                *near = place;
-                Ok(())
+            Ok(stored) => {
+                *near = stored.near;
+                Ok(distance_of(stored.before))
             }
             Err(full) => Err(full),
         }

@@ -1,15 +1,15 @@
 //! Searches that begin near the index at which the last one ended. If the sought keys rise, and each is near
 //! the last one, they are one walk over the table.
 
-ghost use Rattle.std.specs.Prelude.{◌≡◌, true, ◌+◌, ◌≤◌, ◌<◌, ◌↔◌, take, drop, not, length, IsSome, IsNone, IsErr, OnOk, OnErr};
+ghost use Rattle.std.specs.Prelude.{◌≡◌, true, ◌+◌, ◌≤◌, ◌<◌, take, drop, not, length, IsSome, IsNone};
 ghost use Rattle.std.specs.List.{list_all};
 ghost use Rattle.std.specs.Ordering.{is_gt};
-ghost use Rattle.std.specs.FinMap.{find, put};
+ghost use Rattle.std.specs.FinMap.{find};
 ghost use Rattle.babel_table.specs.Entries.{with_value};
 ghost use Rattle.babel_table.specs.Places.{are_lesser, are_greater};
 ghost use Rattle.babel_table.specs.Bounds.{lesser_falls};
 
-use crate::{Bound, Change, Full, Key, Steps, Table, places_below};
+use crate::{Bound, Key, Steps, Table, places_below};
 use std::cmp::Ordering;
 use std::marker::Brand;
 use std::sync::ledger::{Blank, Ledger};
@@ -207,39 +207,6 @@ fn walk_back_for<K: Key, V: Copy, T: Table<K, V>>(table: &T, near: &mut usize, k
     search_for(table, near, key)
 }
 
-/// What replaces any value.
-#[derive(Drop)]
-struct Put<V: Copy> {
-    value: V,
-}
-
-impl<V: Copy> Change<V> for Put<V> {
-    ghost changed = { λ put _. put.value };
-
-    fn changed(&self, _value: Option<V>) -> V
-        ensures { result ≡ self.now.value }
-    {
-        self.value
-    }
-}
-
-/// Stores the value at the key, and returns an index near that of the key. The look-up begins at the index
-/// `near`, as that of `Table::change_near`. `Full` as of `Table::put`.
-#[inline(always)]
-pub fn put_near<K: Key, V: Copy, T: Table<K, V>>(
-    table: &mut T,
-    near: usize,
-    key: K,
-    value: V,
-) -> Result<usize, Full>
-    ensures full { IsErr result ↔ (IsNone (find K.order key (T.entries table.old)) × (length (T.entries table.old) ≡ T.room table.old)) }
-    ensures ok { OnOk result (T.entries table.new ≡ put K.order key value (T.entries table.old)) }
-    ensures err { OnErr result (T.entries table.new ≡ T.entries table.old) }
-    ensures room { T.room table.new ≡ T.room table.old }
-{
-    table.change_near(near, key, &Put { value })
-}
-
 /// Stores the value at the key, or removes the entry of the key if there is no value. The index is that
 /// of the key, or the one at which it would be inserted.
 #[inline(always)]
@@ -255,7 +222,7 @@ pub fn set_near<K: Key, V: Copy, T: Table<K, V>>(
 {
     match value {
         Some(value) => {
-            let _ = put_near(table, place.wrapping_sub(1), key, value);
+            let _ = table.put_near(place.wrapping_sub(1), key, value);
         }
         None => table.remove(&key),
     }

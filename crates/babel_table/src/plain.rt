@@ -7,7 +7,7 @@ ghost use Rattle.babel_table.specs.Insertions.{in_order, are_distinct, sorted_in
 ghost use Rattle.babel_table.specs.Places.{IsAt};
 
 use crate::revisions::compact;
-use crate::{Change, Full, Key, Memory, Revision, Sought, Steps, Table};
+use crate::{Change, Full, Key, Memory, Revision, Sought, Steps, Stored, Table};
 use std::alloc::Global;
 use std::marker::Brand;
 use std::sync::ledger::{Blank, Ledger};
@@ -68,15 +68,23 @@ impl<K: Key, V: Copy> Table<K, V> for PlainTable<K, V> {
         }
     }
 
+    fn put_near(&mut self, near: usize, key: K, value: V) -> Result<usize, Full> {
+        match self.put(key, value) {
+            Ok(()) => Ok(near),
+            Err(full) => Err(full),
+        }
+    }
+
     fn change_near<C: Change<V>>(
         &mut self,
         near: usize,
         key: K,
         change: &C,
-    ) -> Result<usize, Full> {
-        let value = change.changed(value_of(self, &key));
+    ) -> Result<Stored<V>, Full> {
+        let before = value_of(self, &key);
+        let value = change.changed(before);
         match self.put(key, value) {
-            Ok(()) => Ok(near),
+            Ok(()) => Ok(Stored { near, before }),
             Err(full) => Err(full),
         }
     }

@@ -9,7 +9,7 @@ use crate::gap::GapVec;
 use crate::near::FAR;
 use crate::revisions::compact;
 use crate::sequences::Sequence;
-use crate::{Change, Full, Key, Memory, Revision, Sought, Steps, Table};
+use crate::{Change, Full, Key, Memory, Revision, Sought, Steps, Stored, Table};
 use std::alloc::Global;
 use std::cmp::Ordering;
 use std::marker::{Brand, PhantomData};
@@ -63,15 +63,24 @@ impl<K: Key, V: Copy, Q: Sequence<K, V>> Table<K, V> for SortedTable<K, V, Q> {
         }
     }
 
+    fn put_near(&mut self, near: usize, key: K, value: V) -> Result<usize, Full> {
+        let found = place_near(self, near, &key);
+        store(self, found, key, value)
+    }
+
     fn change_near<C: Change<V>>(
         &mut self,
         near: usize,
         key: K,
         change: &C,
-    ) -> Result<usize, Full> {
+    ) -> Result<Stored<V>, Full> {
         let found = place_near(self, near, &key);
-        let value = change.changed(value_at(self, &key, found));
-        store(self, found, key, value)
+        let before = value_at(self, &key, found);
+        let value = change.changed(before);
+        match store(self, found, key, value) {
+            Ok(near) => Ok(Stored { near, before }),
+            Err(full) => Err(full),
+        }
     }
 
     fn remove(&mut self, key: &K) {

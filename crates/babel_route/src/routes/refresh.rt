@@ -18,7 +18,7 @@ use super::RoutesOver;
 use super::current::is_same_entry;
 use super::room::is_crowded;
 use babel_choice::{Cursor, Entry, ReceivedUpdate, RouteKey, Selection};
-use babel_table::{Full, Key, Table, find_near, put_near, set_near};
+use babel_table::{Full, Key, Table, find_near, set_near};
 use babel_value::{Peer, Prefix, hold_time};
 
 /// What is done with an update that repeats its neighbour's entry.
@@ -183,5 +183,5 @@ pub(crate) fn replace_at<K: Key, V: Copy, T: Table<K, V>>(
     ensures entries { T.entries table.new ≡ put K.order key value.now (T.entries table.old) }
     ensures room { T.room table.new ≡ T.room table.old }
 {
-    let _ = put_near(table, place, key, *value);
+    let _ = table.put_near(place, key, *value);
 }
