@@ -58,7 +58,9 @@ fn skip_silent(core: &mut Core, cursor: &mut Cursor) -> Option<(Target, Message)
     ensures saved { KeepsSnapshot core.old core.new }
 {
     while let Some(item) = crate::output::items::first_item(core) {
-        match crate::output::messages::outgoing(core, &item, cursor) {
+        let mut out = Outgoing::Nothing;
+        crate::output::messages::outgoing(core, &item, cursor, &mut out);
+        match out {
             Outgoing::Message(target, message) => return Some((target, message)),
             Outgoing::LeftOut => crate::output::items::leave_out(core),
             Outgoing::Nothing => {}
@@ -104,7 +106,9 @@ fn add_item(
     if goes_elsewhere(core, item, &target) {
         return false;
     }
-    match crate::output::messages::outgoing(core, item, &mut hints.cursor) {
+    let mut out = Outgoing::Nothing;
+    crate::output::messages::outgoing(core, item, &mut hints.cursor, &mut out);
+    match out {
         Outgoing::Message(to, message) => {
             if !is_same_target(&target, &to) || !builder.add(&message) {
                 return false;

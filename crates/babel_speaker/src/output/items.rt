@@ -41,41 +41,28 @@ fn use_hello_seqno(core: &mut Core, iface: u8)
     }
 }
 
-/// Whether the message, if it is sent, changes the feasibility distance of its source (RFC 8966, section 3.7.3).
-fn changes_a_pair(core: &Core, message: &Message, cursor: &mut Cursor) -> bool
-    ensures changes { result ≡ changes_a_pair message.now core.now }
-    ensures in_order { IsTrue (is_sorted source_cmp core.now.sources) }
+/// The changes by a message that is sent: a Hello uses up its seqno, and an Update lowers the
+/// feasibility distance of its source (RFC 8966, sections 3.4.1 and 3.7.3). Returns whether it changed that
+/// distance.
+#[tactic(auto, unfolding(babel_state::specs::NextDatagram::after_message))]
+fn apply_message(
+    core: &mut Core,
+    departure: Departure,
+    message: &Message,
+    cursor: &mut Cursor,
+) -> bool
+    requires room { HasRoomFor core.old message.now }
+    ensures state { core.new ≡ after_message departure.now departure.target message.now core.old }
+    ensures pending { core.new.pending ≡ core.old.pending }
+    ensures changes { result ≡ changes_a_pair message.now core.old }
+    ensures in_order { IsTrue (is_sorted source_cmp core.old.sources) }
 {
     let _count = core.sources.len();
     match *message {
-        Message::Update {
-            prefix,
-            router,
-            seqno,
-            metric,
-            ..
-        } => {
-            let source = Source { prefix, router };
-            let sent = Distance { seqno, metric };
-            match core.sources.pair_near(&source, &mut cursor.source) {
-                Some(pair) => sent.better(pair),
-                None => true,
-            }
+        Message::Hello { .. } => {
+            use_hello_seqno(core, departure.target.iface);
+            false
         }
-        _ => false,
-    }
-}
-
-/// The changes by a message that is sent: a Hello uses up its seqno, and an Update lowers the
-/// feasibility distance of its source (RFC 8966, sections 3.4.1 and 3.7.3).
-#[tactic(auto, unfolding(babel_state::specs::NextDatagram::after_message))]
-fn apply_message(core: &mut Core, now: u64, target: Target, message: &Message, cursor: &mut Cursor)
-    requires room { HasRoomFor core.old message.now }
-    ensures state { core.new ≡ after_message now target message.now core.old }
-    ensures pending { core.new.pending ≡ core.old.pending }
-{
-    match *message {
-        Message::Hello { .. } => use_hello_seqno(core, target.iface),
         Message::Update {
             prefix,
             router,
@@ -85,9 +72,12 @@ fn apply_message(core: &mut Core, now: u64, target: Target, message: &Message, c
         } => {
             let source = Source { prefix, router };
             let sent = Distance { seqno, metric };
-            let _ = core
-                .sources
-                .lower_near(now, source, sent, &mut cursor.source);
+            let near = &mut cursor.source;
+            match core.sources.lower_near(departure.now, source, sent, near) {
+                Ok(Some(pair)) => Distance { seqno, metric }.better(pair),
+                // The source had no entry. The table isn't full.
+                Ok(None) | Err(_) => true,
+            }
         }
         Message::AckRequest { .. }
         | Message::Ack { .. }
@@ -96,7 +86,7 @@ fn apply_message(core: &mut Core, now: u64, target: Target, message: &Message, c
         | Message::RetractAll { .. }
         | Message::RouteRequest { .. }
         | Message::DumpRequest
-        | Message::SeqnoRequest { .. } => {}
+        | Message::SeqnoRequest { .. } => false,
     }
 }
 
@@ -128,10 +118,7 @@ pub fn send_message(core: &mut Core, departure: Departure, message: &Message, hi
     ensures marked { IsFalse hints.new.lowered → IsFalse hints.old.lowered }
     ensures saved { IsFalse hints.new.lowered → snapshot_of core.new ≡ snapshot_of core.old }
 {
-    let (now, target) = (departure.now, departure.target);
-    let changes = changes_a_pair(core, message, &mut hints.cursor);
-    apply_message(core, now, target, message, &mut hints.cursor);
-    if !changes {
+    if !apply_message(core, departure, message, &mut hints.cursor) {
         return;
     }
     hints.lowered = true;

@@ -9,12 +9,12 @@ ghost use Rattle.babel_value.specs.Addresses.{family_of};
 ghost use Rattle.babel_state.specs.State.{interface_at, is_neighbour};
 ghost use Rattle.babel_state.specs.OutgoingMessages.{to_peer, outgoing_ihu, outgoing_finite, outgoing_update, outgoing, outgoing_over, is_source_too_many};
 ghost use Rattle.babel_state.specs.Limits.{longest_hello};
-ghost use Rattle.babel_speaker.specs.SentMessages.{HasRoom, IsMessageTo};
+ghost use Rattle.babel_speaker.specs.SentMessages.{HasRoom, HasRoomFor, IsMessageTo};
 
 use crate::output::forms::{
     hello_message, ihu_message, retraction_message, to_peer, update_message,
 };
-use crate::output::records::Advertisement;
+use crate::output::records::{Advertisement, Egress};
 use crate::state::Core;
 use crate::tables::addresses::address_of;
 use babel_choice::{Cursor, Selection};
@@ -42,35 +42,37 @@ fn is_source_too_many(core: &Core, source: &Source, cursor: &mut Cursor) -> bool
 /// An Update with a finite metric, if the interface has an address of the prefix's family.
 fn outgoing_finite(
     core: &Core,
-    target: Target,
+    egress: Egress<'_>,
     route: &Advertisement,
-    interface: &InterfaceEntry,
     cursor: &mut Cursor,
-) -> Outgoing
-    requires { interface.now.hello ≤ longest_hello }
-    ensures message { result ≡ outgoing_finite target route.now.source.prefix (record { router = route.now.source.router; distance = route.now.distance }) interface.now core.now (address_of (family_of route.now.source.prefix.addr) interface.now) }
-    ensures room { HasRoom core.now result }
+    out: &mut Outgoing,
+)
+    requires { egress.interface.now.hello ≤ longest_hello }
+    ensures message { out.new ≡ outgoing_finite egress.entry.target route.now.source.prefix (record { router = route.now.source.router; distance = route.now.distance }) egress.entry.interface.now core.now (address_of (family_of route.now.source.prefix.addr) egress.entry.interface.now) }
+    ensures room { HasRoom core.now out.new }
 {
-    let Some(next_hop) = address_of(route.source.prefix.family(), interface) else {
-        return Outgoing::Nothing;
+    let Some(next_hop) = address_of(route.source.prefix.family(), egress.interface) else {
+        *out = Outgoing::Nothing;
+        return;
     };
     if is_source_too_many(core, &route.source, cursor) {
-        return Outgoing::LeftOut;
+        *out = Outgoing::LeftOut;
+        return;
     }
-    update_message(target, route, next_hop, interface)
+    update_message(egress, route, next_hop, out);
 }
 
 /// An Update of the prefix, or its retraction (RFC 8966, section 3.7).
 fn outgoing_update(
     core: &Core,
-    target: Target,
+    egress: Egress<'_>,
     prefix: Prefix,
-    interface: &InterfaceEntry,
     cursor: &mut Cursor,
-) -> Outgoing
-    requires { interface.now.hello ≤ longest_hello }
-    ensures message { result ≡ outgoing_update target prefix core.now interface.now }
-    ensures room { HasRoom core.now result }
+    out: &mut Outgoing,
+)
+    requires { egress.interface.now.hello ≤ longest_hello }
+    ensures message { out.new ≡ outgoing_update egress.entry.target prefix core.now egress.entry.interface.now }
+    ensures room { HasRoom core.now out.new }
 {
     if core.announces(&prefix) {
         let router = core.router;
@@ -80,7 +82,8 @@ fn outgoing_update(
         };
         let source = Source { prefix, router };
         let route = Advertisement { source, distance };
-        return outgoing_finite(core, target, &route, interface, cursor);
+        outgoing_finite(core, egress, &route, cursor, out);
+        return;
     }
     match core.routes.selected_near(&prefix, cursor) {
         Some(Selection { peer, entry }) => {
@@ -91,52 +94,37 @@ fn outgoing_update(
                 source: Source { prefix, router },
                 distance: Distance { seqno, metric },
             };
-            outgoing_finite(core, target, &route, interface, cursor)
+            outgoing_finite(core, egress, &route, cursor, out);
         }
-        None => retraction_message(target, prefix, interface),
+        None => retraction_message(egress, prefix, out),
     }
 }
 
 /// An IHU about the neighbour, if it is one (RFC 8966, section 3.4.2).
-fn outgoing_ihu(core: &Core, peer: Peer) -> Outgoing
-    ensures message { result ≡ (if is_neighbour peer core.now then outgoing_over (outgoing_ihu peer core.now) (interface_at peer.iface core.now) else outgoings.Nothing) }
-    ensures room { HasRoom core.now result }
+fn outgoing_ihu(core: &Core, peer: Peer, out: &mut Outgoing)
+    ensures message { out.new ≡ (if is_neighbour peer core.now then outgoing_over (outgoing_ihu peer core.now) (interface_at peer.iface core.now) else outgoings.Nothing) }
+    ensures room { HasRoom core.now out.new }
 {
     if !core.is_neighbour(&peer) {
-        return Outgoing::Nothing;
+        *out = Outgoing::Nothing;
+        return;
     }
     match interface_entry(core, peer.iface) {
-        Some(interface) => ihu_message(peer, core.rxcost(&peer), &interface),
-        None => Outgoing::Nothing,
+        Some(interface) => ihu_message(peer, core.rxcost(&peer), &interface, out),
+        None => *out = Outgoing::Nothing,
     }
 }
 
-/// A Seqno Request for the neighbour alone, if its interface exists (RFC 8966, section 3.8.1.2).
-fn outgoing_request(core: &Core, peer: Peer, source: Source, seqno: Seqno, hops: u8) -> Outgoing
-    ensures message { result ≡ outgoing_over (λ _. outgoings.Message (to_peer peer) (messages.SeqnoRequest source.prefix source.router seqno hops)) (interface_at peer.iface core.now) }
-    ensures room { HasRoom core.now result }
+/// A message for the neighbour alone, if its interface exists.
+fn outgoing_to_peer(core: &Core, peer: Peer, message: Message, out: &mut Outgoing)
+    requires { HasRoomFor core.now message }
+    ensures message { out.new ≡ outgoing_over (λ _. outgoings.Message (to_peer peer) message) (interface_at peer.iface core.now) }
+    ensures room { HasRoom core.now out.new }
 {
-    let message = Message::SeqnoRequest {
-        prefix: source.prefix,
-        router: source.router,
-        seqno,
-        hops,
-    };
-    match core.interfaces.get(peer.iface) {
+    *out = match core.interfaces.get(peer.iface) {
         Some(_) => Outgoing::Message(to_peer(peer), message),
         None => Outgoing::Nothing,
-    }
-}
-
-/// An Acknowledgment for the neighbour alone, if its interface exists (RFC 8966, section 3.3).
-fn outgoing_ack(core: &Core, peer: Peer, opaque: u16) -> Outgoing
-    ensures message { result ≡ outgoing_over (λ _. outgoings.Message (to_peer peer) (messages.Ack opaque)) (interface_at peer.iface core.now) }
-    ensures room { HasRoom core.now result }
-{
-    match core.interfaces.get(peer.iface) {
-        Some(_) => Outgoing::Message(to_peer(peer), Message::Ack { opaque }),
-        None => Outgoing::Nothing,
-    }
+    };
 }
 
 /// The target of an Update, or of a retraction, that is certainly sent: its interface has an address of the
@@ -157,28 +145,40 @@ pub fn certain_target(core: &Core, item: &Item) -> Option<Target>
     Some(target)
 }
 
-/// The message that the item means now. The searches begin at the cursor.
+/// Writes the message that the item means now. The searches begin at the cursor.
 #[tactic(auto, unfolding(babel_state::specs::OutgoingMessages::outgoing))]
-pub fn outgoing(core: &Core, item: &Item, cursor: &mut Cursor) -> Outgoing
-    ensures message { result ≡ outgoing core.now item.now }
-    ensures room { HasRoom core.now result }
+pub fn outgoing(core: &Core, item: &Item, cursor: &mut Cursor, out: &mut Outgoing)
+    ensures message { out.new ≡ outgoing core.now item.now }
+    ensures room { HasRoom core.now out.new }
 {
     match *item {
         Item::Hello { iface } => match interface_entry(core, iface) {
-            Some(interface) => hello_message(iface, &interface),
-            None => Outgoing::Nothing,
+            Some(interface) => hello_message(iface, &interface, out),
+            None => *out = Outgoing::Nothing,
         },
-        Item::Ihu { peer } => outgoing_ihu(core, peer),
-        Item::Update { target, prefix } => match interface_entry(core, target.iface) {
-            Some(interface) => outgoing_update(core, target, prefix, &interface, cursor),
-            None => Outgoing::Nothing,
+        Item::Ihu { peer } => outgoing_ihu(core, peer, out),
+        Item::Update { target, prefix } => match core.interfaces.entry(target.iface) {
+            Some(interface) => {
+                outgoing_update(core, Egress { target, interface }, prefix, cursor, out);
+            }
+            None => *out = Outgoing::Nothing,
         },
+        // RFC 8966, section 3.8.1.2.
         Item::Request {
             peer,
             source,
             seqno,
             hops,
-        } => outgoing_request(core, peer, source, seqno, hops),
-        Item::Ack { peer, opaque } => outgoing_ack(core, peer, opaque),
+        } => {
+            let message = Message::SeqnoRequest {
+                prefix: source.prefix,
+                router: source.router,
+                seqno,
+                hops,
+            };
+            outgoing_to_peer(core, peer, message, out);
+        }
+        // RFC 8966, section 3.3.
+        Item::Ack { peer, opaque } => outgoing_to_peer(core, peer, Message::Ack { opaque }, out),
     }
 }

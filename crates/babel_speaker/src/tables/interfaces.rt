@@ -1,6 +1,6 @@
 //! The interface table (RFC 8966, section 3.2.3).
 
-ghost use Rattle.std.specs.Prelude.{◌≡◌, ◌≤◌, ◌<◌, length, slice_get, slice_set, IfOk, IfSome, true};
+ghost use Rattle.std.specs.Prelude.{◌≡◌, ◌≤◌, ◌<◌, length, slice_get, slice_set, option_map, IfOk, IfSome, true};
 ghost use Rattle.std.specs.Option.{option_map_or};
 ghost use Rattle.babel_value.specs.Metrics.{infinity};
 ghost use Rattle.babel_state.specs.Limits.{longest_hello, most_interfaces};
@@ -50,6 +50,15 @@ impl Interfaces {
         ensures hello { IfSome result (λ i. i.hello ≤ longest_hello) }
     {
         self.entries.get(usize::from(iface)).copied()
+    }
+
+    /// The same where it is, without a copy.
+    #[tactic(auto, using(crate::proofs::ShortHellos::short_at))]
+    pub fn entry(&self, iface: u8) -> Option<&InterfaceEntry>
+        ensures interface { option_map (λ i. i.now) result ≡ slice_get self.now iface }
+        ensures hello { IfSome result (λ i. i.now.hello ≤ longest_hello) }
+    {
+        self.entries.get(usize::from(iface))
     }
 
     /// Changes the interface of the number.
