@@ -290,7 +290,14 @@ fn write_mark<W: Write>(
     write_text(attributes, (begin, y), &Escaped(&mark.text), out)
 }
 
-/// Writes the moment that the network is drawn at.
+/// The text at the moment that the network is drawn at.
+const SHOWN: &str = "shown above";
+
+/// Half of its width, in pixels.
+const HALF_SHOWN: i64 = 40;
+
+/// Writes the moment that the network is drawn at. At the right end, which is drawn if no other is named, the text ends at
+/// the moment: around it, it would leave the picture.
 fn write_moment<W: Write>(
     moment: u64,
     scale: &Scale,
@@ -303,5 +310,7 @@ fn write_moment<W: Write>(
     let text = bottom.saturating_add(32);
     let high = top.saturating_sub(2);
     write_upright("moment", x, high, low, out)?;
-    write_text(MIDDLE, (x, text), &"shown above", out)
+    let is_wide = x.saturating_add(HALF_SHOWN) > NAMES.saturating_add(scale.width);
+    let attributes = if is_wide { END } else { MIDDLE };
+    write_text(attributes, (x, text), &SHOWN, out)
 }
