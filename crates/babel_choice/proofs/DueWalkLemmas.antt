@@ -1,5 +1,5 @@
 -- A walk over the routes that are due.
-use Rattle.std.proofs.Common.{◌≡◌, ◌≤◌, ◌<◌, ℕ, ◌+◌, true, false, [], ◌∷◌, drop, length, slice_get, Option, Some, None, IfSome, nat_le, refl, sym, subst, ap, ◌∙◌, arith}
+use Rattle.std.proofs.Common.{◌≡◌, ◌≤◌, ◌<◌, ℕ, ◌+◌, true, false, ◌∷◌, drop, length, slice_get, Some, None, IfSome, nat_le, refl, subst, ap, ◌∙◌, arith}
 use Rattle.std.proofs.lemmas.Bool.Decides.{nat_tests}
 use Rattle.babel_choice.specs.Routes.{Route, RouteEntries, routes_due}
 use Rattle.babel_choice.proofs.RunLemmas.{drop_at}

@@ -98,6 +98,18 @@ abbrev pub choice : Sources → (Peer → ℕ) → PrefixValue → Bool → Opti
 choice sources cost prefix local before es =
     option_map selection_of (first_of (preference cost (peer_before before)) (candidates sources cost prefix local es))
 
+-- ---- one route and the selection of another neighbour
+
+-- The metric of a selected route, by the neighbour's present cost.
+abbrev pub selection_metric : (Peer → ℕ) → Selection → ℕ
+selection_metric cost s = metric_sum s.entry.distance.metric (cost s.peer)
+
+-- The route takes the place of the selection: it is a candidate, and its metric is lesser, if there is a selection.
+abbrev pub overtakes : Sources → (Peer → ℕ) → Option Selection → Route → Bool
+overtakes sources cost selection route =
+    is_candidate sources cost route
+    && option_map_or (λ s. is_lt (nat_cmp (route_metric cost route) (selection_metric cost s))) selection true
+
 -- ---- what was chosen
 
 -- The selections as the last reselections left them, in the order of their prefixes.

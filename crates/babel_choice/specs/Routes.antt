@@ -1,5 +1,5 @@
 -- The route table (RFC 8966, section 3.2.6): what updates, retractions and time make of its entries.
-use Rattle.std.specs.Prelude.{ℕ, Bool, List, [], ◌∷◌, Option, Some, None, nat_le, nat_lt, if◌then◌else◌}
+use Rattle.std.specs.Prelude.{ℕ, Bool, not, List, [], ◌∷◌, Option, Some, None, nat_le, nat_lt, if◌then◌else◌}
 use Rattle.std.specs.List.{filter, list_any}
 use Rattle.std.specs.Option.{option_map_or}
 use Rattle.std.specs.Ordering.{eq_by_cmp}
@@ -63,6 +63,10 @@ is_from peer key = eq_by_cmp peer_cmp key.peer peer
 
 abbrev pub has_routes_from : Peer → RouteEntries → Bool
 has_routes_from peer = list_any (λ e. is_from peer e.0)
+
+-- The routes of all other neighbours.
+abbrev pub routes_but : Peer → RouteEntries → RouteEntries
+routes_but peer = filter (λ e. not (is_from peer e.0))
 
 -- An entry after a retraction of all routes of a neighbour (RFC 8966, section 4.6.9).
 abbrev pub retracted_from : ℕ → Peer → RouteKey → Entry → Option Entry

@@ -3,13 +3,13 @@
 ghost use Rattle.std.specs.Prelude.{◌≡◌, ◌<◌, true, false, not, drop, length, slice_get, option_and_then, Option, IfSome, IsNone, IsSome, Some, None, option_map, nat_lt, if◌then◌else◌};
 ghost use Rattle.std.specs.List.{filter, list_all};
 ghost use Rattle.std.specs.Option.{option_map_or};
-ghost use Rattle.std.specs.Ordering.{is_lt};
+ghost use Rattle.std.specs.Ordering.{is_lt, nat_cmp};
 ghost use Rattle.babel_table.specs.Firsts.{first_of};
 ghost use Rattle.babel_value.specs.Metrics.{infinity};
 ghost use Rattle.babel_choice.specs.declared.choices.Candidate.{Candidate};
 ghost use Rattle.babel_choice.specs.PrefixBounds.{is_before};
 ghost use Rattle.babel_choice.specs.Origins.{is_own};
-ghost use Rattle.babel_choice.specs.Choices.{is_of, others_of, rank_at, is_lesser_rank, routes_of, has_entry, choice, peer_before, is_candidate, is_change, is_feasible_route, route_metric, rank_of, rank_cmp, preference, selection_of};
+ghost use Rattle.babel_choice.specs.Choices.{is_of, others_of, rank_at, is_lesser_rank, routes_of, has_entry, choice, peer_before, is_candidate, is_change, is_feasible_route, route_metric, rank_of, rank_cmp, preference, selection_of, selection_metric, overtakes};
 
 use crate::walks::is_of;
 use crate::{Before, ChoiceInputs, Costs, Cursor, Entry, Origin, RouteKey, Selection};
@@ -307,6 +307,37 @@ fn is_feasible<T: Table<Source, SourceEntry>>(
         router: route.1.router,
     };
     sources.feasible_near(source, route.1.distance, near)
+}
+
+/// Whether the route takes the place of the selection of another neighbour: it is a candidate, and its metric is lesser, if
+/// there is a selection. Metrics are compared first, so the source of most routes is not looked up.
+pub fn overtakes<E: Table<RouteKey, Entry>, T: Table<Source, SourceEntry>, C: Costs>(
+    inputs: &ChoiceInputs<'_, E, T, C>,
+    route: &(RouteKey, Entry),
+    selection: &Option<Selection>,
+    near: &mut usize,
+) -> bool
+    ensures { result ≡ overtakes inputs.now.sources.now (C.cost_of inputs.now.costs.now) selection.now route.now }
+{
+    let Some(metric) = finite_metric(route, inputs.costs) else {
+        return false;
+    };
+    is_lesser(metric, selection, inputs.costs) && is_feasible(route, inputs.sources, near)
+}
+
+/// Whether the metric is lesser than that of the selection, if there is one.
+#[inline(always)]
+fn is_lesser<C: Costs>(metric: Metric, selection: &Option<Selection>, costs: &C) -> bool
+    ensures { result ≡ option_map_or (λ s. is_lt (nat_cmp metric (selection_metric (C.cost_of costs.now) s))) selection.now true }
+{
+    match selection {
+        Some(selected) => {
+            let advertised = selected.entry.distance.metric;
+            let other = advertised.add(costs.cost(&selected.peer));
+            metric.cmp(&other).is_lt()
+        }
+        None => true,
+    }
 }
 
 /// Whether the neighbour is another than the one selected before.

@@ -1,13 +1,7 @@
-//! Each allocation fails: of a read datagram, of the tables, of the machine, of the readers of files, of a speaker, of a network, and
-//! of the reports of logs. `tests/refused-memory` lets them fail in turn. `neighbour_calls` has calls that take no memory.
+//! Each allocation fails: of the tables, of the machine, of a speaker, and of a network. `tests/refused-memory` lets them fail in
+//! turn; it tests what reads datagrams, files and logs by runs of the program. `neighbour_calls` has calls that take no memory.
 #![tactic(auto)]
 
-#[cfg(test)]
-mod config_memory;
-#[cfg(test)]
-mod each_key;
-#[cfg(test)]
-mod logs;
 #[cfg(test)]
 mod machine_memory;
 #[cfg(test)]
@@ -19,9 +13,7 @@ mod neighbour_calls;
 #[cfg(test)]
 mod network_memory;
 #[cfg(test)]
-mod packet_memory;
-#[cfg(test)]
-mod replay_memory;
+mod routers;
 #[cfg(test)]
 mod speaker_memory;
 #[cfg(test)]

@@ -1,8 +1,8 @@
 //! A network among routers of others: a datagram that is heard out of memory changes nothing, and
 //! neither does an event of ours. If a network is not made, there is nothing to test: `is_made` makes it again.
 
-use crate::logs::prefix;
 use crate::network_memory::{configs, is_memory};
+use crate::routers::prefix;
 use babel_mixed::{HearFault, Heard, MixedEvent, MixedFault, MixedNetwork};
 use babel_net::{Event, NetFault, StepFault};
 use babel_value::Addr;

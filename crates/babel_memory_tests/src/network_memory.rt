@@ -1,7 +1,7 @@
 //! A call that is out of memory returns that and changes nothing, and succeeds when it is made again. If a network is not made, a
 //! test of its calls has nothing to test: `is_network_made` makes it again.
 
-use crate::logs::{prefix, router};
+use crate::routers::{prefix, router};
 use babel_net::{Event, NetFault, Network, StepFault};
 use babel_state::{Config, ConfigFault};
 use std::alloc::{AllocError, Global};

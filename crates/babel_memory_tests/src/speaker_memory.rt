@@ -1,6 +1,6 @@
 //! A call that is out of memory returns that and changes nothing, and succeeds when it is made again.
 
-use crate::logs::{prefix, router};
+use crate::routers::{prefix, router};
 use arrayvec::ArrayVec;
 use babel_message::Refusal;
 use babel_speaker::Speaker;

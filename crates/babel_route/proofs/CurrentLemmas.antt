@@ -35,7 +35,7 @@ pub preference_total : (cost : Peer → ℕ) (before : Option Peer) → IsTotalO
 preference_total cost before = on_total (rank_of cost before) rank_total
 
 -- what a filter leaves passes, and was there
-in_filter : {X : Type 0} (p : X → Bool) (xs : List X) (i : ℕ) (x : X) → slice_get (filter p xs) i ≡ Some x → (p x ≡ true) × ((j : ℕ) × (slice_get xs j ≡ Some x))
+pub in_filter : {X : Type 0} (p : X → Bool) (xs : List X) (i : ℕ) (x : X) → slice_get (filter p xs) i ≡ Some x → (p x ≡ true) × ((j : ℕ) × (slice_get xs j ≡ Some x))
 in_filter p [] i x at = absurd (none-some x at)
 in_filter {X} p (y ∷ xs) i x at = by (p y) refl i (λ i at. in_filter p xs i x at) at
   where
@@ -53,7 +53,7 @@ pub record IsEntryAt (sources : Sources) (cost : Peer → ℕ) (prefix : PrefixV
   pub updated_by : find route_cmp (key_of prefix route.0.peer) es ≡ Some route.1
   pub candidate : is_candidate sources cost (key_of prefix route.0.peer, route.1) ≡ true
 
-is_entry_at : (sources : Sources) (cost : Peer → ℕ) (prefix : PrefixValue) (es : RouteEntries) (i : ℕ) (route : Route) → is_sorted route_cmp es ≡ true → slice_get (candidates sources cost prefix false es) i ≡ Some route → IsEntryAt sources cost prefix es route
+pub is_entry_at : (sources : Sources) (cost : Peer → ℕ) (prefix : PrefixValue) (es : RouteEntries) (i : ℕ) (route : Route) → is_sorted route_cmp es ≡ true → slice_get (candidates sources cost prefix false es) i ≡ Some route → IsEntryAt sources cost prefix es route
 is_entry_at sources cost prefix es i route sorted at =
     let passes = in_filter (is_candidate sources cost) (routes_of prefix es) i route at in
     let there = in_filter (is_of prefix) es passes.1.0 route passes.1.1 in
@@ -78,7 +78,7 @@ chosen_is_candidate sources cost prefix false before es s sorted chosen = by (fi
         (refl, updated_by.updated_by, updated_by.candidate)
 
 -- ---- a choice made again
-first_not_less : (a b : Ordering) → is_lt (ordering_then a b) ≡ false → is_lt a ≡ false
+pub first_not_less : (a b : Ordering) → is_lt (ordering_then a b) ≡ false → is_lt a ≡ false
 first_not_less Less b h = h
 first_not_less Equal b h = refl
 first_not_less Greater b h = refl
@@ -138,7 +138,7 @@ chosen_again sources cost prefix false before es sorted = by (first_of (preferen
 
 -- ---- what is current
 module _ (sources : Sources) (cost : Peer → ℕ) (is_local : PrefixValue → Bool) where
-  current_after : (p : PrefixValue) (routes : RoutesValue) → is_sorted route_cmp routes.entries ≡ true → IsCurrent sources cost p (is_local p) (reselected sources cost p (is_local p) routes)
+  pub current_after : (p : PrefixValue) (routes : RoutesValue) → is_sorted route_cmp routes.entries ≡ true → IsCurrent sources cost p (is_local p) (reselected sources cost p (is_local p) routes)
   current_after p routes sorted =
       let chosen = choice_at sources cost p (is_local p) routes in
       let here : selection_at p (reselected sources cost p (is_local p) routes) ≡ chosen =
@@ -223,6 +223,11 @@ module _ (sources : Sources) (cost : Peer → ℕ) (is_local : PrefixValue → B
   all_settled [] routes sorted current = refl
   all_settled (p ∷ ps) routes sorted current =
       ap (each_reselected sources cost is_local ps) (settled p routes sorted (current p)) ∙ all_settled ps routes sorted current
+
+-- A reselection changes nothing of tables whose selection is current.
+pub unchanged_reselected : (sources : Sources) (cost : Peer → ℕ) (prefix : PrefixValue) (local : Bool) (inside routes : RoutesValue) → is_sorted prefix_cmp inside.selections ≡ true → inside ≡ routes → IsCurrent sources cost prefix local inside → routes ≡ reselected sources cost prefix local routes
+unchanged_reselected sources cost prefix local inside routes sorted is current =
+    sym (ap (reselected sources cost prefix local) (sym is) ∙ settled sources cost (λ q. local) prefix inside sorted current ∙ is)
 
 -- ---- the selection that a reselection leaves
 pub selected_here : (prefix : PrefixValue) (value : Option Selection) (ss : Selections) → find prefix_cmp prefix (with_value prefix_cmp prefix value ss) ≡ value

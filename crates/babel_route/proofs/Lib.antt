@@ -6,3 +6,4 @@ pub mod DueLemmas
 pub mod CurrencyLemmas
 pub mod RefreshLemmas
 pub mod PrefixWalkLemmas
+pub mod OneChangeLemmas

@@ -1,5 +1,5 @@
 -- The route table with its selections (RFC 8966, section 3.6).
-use Rattle.std.specs.Prelude.{◌≡◌, ◌+◌, ℕ, Bool, not, ◌++◌, List, Option, map, length}
+use Rattle.std.specs.Prelude.{◌≡◌, ◌+◌, ℕ, Bool, true, not, ◌++◌, List, Option, map, length}
 use Rattle.std.specs.List.{filter}
 use Rattle.std.specs.Option.{option_map}
 use Rattle.std.specs.FinMap.{find}
@@ -9,8 +9,8 @@ use Rattle.babel_value.specs.Prefixes.{PrefixValue}
 use Rattle.babel_choice.specs.declared.entries.Selection.{Selection}
 use Rattle.babel_table.specs.Entries.{with_value}
 use Rattle.babel_sources.specs.Sources.{Sources}
-use Rattle.babel_choice.specs.Routes.{Route, RouteEntries}
-use Rattle.babel_choice.specs.Choices.{candidates, has_entry, preference, selection_of, peer_before, choice, Selections}
+use Rattle.babel_choice.specs.Routes.{Route, RouteEntries, routes_but}
+use Rattle.babel_choice.specs.Choices.{candidates, has_entry, preference, selection_of, peer_before, is_change, choice, Selections}
 use Rattle.babel_choice.specs.PrefixBounds.{is_beyond}
 use Rattle.babel_table.specs.Firsts.{first_of, IsFirstOf}
 
@@ -43,6 +43,12 @@ SelectsTheFirst sources cost prefix local old new =
 abbrev pub IsCurrent : Sources → (Peer → ℕ) → PrefixValue → Bool → RoutesValue → Type 0
 IsCurrent sources cost prefix local routes =
     selection_at prefix routes ≡ choice_at sources cost prefix local routes
+
+-- If the selection of the prefix isn't the neighbour's, it is the one that a reselection would leave if that neighbour had no route.
+abbrev pub IsCurrentBut : Sources → (Peer → ℕ) → Peer → PrefixValue → Bool → RoutesValue → Type 0
+IsCurrentBut sources cost peer prefix local routes =
+    let before : Option Selection = selection_at prefix routes in
+    is_change (peer_before before) peer ≡ true → before ≡ choice sources cost prefix local before (routes_but peer routes.entries)
 
 -- ---- the prefixes, and room
 

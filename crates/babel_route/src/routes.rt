@@ -24,7 +24,7 @@ use babel_choice::{
     PrefixRoutes, ReceivedUpdate, Retraction, RouteKey, Selection, Through, choose,
 };
 use babel_sources::{SourceEntry, SourcesOver};
-use babel_table::{Full, Memory, Table, find_in, find_near, places_below, revise_dues, set};
+use babel_table::{Full, Memory, Table, find_in, find_near, places_below, revise_dues, set_near};
 use babel_value::{Addr, Distance, Peer, Prefix, RouterId, Source};
 use current::replace_near;
 pub use prefix_walk::PrefixWalk;
@@ -121,11 +121,24 @@ impl<E: Table<RouteKey, Entry>, S: Table<Prefix, Selection>> RoutesOver<E, S> {
             prefix: *prefix,
             peer: *peer,
         };
-        match find_in(&self.entries, &key) {
+        let mut cursor = Cursor::new();
+        self.retract_near(now, &key, &mut cursor)
+    }
+
+    /// The same of the key's prefix and neighbour. The search begins at the cursor, which goes to the route.
+    #[inline(never)]
+    pub fn retract_near(&mut self, now: u64, key: &RouteKey, cursor: &mut Cursor) -> bool
+        ensures found { result ≡ is_some (find route_cmp key.now self.old.entries) }
+        ensures routes { self.new ≡ record self.old { entries = retracted now key.now.prefix key.now.peer self.old.entries } }
+    {
+        let mut place = cursor.entry;
+        let found = find_near(&self.entries, &mut place, key);
+        cursor.entry = place;
+        match found {
             Some(entry) => {
                 let retracted = entry.retracted(now);
                 self.due = self.due.min(retracted.deadline);
-                set(&mut self.entries, key, Some(retracted));
+                self.entries.replace(place, *key, retracted);
                 true
             }
             None => false,

@@ -53,6 +53,11 @@ impl Table<RouteKey, Entry> for RouteTable {
     }
 
     #[inline(always)]
+    fn replace(&mut self, place: usize, key: RouteKey, value: Entry) {
+        self.table.replace(place, key, value);
+    }
+
+    #[inline(always)]
     fn change_near<C: Change<Entry>>(
         &mut self,
         near: usize,
@@ -122,6 +127,11 @@ impl Table<Prefix, Selection> for SelectionTable {
     #[inline(always)]
     fn put_near(&mut self, near: usize, key: Prefix, value: Selection) -> Result<usize, Full> {
         self.table.put_near(near, key, value)
+    }
+
+    #[inline(always)]
+    fn replace(&mut self, place: usize, key: Prefix, value: Selection) {
+        self.table.replace(place, key, value);
     }
 
     #[inline(always)]

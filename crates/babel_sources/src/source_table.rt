@@ -50,6 +50,11 @@ impl Table<Source, SourceEntry> for SourceTable {
     }
 
     #[inline(always)]
+    fn replace(&mut self, place: usize, key: Source, value: SourceEntry) {
+        self.table.replace(place, key, value);
+    }
+
+    #[inline(always)]
     fn change_near<C: Change<SourceEntry>>(
         &mut self,
         near: usize,

@@ -1,5 +1,5 @@
 -- If the cost of one link changed, the selections of the prefixes to which its neighbour has no route stay current.
-use Rattle.std.specs.Prelude.{◌≡◌, ◌≢◌, ℕ, Bool, true, false, cond, ◌&&◌, List, [], ◌∷◌, map, filter, IfSome, ⊤, nat_lt, Option, Some, None, if◌then◌else◌}
+use Rattle.std.specs.Prelude.{◌≡◌, ◌≢◌, ℕ, Bool, true, false, cond, not, ◌&&◌, List, [], ◌∷◌, map, filter, IfSome, ⊤, nat_lt, Option, Some, None, if◌then◌else◌}
 use Rattle.std.specs.Option.{option_map, option_map_or}
 use Rattle.std.specs.Ordering.{eq_by_cmp, is_eq, is_lt}
 use Rattle.std.specs.Cmp.{tied_itself}
@@ -7,6 +7,8 @@ use Rattle.std.specs.FinMap.{find, put}
 use Rattle.std.proofs.Common.{refl, sym, ◌∙◌, ap, subst}
 use Rattle.std.proofs.lemmas.Bool.{or_parts, false≢true}
 use Rattle.babel_value.specs.declared.keys.Peer.{Peer}
+use Rattle.babel_value.specs.declared.distances.Distance.{Distance}
+use Rattle.babel_value.specs.declared.addresses.Addr.{Addr}
 use Rattle.babel_value.specs.Metrics.{metric_sum}
 use Rattle.babel_value.specs.Orders.{prefix_cmp, peer_cmp}
 use Rattle.babel_value.specs.Prefixes.{PrefixValue}
@@ -19,17 +21,22 @@ use Rattle.babel_link.specs.Neighbours.{Links, link_of, hello_of, hello_verdict,
 use Rattle.babel_table.specs.Firsts.{first_from, first_of}
 use Rattle.babel_table.proofs.LookupLemmas.{eq_turned}
 use Rattle.babel_choice.specs.declared.entries.Selection.{Selection}
-use Rattle.babel_choice.specs.Routes.{Route, RouteEntries, is_from, all_forgotten}
+use Rattle.babel_choice.specs.declared.entries.Entry.{Entry}
+use Rattle.babel_choice.specs.RouteKeys.{route_cmp}
+use Rattle.babel_choice.specs.Routes.{Route, RouteEntries, key_of, is_from, routes_but, retracted, retracted_entry, updated, entry_of_update, all_forgotten}
 use Rattle.babel_sources.specs.Sources.{Sources}
 use Rattle.babel_choice.specs.Choices.{is_of, routes_of, is_candidate, is_feasible_route, preference, rank_cmp, is_change, selection_of, peer_before, choice}
+use Rattle.babel_route.specs.Selections.{IsCurrentBut}
+use Rattle.babel_route.proofs.OneChangeLemmas.{current_but, routes_but_put}
 use Rattle.babel_state.specs.Sameness.{has_prefix}
-use Rattle.babel_state.specs.State.{State, announces, cost_at, nominal_cost, selected_at}
+use Rattle.babel_state.specs.State.{State, announces, cost_at, nominal_cost, selected_at, with_entries}
+use Rattle.babel_state.specs.Updates.{store}
 use Rattle.babel_state.specs.Hellos.{hears, forget_neighbour, forgets_flushed}
 use Rattle.babel_state.specs.Ticks.{forget_each}
-use Rattle.babel_state.specs.CurrentSelections.{AreCurrent}
+use Rattle.babel_state.specs.CurrentSelections.{IsCurrentAt, AreCurrent}
 use Rattle.babel_state.specs.SettledLaws.{with_ihu}
 use Rattle.babel_state.proofs.SettledLemmas.{other_cost}
-use Rattle.babel_speaker.specs.LinkChanges.{prefixes_from, AreOthersCurrent}
+use Rattle.babel_speaker.specs.LinkChanges.{prefixes_from, AreCurrentBut, AreOthersCurrent}
 
 -- ---- the choice by costs that are the same for the neighbours of the routes
 
@@ -95,20 +102,73 @@ module _ (sources : Sources) (old new : Peer → ℕ) where
       by false true from of none later = (others e.0.peer from, later none)
       by false false from of none later = later none
 
+  -- the routes of the other neighbours
+  but_same : (peer : Peer) → ((q : Peer) → eq_by_cmp peer_cmp q peer ≡ false → old q ≡ new q) → (p : PrefixValue) (es : RouteEntries) → AreSame (routes_of p (routes_but peer es))
+  but_same peer others p [] = tt
+  but_same peer others p (e ∷ es) = by (is_from peer e.0) (is_of p e) refl refl (but_same peer others p es)
+    where
+      by : (from of : Bool) → is_from peer e.0 ≡ from → is_of p e ≡ of → AreSame (routes_of p (routes_but peer es)) → AreSame (routes_of p (cond (not from) (e ∷ routes_but peer es) (routes_but peer es)))
+      by true of from here rest = rest
+      by false true from here rest = rw here (others e.0.peer from, rest)
+      by false false from here rest = rw here rest
+
+-- ---- current but for a neighbour's routes
+
+-- A change of the neighbour's cost alone.
+costs_but : (peer : Peer) (cost : Peer → ℕ) (s : State) → ((q : Peer) → eq_by_cmp peer_cmp q peer ≡ false → cost_at s q ≡ cost q) → AreCurrent s → (p : PrefixValue) → IsCurrentBut s.sources cost peer p (announces p s) s.routes
+costs_but peer cost s others current p = λ changes.
+    current_but s.sources (cost_at s) peer p (announces p s) (selected_at p s) s.routes.entries (current p) changes
+    ∙ same_choice s.sources (cost_at s) cost p (announces p s) (selected_at p s) (routes_but peer s.routes.entries)
+    (but_same s.sources (cost_at s) cost peer others p s.routes.entries)
+
+-- A change of the neighbour's routes alone.
+entries_but : (peer : Peer) (es : RouteEntries) (s : State) → routes_but peer es ≡ routes_but peer s.routes.entries → AreCurrent s → AreCurrentBut peer (with_entries es s)
+entries_but peer es s same current p = λ changes.
+    current_but s.sources (cost_at s) peer p (announces p s) (selected_at p s) s.routes.entries (current p) changes
+    ∙ ap (choice s.sources (cost_at s) p (announces p s) (selected_at p s)) (sym same)
+
+-- An Update of the neighbour that is stored.
+pub stored_but : (now : ℕ) (peer : Peer) (prefix : PrefixValue) (router : List ℕ) (next_hop : Addr) (distance : Distance) (interval : ℕ) (s t : State) → t ≡ store now peer prefix router next_hop distance interval s → AreCurrent s → AreCurrentBut peer t
+stored_but now peer prefix router next_hop distance interval s t is current =
+    subst (AreCurrentBut peer) (sym is)
+    (entries_but peer (updated now prefix peer router distance next_hop interval s.routes.entries) s
+    (routes_but_put peer prefix (entry_of_update now router distance next_hop interval) s.routes.entries) current)
+
+-- A retraction of the neighbour.
+pub retracted_but : (now : ℕ) (peer : Peer) (prefix : PrefixValue) (s t : State) → t ≡ with_entries (retracted now prefix peer s.routes.entries) s → AreCurrent s → AreCurrentBut peer t
+retracted_but now peer prefix s t is current =
+    subst (AreCurrentBut peer) (sym is)
+    (entries_but peer (retracted now prefix peer s.routes.entries) s (same (find route_cmp (key_of prefix peer) s.routes.entries)) current)
+  where
+    es : RouteEntries
+    es = s.routes.entries
+
+    same : (found : Option Entry) → routes_but peer (option_map_or (λ e. put route_cmp (key_of prefix peer) (retracted_entry now e) es) found es) ≡ routes_but peer es
+    same None = refl
+    same (Some e) = routes_but_put peer prefix (retracted_entry now e) es
+
 -- ---- after a Hello or an IHU
 
 abbrev with_links : Links → State → State
 with_links links s = record s { neighbours = links }
 
 put_others : (peer : Peer) (link : Link) (s : State) → AreCurrent s → AreOthersCurrent peer (with_links (put peer_cmp peer link s.neighbours) s)
-put_others peer link s current p none =
-    let t : State = with_links (put peer_cmp peer link s.neighbours) s in
-    current p
-    ∙ same_choice s.sources (cost_at s) (cost_at t) p (announces p s) (selected_at p s) s.routes.entries
-    (all_same s.sources (cost_at s) (cost_at t) peer (λ q other. sym (other_cost peer link s.neighbours (λ iface. nominal_cost iface s) q other)) p s.routes.entries none)
+put_others peer link s current = (λ p none. without p none, costs_but peer (cost_at t) s others current)
+  where
+    t : State
+    t = with_links (put peer_cmp peer link s.neighbours) s
+
+    others : (q : Peer) → eq_by_cmp peer_cmp q peer ≡ false → cost_at s q ≡ cost_at t q
+    others q other = sym (other_cost peer link s.neighbours (λ iface. nominal_cost iface s) q other)
+
+    without : (p : PrefixValue) → has_prefix p (prefixes_from peer s.routes.entries) ≡ false → IsCurrentAt p t
+    without p none =
+        current p
+        ∙ same_choice s.sources (cost_at s) (cost_at t) p (announces p s) (selected_at p s) s.routes.entries
+        (all_same s.sources (cost_at s) (cost_at t) peer others p s.routes.entries none)
 
 unchanged_others : (peer : Peer) (s : State) → AreCurrent s → AreOthersCurrent peer s
-unchanged_others peer s current p none = current p
+unchanged_others peer s current = (λ p none. current p, costs_but peer (cost_at s) s (λ q other. refl) current)
 
 pub hello_others : (now : ℕ) (peer : Peer) (unicast : Bool) (seqno interval : ℕ) (s t : State) → t ≡ hears now peer unicast seqno interval s → hello_verdict peer unicast seqno s.neighbours ≡ Kept → AreCurrent s → AreOthersCurrent peer t
 unfolding hello_of
@@ -161,8 +221,14 @@ ticked_others peer s t links gone is others none current =
     differs : (q : Peer) → eq_by_cmp peer_cmp q peer ≡ false → q ≢ peer
     differs q other same = false≢true (sym other ∙ ap (λ p. eq_by_cmp peer_cmp p peer) same ∙ ap is_eq (tied_itself peer_total peer))
 
-    after : AreOthersCurrent peer u
-    after p absent =
+    kept : (q : Peer) → eq_by_cmp peer_cmp q peer ≡ false → cost_at s q ≡ cost_at u q
+    kept q other = sym (others q (nominal_cost q.iface s) (differs q other))
+
+    without : (p : PrefixValue) → has_prefix p (prefixes_from peer s.routes.entries) ≡ false → IsCurrentAt p u
+    without p absent =
         current p
         ∙ same_choice s.sources (cost_at s) (cost_at u) p (announces p s) (selected_at p s) s.routes.entries
-        (all_same s.sources (cost_at s) (cost_at u) peer (λ q other. sym (others q (nominal_cost q.iface s) (differs q other))) p s.routes.entries absent)
+        (all_same s.sources (cost_at s) (cost_at u) peer kept p s.routes.entries absent)
+
+    after : AreOthersCurrent peer u
+    after = (λ p none. without p none, costs_but peer (cost_at u) s kept current)

@@ -24,8 +24,9 @@ use Rattle.babel_choice.specs.Routes.{Route, RouteEntries, is_from}
 use Rattle.babel_choice.proofs.RunLemmas.{drop_at}
 use Rattle.circular_buffer.proofs.Places.{slice_get-some}
 use Rattle.babel_choice.specs.Choices.{Selections}
-use Rattle.babel_route.specs.Selections.{RoutesValue, IsCurrent, selection_at, choice_at, prefixes_of}
+use Rattle.babel_route.specs.Selections.{RoutesValue, IsCurrent, IsCurrentBut, selection_at, choice_at, prefixes_of}
 use Rattle.babel_route.proofs.CurrencyLemmas.{same_selection}
+use Rattle.babel_route.proofs.OneChangeLemmas.{still_but}
 use Rattle.babel_route.proofs.CurrentLemmas.{settled, still_current, idle_current}
 use Rattle.babel_state.specs.Sameness.{has_prefix}
 use Rattle.babel_state.specs.State.{State, PrefixSet, announces, cost_at, selected_at, gathered, prefixes_in, routed_prefixes}
@@ -36,7 +37,7 @@ use Rattle.babel_state.specs.SettledLaws.{AreSelectionsInOrder}
 use Rattle.babel_state.proofs.CurrentLaws.{has_ascending}
 use Rattle.babel_state.proofs.Reselecting.{reselects_kept}
 use Rattle.babel_state.proofs.SettledLemmas.{nothing_follows}
-use Rattle.babel_speaker.specs.LinkChanges.{prefixes_from, AreOthersCurrent}
+use Rattle.babel_speaker.specs.LinkChanges.{prefixes_from, AreCurrentBut, AreOthersCurrent}
 use Rattle.babel_speaker.specs.StalePrefixes.{is_stale}
 
 -- ---- a prefix whose selection is current may be left out
@@ -52,6 +53,13 @@ unfolding kept_of
 keeps_current now p q s sorted current =
     subst (λ (k : State). IsCurrent k.sources (cost_at k) p (announces p k) k.routes) (sym (reselects_kept now None q s))
     (still_current s.sources (cost_at s) (λ x. announces x s) p q s.routes sorted current)
+
+pub keeps_but : (now : ℕ) (peer : Peer) (q : PrefixValue) (s t : State) → AreRoutesInOrder s → t ≡ reselect now None q s → AreCurrentBut peer s → AreCurrentBut peer t
+unfolding kept_of
+keeps_but now peer q s t sorted is current =
+    subst (AreCurrentBut peer) (sym is)
+    (λ p. subst (λ (k : State). IsCurrentBut k.sources (cost_at k) peer p (announces p k) k.routes) (sym (reselects_kept now None q s))
+    (still_but s.sources (cost_at s) (λ x. announces x s) peer p q s.routes sorted (current p)))
 
 keeps_routes : (now : ℕ) (q : PrefixValue) (s : State) → AreRoutesInOrder s → AreRoutesInOrder (reselect now None q s)
 unfolding kept_of
@@ -242,7 +250,7 @@ from_reselected now peer s t routes selections others is =
     let ps : List PrefixValue = prefixes_from peer s.routes.entries in
     is ∙ ap (λ qs. reselect_each now qs s) (sym (of_units ps))
     ∙ all_reselected now s routes selections (units ps) (from_sorted peer s.routes.entries routes)
-    (λ p none. others p (ap (has_prefix p) (sym (of_units ps)) ∙ none))
+    (λ p none. others.0 p (ap (has_prefix p) (sym (of_units ps)) ∙ none))
 
 -- ---- the walk over the routes
 

@@ -30,7 +30,7 @@ module _ {X : Type 0} (order : X → X → Ordering) (o : IsTotalOrder order) wh
   flip a b = ap is_lt (o.antisymm a b) ∙ reversed (order b a)
 
   -- where neither step falls, nothing falls
-  rises : (a b c : X) → is_lt (order b a) ≡ false → is_lt (order c b) ≡ false → is_lt (order c a) ≡ false
+  pub rises : (a b c : X) → is_lt (order b a) ≡ false → is_lt (order c b) ≡ false → is_lt (order c a) ≡ false
   rises a b c first second = flip c a ∙ upto o a b c (sym (flip b a) ∙ first) (sym (flip c b) ∙ second)
 
   falls : (a b c : X) → is_lt (order b a) ≡ true → is_lt (order c b) ≡ true → is_lt (order c a) ≡ true

@@ -1,5 +1,5 @@
 -- What is at the index after all lesser keys is the key's value, or the key is missing.
-use Rattle.std.proofs.Common.{◌≡◌, ℕ, zero, suc, true, false, not, List, [], ◌∷◌, take, drop, slice_get, Some, None, refl, sym, ap, subst}
+use Rattle.std.proofs.Common.{◌≡◌, ℕ, zero, suc, true, false, not, List, [], ◌∷◌, take, drop, slice_get, Some, None, refl, sym, ap, subst, ◌∙◌}
 use Rattle.std.specs.List.{list_all}
 use Rattle.std.specs.declared.cmp.Ordering.{Ordering}
 use Rattle.std.specs.declared.cmp.Ordering.TheVariants.{Less, Equal, Greater}
@@ -23,6 +23,9 @@ module _ {K V : Type 0} (R : K → K → Ordering) where
   pub found_there : IsTotalOrder R → IsAntisymmetric R → (k : K) (es : List (K × V)) (i : ℕ) (e : K × V) → is_sorted R es ≡ true → slice_get es i ≡ Some e → is_eq (R k e.0) ≡ true → Some e.1 ≡ find R k es
   found_there total exact k es i e sorted at same =
       subst (λ x. Some e.1 ≡ find R x es) (sym (exact k e.0 (equal (R k e.0) same))) (sym (find_hit R total es i e sorted at))
+
+  pub at_there : IsAntisymmetric R → (k : K) (es : List (K × V)) (i : ℕ) (e : K × V) → slice_get es i ≡ Some e → is_eq (R k e.0) ≡ true → slice_get es i ≡ Some (k, e.1)
+  at_there exact k es i e at same = at ∙ ap (λ x. Some (x, e.1)) (sym (exact k e.0 (equal (R k e.0) same)))
 
   -- the first entry from the index on has no lesser key
   head_not_lesser : (k : K) (es : List (K × V)) (i : ℕ) (e : K × V) → slice_get es i ≡ Some e → list_all (λ f. not (is_gt (R k f.0))) (drop i es) ≡ true → not (is_gt (R k e.0)) ≡ true

@@ -6,7 +6,7 @@ ghost use Rattle.std.specs.List.{list_all};
 ghost use Rattle.std.specs.Ordering.{is_gt};
 ghost use Rattle.std.specs.FinMap.{find};
 ghost use Rattle.babel_table.specs.Entries.{with_value};
-ghost use Rattle.babel_table.specs.Places.{are_lesser, are_greater};
+ghost use Rattle.babel_table.specs.Places.{IsAt, are_lesser, are_greater};
 ghost use Rattle.babel_table.specs.Bounds.{lesser_falls};
 
 use crate::{Bound, Key, Steps, Table, places_below};
@@ -126,7 +126,8 @@ fn places_below_from<K: Key, V: Copy, T: Table<K, V>, B: Bound<K>>(
 /// The value at the key. `near` becomes the index of the key, or the one at which it would be inserted.
 #[inline(always)]
 pub fn find_near<K: Key, V: Copy, T: Table<K, V>>(table: &T, near: &mut usize, key: &K) -> Option<V>
-    ensures { result ≡ find K.order key.now (T.entries table.now) }
+    ensures value { result ≡ find K.order key.now (T.entries table.now) }
+    ensures at { IsSome result → IsAt key.now (T.entries table.now) near.new }
 {
     let Some(entry) = table.at(*near) else {
         return search_for(table, near, key);
@@ -140,7 +141,8 @@ pub fn find_near<K: Key, V: Copy, T: Table<K, V>>(table: &T, near: &mut usize, k
 
 /// The same by a search.
 fn search_for<K: Key, V: Copy, T: Table<K, V>>(table: &T, near: &mut usize, key: &K) -> Option<V>
-    ensures { result ≡ find K.order key.now (T.entries table.now) }
+    ensures value { result ≡ find K.order key.now (T.entries table.now) }
+    ensures at { IsSome result → IsAt key.now (T.entries table.now) near.new }
 {
     let place = places_below(table, &Lesser { key: *key });
     *near = place;
@@ -158,7 +160,8 @@ fn search_for<K: Key, V: Copy, T: Table<K, V>>(table: &T, near: &mut usize, key:
 fn walk_for<K: Key, V: Copy, T: Table<K, V>>(table: &T, near: &mut usize, key: &K) -> Option<V>
     requires within { near.old < length (T.entries table.now) }
     requires lesser { are_lesser K.order key.now (take (near.old + 1) (T.entries table.now)) ≡ true }
-    ensures { result ≡ find K.order key.now (T.entries table.now) }
+    ensures value { result ≡ find K.order key.now (T.entries table.now) }
+    ensures at { IsSome result → IsAt key.now (T.entries table.now) near.new }
 {
     let len = table.len();
     let start = *near;
@@ -184,7 +187,8 @@ fn walk_for<K: Key, V: Copy, T: Table<K, V>>(table: &T, near: &mut usize, key: &
 fn walk_back_for<K: Key, V: Copy, T: Table<K, V>>(table: &T, near: &mut usize, key: &K) -> Option<V>
     requires within { near.old < length (T.entries table.now) }
     requires greater { are_greater K.order key.now (drop near.old (T.entries table.now)) ≡ true }
-    ensures { result ≡ find K.order key.now (T.entries table.now) }
+    ensures value { result ≡ find K.order key.now (T.entries table.now) }
+    ensures at { IsSome result → IsAt key.now (T.entries table.now) near.new }
 {
     let mut place = *near;
     for _ in 0..FAR {

@@ -1,6 +1,6 @@
 //! A table as a list in the order in which its keys were first stored.
 
-ghost use Rattle.std.specs.Prelude.{◌≡◌, ◌+◌, ◌≤◌, ◌<◌, Some, None, IsTrue, length, vec_len, vec_capacity, slice_get, MatchOption};
+ghost use Rattle.std.specs.Prelude.{◌≡◌, ◌+◌, ◌≤◌, ◌<◌, Some, None, IsTrue, length, vec_len, vec_capacity, MatchOption};
 ghost use Rattle.std.specs.FinMap.{find};
 ghost use Rattle.babel_table.specs.Entries.{lesser_keys};
 ghost use Rattle.babel_table.specs.Insertions.{in_order, are_distinct, sorted_in_order};
@@ -73,6 +73,10 @@ impl<K: Key, V: Copy> Table<K, V> for PlainTable<K, V> {
             Ok(()) => Ok(near),
             Err(full) => Err(full),
         }
+    }
+
+    fn replace(&mut self, _place: usize, key: K, value: V) {
+        let _ = self.put(key, value);
     }
 
     fn change_near<C: Change<V>>(

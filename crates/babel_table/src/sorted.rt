@@ -1,6 +1,6 @@
 //! A table as a sequence in the order of the keys.
 
-ghost use Rattle.std.specs.Prelude.{◌≡◌, ℕ, ◌+◌, ◌≤◌, ◌<◌, ◌↔◌, [], true, take, IsTrue, IsErr, IsNone, length, IfOk, IfErr, OnOk, OnErr};
+ghost use Rattle.std.specs.Prelude.{◌≡◌, ◌+◌, ◌≤◌, ◌<◌, ◌↔◌, [], true, take, IsTrue, IsErr, IsNone, length, IfOk, IfErr, OnOk, OnErr};
 ghost use Rattle.std.specs.FinMap.{find, put, is_sorted};
 ghost use Rattle.babel_table.specs.Digits.{binary_digits};
 ghost use Rattle.babel_table.specs.Places.{IsAt, IsGap, are_lesser};
@@ -66,6 +66,10 @@ impl<K: Key, V: Copy, Q: Sequence<K, V>> Table<K, V> for SortedTable<K, V, Q> {
     fn put_near(&mut self, near: usize, key: K, value: V) -> Result<usize, Full> {
         let found = place_near(self, near, &key);
         store(self, found, key, value)
+    }
+
+    fn replace(&mut self, place: usize, key: K, value: V) {
+        self.entries.set(place, key, value);
     }
 
     fn change_near<C: Change<V>>(

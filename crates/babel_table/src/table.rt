@@ -3,6 +3,7 @@
 ghost use Rattle.std.specs.Prelude.{◌≡◌, ℕ, ◌+◌, ◌≤◌, ◌<◌, ◌↔◌, List, [], length, slice_get, IfOk, OnOk, OnErr, IsErr, IsNone, IsSome, IsTrue};
 ghost use Rattle.std.specs.FinMap.{find, put, is_sorted};
 ghost use Rattle.babel_table.specs.Entries.{revised_entries, without, with_value};
+ghost use Rattle.babel_table.specs.Places.{IsAt};
 
 use crate::{Change, Full, Key, Memory, Revision, Sought, Steps};
 use std::alloc::Global;
@@ -55,6 +56,12 @@ pub trait Table<K: Key, V: Copy>: Drop {
         ensures err { OnErr result (entries self.new ≡ entries self.old) }
         ensures room { room self.new ≡ room self.old };
 
+    /// Stores the value at the key, which the table has at the index. There is no look-up.
+    fn replace(&mut self, place: usize, key: K, value: V)
+        requires at { IsAt key (entries self.old) place }
+        ensures entries { entries self.new ≡ put K.order key value (entries self.old) }
+        ensures room { room self.new ≡ room self.old };
+
     /// Stores what the change makes of the value at the key, with one look-up, and returns what it takes the
     /// place of. The look-up begins near an index, as that of `put_near`. `Full` as of `put`.
     fn change_near<C: Change<V>>(
@@ -91,10 +98,14 @@ pub trait Table<K: Key, V: Copy>: Drop {
     ghost ordered: { (table : Self) → IsTrue (is_sorted K.order (entries table)) };
 }
 
-/// The value at the key. Its steps are not counted.
+/// The value at the key. Its steps are not counted. Nothing is looked up in an empty table.
+#[inline(always)]
 pub fn find_in<K: Key, V: Copy, T: Table<K, V>>(table: &T, key: &K) -> Option<V>
     ensures { result ≡ find K.order key.now (T.entries table.now) }
 {
+    if table.len() == 0 {
+        return None;
+    }
     find_on::<Brand, K, V, T>(table, key, Blank::new(1))
 }
 

@@ -1,19 +1,23 @@
 //! Whether the selection of a prefix is current (RFC 8966, section 3.6).
 
-ghost use Rattle.std.specs.Prelude.{◌≡◌, ◌<◌, length, IsSome, IsNone, IfSome};
+ghost use Rattle.std.specs.Prelude.{◌≡◌, ◌<◌, Bool, true, Some, length, slice_get, IsSome, IsNone, IfSome};
 ghost use Rattle.std.specs.FinMap.{find};
-ghost use Rattle.babel_value.specs.Orders.{prefix_cmp};
+ghost use Rattle.std.specs.Ordering.{eq_by_cmp};
+ghost use Rattle.babel_value.specs.Orders.{prefix_cmp, peer_cmp};
 ghost use Rattle.babel_table.specs.Entries.{with_value};
+ghost use Rattle.babel_table.specs.Places.{IsAt};
+ghost use Rattle.babel_choice.specs.Choices.{is_change, peer_before};
 ghost use Rattle.babel_choice.specs.Origins.{is_own};
 ghost use Rattle.babel_route.specs.Currency.{is_same_distance, is_same_entry, is_same_selection, is_current};
-ghost use Rattle.babel_route.specs.Selections.{selection_at, reselected};
+ghost use Rattle.babel_route.specs.Selections.{selection_at, reselected, IsCurrentBut};
 
 use super::RoutesOver;
-use super::refresh::replace_at;
-use babel_choice::{ChoiceInputs, Costs, Cursor, Entry, Origin, RouteKey, Selection, choose};
+use babel_choice::{
+    ChoiceInputs, Costs, Cursor, Entry, Origin, RouteKey, Selection, choose, overtakes,
+};
 use babel_sources::{SourceEntry, SourcesOver};
 use babel_table::{Table, find_near, set_near};
-use babel_value::{Distance, Prefix, Source};
+use babel_value::{Distance, Peer, Prefix, Source};
 
 impl<E: Table<RouteKey, Entry>, S: Table<Prefix, Selection>> RoutesOver<E, S> {
     /// Whether the selection of the prefix is the one that a reselection would leave. The searches begin at the
@@ -38,6 +42,53 @@ impl<E: Table<RouteKey, Entry>, S: Table<Prefix, Selection>> RoutesOver<E, S> {
         };
         let after = choose(&inputs, prefix, origin, &before, cursor);
         is_same_selection(&before, &after)
+    }
+
+    /// The selection of the key's prefix, if it is another neighbour's and a reselection would leave it, since the route of the
+    /// key's neighbour is no better. That follows from these two routes alone if the selection is current but for the routes of
+    /// that neighbour. `None` says nothing. The cursor is at the neighbour's route, and goes to the selection.
+    #[inline(always)]
+    pub fn kept_selection<T: Table<Source, SourceEntry>, C: Costs>(
+        &self,
+        key: &RouteKey,
+        sources: &SourcesOver<T>,
+        costs: &C,
+        cursor: &mut Cursor,
+    ) -> Option<Selection>
+        ensures selection { IsSome result → result ≡ selection_at key.now.prefix self.now }
+        ensures kept { IsSome result → (local : Bool) → IsCurrentBut sources.now (C.cost_of costs.now) key.now.peer key.now.prefix local self.now → self.now ≡ reselected sources.now (C.cost_of costs.now) key.now.prefix local self.now }
+    {
+        let mut place = cursor.selection;
+        let before = find_near(&self.selections, &mut place, &key.prefix);
+        cursor.selection = place;
+        let route = rival(&self.entries, cursor.entry, key, &before)?;
+        let inputs = ChoiceInputs {
+            entries: &self.entries,
+            sources,
+            costs,
+        };
+        if overtakes(&inputs, &route, &before, &mut cursor.source) {
+            return None;
+        }
+        before
+    }
+
+    /// Whether some prefix may have routes of several neighbours and a selection: there are selections, and more routes.
+    #[inline(always)]
+    pub fn are_shared(&self) -> bool {
+        let selected = self.selections.len();
+        selected > 0 && self.entries.len() > selected
+    }
+
+    /// Whether the route at the index is next to one of the same prefix, so that its prefix has routes of several neighbours.
+    #[inline(always)]
+    pub fn is_shared(&self, place: usize) -> bool {
+        let Some(route) = self.entries.at(place) else {
+            return false;
+        };
+        let prefix = &route.0.prefix;
+        has_prefix_at(&self.entries, place.wrapping_add(1), prefix)
+            || has_prefix_at(&self.entries, place.wrapping_sub(1), prefix)
     }
 
     /// Selects the route of the prefix again, as `select_near`. It returns `None` if the selection was the one that a
@@ -73,6 +124,49 @@ impl<E: Table<RouteKey, Entry>, S: Table<Prefix, Selection>> RoutesOver<E, S> {
     }
 }
 
+/// The route at the index, if it is the key's, and the selection is another neighbour's or none.
+#[inline(always)]
+fn rival<E: Table<RouteKey, Entry>>(
+    entries: &E,
+    place: usize,
+    key: &RouteKey,
+    selection: &Option<Selection>,
+) -> Option<(RouteKey, Entry)>
+    ensures other { IsSome result → is_change (peer_before selection.now) key.now.peer ≡ true }
+    ensures at { IfSome result (λ route. slice_get (E.entries entries.now) place ≡ Some route) }
+    ensures prefix { IfSome result (λ route. eq_by_cmp prefix_cmp route.0.prefix key.now.prefix ≡ true) }
+    ensures peer { IfSome result (λ route. eq_by_cmp peer_cmp route.0.peer key.now.peer ≡ true) }
+{
+    if !is_others(selection, &key.peer) {
+        return None;
+    }
+    let route = entries.at(place)?;
+    if route.0.prefix.cmp(&key.prefix).is_eq() && route.0.peer.cmp(&key.peer).is_eq() {
+        Some(route)
+    } else {
+        None
+    }
+}
+
+/// Whether there is a route at the index, and it is of the prefix.
+#[inline(always)]
+fn has_prefix_at<E: Table<RouteKey, Entry>>(entries: &E, place: usize, prefix: &Prefix) -> bool {
+    match entries.at(place) {
+        Some(route) => route.0.prefix.cmp(prefix).is_eq(),
+        None => false,
+    }
+}
+
+/// Whether the selection is another neighbour's, or there is none.
+fn is_others(selection: &Option<Selection>, peer: &Peer) -> bool
+    ensures { result ≡ is_change (peer_before selection.now) peer.now }
+{
+    match selection {
+        Some(selected) => !peer.cmp(&selected.peer).is_eq(),
+        None => true,
+    }
+}
+
 /// The index at which the search for the next prefix's selection begins: after that of this prefix, which is at the index
 /// `place`, if it is still there. After one that is new, the next is mostly new too: then its search begins here.
 /// A search may begin at any index, and finds the same.
@@ -94,6 +188,7 @@ pub(crate) fn replace_near<S: Table<Prefix, Selection>>(
     after: Option<Selection>,
 )
     requires before { before.now ≡ find prefix_cmp prefix (S.entries selections.old) }
+    requires at { IsSome before.now → IsAt prefix (S.entries selections.old) place }
     requires room { IsSome after → IsNone (find prefix_cmp prefix (S.entries selections.old)) → length (S.entries selections.old) < S.room selections.old }
     ensures entries { S.entries selections.new ≡ with_value prefix_cmp prefix after (S.entries selections.old) }
     ensures room { S.room selections.new ≡ S.room selections.old }
@@ -114,12 +209,13 @@ fn exchange_near<S: Table<Prefix, Selection>>(
     after: &Option<Selection>,
 )
     requires before { before.now ≡ find prefix_cmp prefix (S.entries selections.old) }
+    requires at { IsSome before.now → IsAt prefix (S.entries selections.old) place }
     requires room { IsSome after.now → IsNone (find prefix_cmp prefix (S.entries selections.old)) → length (S.entries selections.old) < S.room selections.old }
     ensures entries { S.entries selections.new ≡ with_value prefix_cmp prefix after.now (S.entries selections.old) }
     ensures room { S.room selections.new ≡ S.room selections.old }
 {
     match (before, after) {
-        (Some(_), Some(after)) => replace_at(selections, place, prefix, after),
+        (Some(_), Some(after)) => selections.replace(place, prefix, *after),
         _ => set_near(selections, place, prefix, *after),
     }
 }

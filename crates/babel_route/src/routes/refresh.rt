@@ -7,6 +7,7 @@ ghost use Rattle.std.specs.FinMap.{find, put};
 ghost use Rattle.babel_value.specs.declared.keys.Peer.{Peer};
 ghost use Rattle.babel_value.specs.Orders.{prefix_cmp, peer_cmp};
 ghost use Rattle.babel_table.specs.Entries.{with_value};
+ghost use Rattle.babel_table.specs.Places.{IsAt};
 ghost use Rattle.babel_choice.specs.RouteKeys.{route_cmp};
 ghost use Rattle.babel_choice.specs.Routes.{key_of, updated};
 ghost use Rattle.babel_sources.specs.Sources.{Sources};
@@ -18,7 +19,7 @@ use super::RoutesOver;
 use super::current::is_same_entry;
 use super::room::is_crowded;
 use babel_choice::{Cursor, Entry, ReceivedUpdate, RouteKey, Selection};
-use babel_table::{Full, Key, Table, find_near, set_near};
+use babel_table::{Full, Table, find_near, set_near};
 use babel_value::{Peer, Prefix, hold_time};
 
 /// What is done with an update that repeats its neighbour's entry.
@@ -80,7 +81,7 @@ impl<E: Table<RouteKey, Entry>, S: Table<Prefix, Selection>> RoutesOver<E, S> {
             return Ok(Some(self.refresh_at(place, &key, &entry, cursor)));
         }
         self.due = self.due.min(deadline);
-        replace_at(&mut self.entries, place, key, &entry);
+        self.entries.replace(place, key, entry);
         Ok(None)
     }
 
@@ -109,12 +110,13 @@ impl<E: Table<RouteKey, Entry>, S: Table<Prefix, Selection>> RoutesOver<E, S> {
         cursor: &mut Cursor,
     ) -> (Option<Selection>, Option<Selection>)
         requires repeated { is_repeated entry.now (find route_cmp key.now self.old.entries) ≡ true }
+        requires at { IsAt key.now self.old.entries place }
         ensures before { result.0 ≡ selection_at key.now.prefix self.old }
         ensures after { result.1 ≡ selection_at key.now.prefix self.new }
         ensures routes { (sources : Sources) (cost : Peer → ℕ) (local : Bool) → IsCurrent sources cost key.now.prefix local self.old → self.new ≡ reselected sources cost key.now.prefix local (record self.old { entries = put route_cmp key.now entry.now self.old.entries }) }
     {
         self.due = self.due.min(entry.deadline);
-        replace_at(&mut self.entries, place, *key, entry);
+        self.entries.replace(place, *key, *entry);
         let near = &mut cursor.selection;
         refresh_selection(&mut self.selections, near, key, entry.deadline)
     }
@@ -150,7 +152,8 @@ fn refresh_selection<S: Table<Prefix, Selection>>(
     if !is_own {
         return (Some(before), Some(after));
     }
-    replace_at(selections, *near, key.prefix, &after);
+    let stored = after;
+    selections.replace(*near, key.prefix, stored);
     (Some(before), Some(after))
 }
 
@@ -170,18 +173,4 @@ fn with_deadline(selection: &Selection, is_own: bool, deadline: u64) -> Selectio
         new.entry.deadline = deadline;
     }
     new
-}
-
-/// Stores the value at a key that the table has. The index is that of the key, which only matters for speed.
-pub(crate) fn replace_at<K: Key, V: Copy, T: Table<K, V>>(
-    table: &mut T,
-    place: usize,
-    key: K,
-    value: &V,
-)
-    requires known { IsSome (find K.order key (T.entries table.old)) }
-    ensures entries { T.entries table.new ≡ put K.order key value.now (T.entries table.old) }
-    ensures room { T.room table.new ≡ T.room table.old }
-{
-    let _ = table.put_near(place, key, *value);
 }

@@ -1,14 +1,14 @@
 //! Route selection and what follows from it: triggered updates and requests for a seqno (RFC 8966,
 //! sections 3.6, 3.7.2 and 3.8.2).
 
-ghost use Rattle.std.specs.Prelude.{◌≡◌, [], ◌∷◌, None, IsTrue, IsFalse, IsNone, IfSome};
+ghost use Rattle.std.specs.Prelude.{◌≡◌, [], ◌∷◌, None, IsTrue, IsFalse, IsNone, IsSome, IfSome};
 ghost use Rattle.babel_state.specs.declared.requests.Resend.TheVariants.{Unfeasible};
 ghost use Rattle.babel_state.specs.Limits.{request_hops};
 ghost use Rattle.babel_state.specs.Reselection.{queue, updates_to_all, update_to, request_seqno, unfeasible_peers, is_same_origin, advertise_change, may_request_for_lost, seqno_after, request_for_lost, is_selected_peer, request_for_update, request_from_sender, request_for_seqno, follow_up, select, reselect, reselect_each, reselect_all};
 ghost use Rattle.babel_state.specs.State.{prefixes_in, selected_at};
 ghost use Rattle.babel_state.specs.CurrentSelections.{AreCurrent};
 ghost use Rattle.babel_state.specs.KeptRoutes.{KeepsRoutes};
-ghost use Rattle.babel_speaker.specs.LinkChanges.{AreOthersCurrent};
+ghost use Rattle.babel_speaker.specs.LinkChanges.{prefixes_from, AreCurrentBut, AreOthersCurrent, IsCurrentButAt};
 ghost use Rattle.babel_speaker.specs.declared.tables.link_costs.LinkChange.TheVariants.{Nothing, Cost};
 
 use crate::hints::Hints;
@@ -17,7 +17,7 @@ use crate::input::selection_changes::{are_alike, is_same_origin, is_selected_pee
 use crate::output::queueing::{has_unfeasible, queue_requests_to_unfeasible, queue_updates_to_all};
 use crate::state::Core;
 use crate::tables::{LinkChange, LinkCosts, Scratch, SeqnoRequest};
-use babel_choice::{Cursor, Selection};
+use babel_choice::{Cursor, RouteKey, Selection};
 use babel_state::{Item, REQUEST_HOPS, Resend, Target};
 use babel_value::{Peer, Prefix, Seqno, Source};
 
@@ -333,6 +333,45 @@ impl Core {
         }
     }
 
+    /// The selection of the prefix, if a reselection leaves it after a change of the neighbour alone: of its routes, or of the
+    /// link to it. `None` says nothing. The cursor is at the neighbour's route, and goes to the selection.
+    #[inline(always)]
+    pub(crate) fn kept_selection(
+        &self,
+        prefix: &Prefix,
+        peer: &Peer,
+        cursor: &mut Cursor,
+    ) -> Option<Selection>
+        requires others { IsCurrentButAt peer.now prefix.now self.now }
+        ensures selection { IsSome result → result ≡ selected_at prefix.now self.now }
+        ensures kept { IsSome result → self.now ≡ select prefix.now self.now }
+    {
+        let key = RouteKey {
+            prefix: *prefix,
+            peer: *peer,
+        };
+        let links = LinkCosts::new(&self.interfaces, &self.neighbours);
+        self.routes
+            .kept_selection(&key, &self.sources, &links, cursor)
+    }
+
+    /// Whether the prefix has routes of several neighbours, and its selection stays after a change of the link to one of them.
+    /// `false` says nothing. The cursor is at that neighbour's route, and goes to the next prefix's selection.
+    #[inline(never)]
+    fn keeps_selection(&self, prefix: &Prefix, peer: &Peer, cursor: &mut Cursor) -> bool
+        requires others { IsCurrentButAt peer.now prefix.now self.now }
+        ensures { IsTrue result → self.now ≡ select prefix.now self.now }
+    {
+        if !self.routes.is_shared(cursor.entry)
+            || self.kept_selection(prefix, peer, cursor).is_none()
+        {
+            return false;
+        }
+        // The next prefix is mostly the next one that has a selection.
+        cursor.selection = cursor.selection.wrapping_add(1);
+        true
+    }
+
     /// Selects the route of each prefix again to which the neighbour has a route, in one walk over the table. If all other
     /// selections are current, that leaves what a reselection of all leaves.
     fn reselect_from(&mut self, now: u64, peer: &Peer)
@@ -340,12 +379,46 @@ impl Core {
         ensures state { self.new ≡ reselect_all now self.old }
         ensures current { AreCurrent self.new }
     {
+        // The tables are in order.
+        let _count = self.routes.len();
+        if self.neighbours.as_slice().len() > 1 && self.routes.are_shared() {
+            self.reselect_shared_from(now, peer);
+        } else {
+            self.reselect_each_from(now, peer);
+        }
+    }
+
+    /// Selects the route of each prefix again to which the neighbour has a route.
+    #[inline(never)]
+    fn reselect_each_from(&mut self, now: u64, peer: &Peer)
+        ensures { self.new ≡ reselect_each now (prefixes_from peer.now self.old.routes.entries) self.old }
+    {
         let mut cursor = Cursor::new();
         for place in 0..self.routes.len() {
             if let Some(prefix) = self.routes.prefix_from(place, peer) {
                 cursor.entry = place;
                 // A search may begin at any index. Sources of routes that follow each other mostly do too.
                 cursor.source = cursor.source.wrapping_add(1);
+                self.reselect_changed(now, &prefix, &mut cursor);
+            }
+        }
+    }
+
+    /// The same where some prefixes have routes of several neighbours: a selection that stays is compared with this
+    /// neighbour's route alone.
+    #[inline(never)]
+    fn reselect_shared_from(&mut self, now: u64, peer: &Peer)
+        requires others { AreCurrentBut peer.now self.old }
+        ensures { self.new ≡ reselect_each now (prefixes_from peer.now self.old.routes.entries) self.old }
+    {
+        let mut cursor = Cursor::new();
+        for place in 0..self.routes.len() {
+            let Some(prefix) = self.routes.prefix_from(place, peer) else {
+                continue;
+            };
+            cursor.entry = place;
+            cursor.source = cursor.source.wrapping_add(1);
+            if !self.keeps_selection(&prefix, peer, &mut cursor) {
                 self.reselect_changed(now, &prefix, &mut cursor);
             }
         }

@@ -1,20 +1,22 @@
 //! Updates and retractions of a neighbour (RFC 8966, section 3.5.3).
 
-ghost use Rattle.std.specs.Prelude.{◌≡◌, false, Some, IsTrue, IsFalse, IsSome, IsNone, IfSome, IfOk, OnErr, is_err, is_none, if◌then◌else◌};
+ghost use Rattle.std.specs.Prelude.{◌≡◌, false, Some, IsTrue, IsFalse, IsSome, IsNone, IfSome, IfOk, OnErr, is_err, is_none, is_some, if◌then◌else◌};
+ghost use Rattle.babel_choice.specs.Routes.{retracted};
 ghost use Rattle.babel_sources.specs.Distances.{is_feasible};
 ghost use Rattle.babel_state.specs.declared.notes.Verdict.TheVariants.{TableFull};
 ghost use Rattle.babel_state.specs.CurrentSelections.{AreCurrent};
 ghost use Rattle.babel_state.specs.KeptRoutes.{KeepsRoutes};
-ghost use Rattle.babel_state.specs.Reselection.{select};
-ghost use Rattle.babel_state.specs.State.{pair_at, selected_at};
+ghost use Rattle.babel_state.specs.Reselection.{select, reselect};
+ghost use Rattle.babel_state.specs.State.{entry_at, pair_at, selected_at, with_entries};
 ghost use Rattle.babel_state.specs.Updates.{store, is_satisfied, advertise_if_selected, satisfy_request, judge, is_route_too_many, handle_update, handle_retraction, handle_retract_all};
+ghost use Rattle.babel_speaker.specs.LinkChanges.{IsCurrentButAt};
 
 use crate::hints::Hints;
 use crate::input::causes::UnfeasibleUpdate;
 use crate::input::selection_changes::are_alike;
 use crate::state::Core;
 use crate::tables::Scratch;
-use babel_choice::{ReceivedUpdate, Selection};
+use babel_choice::{Cursor, ReceivedUpdate, RouteKey, Selection};
 use babel_route::{Full, OnRepeat, Refreshed};
 use babel_state::Verdict;
 use babel_value::{Distance, Peer, Prefix, Seqno, Source};
@@ -87,6 +89,48 @@ impl Core {
             .store_near(now, update, on_repeat, &mut hints.cursor)
     }
 
+    /// Selects the route of the prefix again after a change of the neighbour's route to it. If the speaker was settled before,
+    /// the selection is current but for that neighbour's routes. Returns the old and the new selection.
+    #[inline(always)]
+    fn select_after(
+        &mut self,
+        prefix: &Prefix,
+        peer: &Peer,
+        hints: &mut Hints,
+    ) -> (Option<Selection>, Option<Selection>)
+        requires others { IsTrue hints.old.settled → IsCurrentButAt peer.now prefix.now self.old }
+        ensures settled { hints.new.settled ≡ hints.old.settled }
+        ensures state { self.new ≡ select prefix.now self.old }
+        ensures old { result.0 ≡ selected_at prefix.now self.old }
+        ensures new { result.1 ≡ selected_at prefix.now self.new }
+    {
+        if hints.settled && self.routes.are_shared() {
+            return self.select_shared(prefix, peer, &mut hints.cursor);
+        }
+        self.select_near(prefix, &mut hints.cursor)
+    }
+
+    /// The same where some prefixes have routes of several neighbours: a selection that stays is compared with this
+    /// neighbour's route alone. The searches begin at the cursor, which is at that route.
+    #[inline(never)]
+    fn select_shared(
+        &mut self,
+        prefix: &Prefix,
+        peer: &Peer,
+        cursor: &mut Cursor,
+    ) -> (Option<Selection>, Option<Selection>)
+        requires others { IsCurrentButAt peer.now prefix.now self.old }
+        ensures state { self.new ≡ select prefix.now self.old }
+        ensures old { result.0 ≡ selected_at prefix.now self.old }
+        ensures new { result.1 ≡ selected_at prefix.now self.new }
+    {
+        if let Some(kept) = self.kept_selection(prefix, peer, cursor) {
+            let before = kept;
+            return (Some(before), Some(kept));
+        }
+        self.select_near(prefix, cursor)
+    }
+
     /// Stores the update and selects the route of its prefix again. Returns the old and the new selection, or `None` if
     /// the route is new and all places are taken. The searches begin at the cursor.
     fn store_and_select(
@@ -109,7 +153,7 @@ impl Core {
             Err(_) => return None,
         }
         let route = hints.cursor.entry;
-        let selected = self.select_near(&update.source.prefix, &mut hints.cursor);
+        let selected = self.select_after(&update.source.prefix, &update.peer, hints);
         // The choice leaves the cursor after the routes of the prefix. The next update begins at this one's route.
         hints.cursor.entry = route;
         Some(selected)
@@ -166,6 +210,48 @@ impl Core {
         self.store_and_judge(now, update, hints)
     }
 
+    /// Makes the metric of the neighbour's route infinite. `false` if it has none. The search begins at the cursor.
+    #[inline(never)]
+    fn store_retraction(
+        &mut self,
+        now: u64,
+        prefix: &Prefix,
+        peer: &Peer,
+        hints: &mut Hints,
+    ) -> bool
+        ensures settled { hints.new.settled ≡ hints.old.settled }
+        ensures found { result ≡ is_some (entry_at prefix.now peer.now self.old) }
+        ensures state { self.new ≡ with_entries (retracted now prefix.now peer.now self.old.routes.entries) self.old }
+    {
+        let key = RouteKey {
+            prefix: *prefix,
+            peer: *peer,
+        };
+        self.routes.retract_near(now, &key, &mut hints.cursor)
+    }
+
+    /// Selects the route of the prefix again once the neighbour's route to it is retracted, and does what follows from a change.
+    /// Returns whether the prefix's selected route is reported otherwise than before.
+    #[inline(never)]
+    #[tactic(auto, unfolding(babel_state::specs::Reselection::reselect))]
+    fn reselect_retracted(
+        &mut self,
+        now: u64,
+        prefix: &Prefix,
+        peer: &Peer,
+        hints: &mut Hints,
+    ) -> bool
+        requires others { IsTrue hints.old.settled → IsCurrentButAt peer.now prefix.now self.old }
+        ensures settled { hints.new.settled ≡ hints.old.settled }
+        ensures state { self.new ≡ reselect now None prefix.now self.old }
+        ensures kept { IsFalse result → KeepsRoutes self.old self.new }
+    {
+        let selections = self.select_after(prefix, peer, hints);
+        self.follow_up(now, None, prefix, &selections, &mut hints.cursor);
+        let alike = are_alike(&selections.0, &selections.1);
+        !alike
+    }
+
     /// Handles a retraction of a prefix (RFC 8966, section 3.5.3). If the hints aren't `changed` then, the selected routes
     /// are reported as before.
     #[tactic(auto, unfolding(babel_state::specs::Updates::handle_retraction))]
@@ -176,12 +262,13 @@ impl Core {
         prefix: &Prefix,
         hints: &mut Hints,
     ) -> Verdict
+        requires settled { IsTrue hints.old.settled → AreCurrent self.old }
         ensures settled { hints.new.settled ≡ hints.old.settled }
         ensures state { (self.new, result) ≡ handle_retraction now peer.now prefix.now self.old }
         ensures kept { IsFalse hints.new.changed → KeepsRoutes self.old self.new }
     {
-        if self.routes.retract(now, prefix, peer) {
-            hints.changed = self.reselect_near(now, None, prefix, &mut hints.cursor);
+        if self.store_retraction(now, prefix, peer, hints) {
+            hints.changed = self.reselect_retracted(now, prefix, peer, hints);
             Verdict::Taken
         } else {
             Verdict::NoEntry

@@ -20,7 +20,7 @@ use crate::tables::LinkCosts;
 use crate::tables::addresses::address_of;
 use babel_choice::Cursor;
 use babel_message::Message;
-use babel_state::{Item, Target};
+use babel_state::Item;
 use babel_value::{Addr, Distance, Source};
 
 /// The own address from which datagrams of the interface are sent, if the interface exists.

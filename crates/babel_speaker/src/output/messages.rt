@@ -2,7 +2,6 @@
 //! 3.7 and 3.8).
 
 ghost use Rattle.std.specs.Prelude.{◌≡◌, ◌≤◌, Some, IfSome, if◌then◌else◌};
-ghost use Rattle.babel_message.specs.declared.messages.Message.TheVariants as messages;
 ghost use Rattle.babel_state.specs.declared.items.Outgoing.TheVariants as outgoings;
 ghost use Rattle.babel_state.specs.Addresses.{address_of};
 ghost use Rattle.babel_value.specs.Addresses.{family_of};
@@ -21,7 +20,7 @@ use babel_choice::{Cursor, Selection};
 use babel_message::Message;
 use babel_sources::SOURCE_PLACES;
 use babel_state::{InterfaceEntry, Item, Outgoing, Target};
-use babel_value::{Distance, Metric, Peer, Prefix, Seqno, Source};
+use babel_value::{Distance, Metric, Peer, Prefix, Source};
 
 /// The interface of the number.
 pub(crate) fn interface_entry(core: &Core, iface: u8) -> Option<InterfaceEntry>

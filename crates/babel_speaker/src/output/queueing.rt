@@ -1,6 +1,6 @@
 //! What is queued in several places: updates to all, and requests to the neighbours of routes.
 
-ghost use Rattle.std.specs.Prelude.{◌≡◌, [], ◌∷◌, map, length, filter};
+ghost use Rattle.std.specs.Prelude.{◌≡◌, [], ◌∷◌, map, filter};
 ghost use Rattle.std.specs.List.{range_with_len, list_any};
 ghost use Rattle.babel_choice.specs.Choices.{routes_of};
 ghost use Rattle.babel_state.specs.Queueing.{queued};

@@ -1,6 +1,6 @@
 //! The interface table (RFC 8966, section 3.2.3).
 
-ghost use Rattle.std.specs.Prelude.{◌≡◌, ◌≤◌, ◌<◌, length, slice_get, slice_set, option_map, IfOk, IfSome, true};
+ghost use Rattle.std.specs.Prelude.{◌≡◌, ◌≤◌, ◌<◌, length, slice_get, slice_set, option_map, IfSome, true};
 ghost use Rattle.std.specs.Option.{option_map_or};
 ghost use Rattle.babel_value.specs.Metrics.{infinity};
 ghost use Rattle.babel_state.specs.Limits.{longest_hello, most_interfaces};

@@ -1,8 +1,6 @@
 -- The walk passes no route that is due.
-use Rattle.std.proofs.Common.{◌≡◌, ◌≤◌, IfSome, None, sym, subst, ◌∙◌, arith}
+use Rattle.std.proofs.Common.{◌≤◌, IfSome, sym, subst, ◌∙◌, arith}
 use Rattle.std.proofs.lemmas.Option.{slice_get_past}
-use Rattle.babel_table.proofs.PlaceLemmas.{past_end}
-use Rattle.babel_choice.specs.Routes.{Route}
 use Rattle.babel_choice.proofs.DueWalkLemmas.{due_later, past_due}
 use Rattle.babel_choice.proofs.walks.place_due.Goals.{in-Some+else-route-now, in_default}
 use Rattle.babel_choice.proofs.walks.place_due.Goals as goal

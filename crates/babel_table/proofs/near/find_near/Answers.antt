@@ -3,11 +3,11 @@ use Rattle.std.proofs.Common.{sym, ap, add-one}
 use Rattle.std.specs.Ordering.{is_eq}
 use Rattle.std.proofs.lemmas.Option.{slice_get_within}
 use Rattle.babel_table.proofs.PlaceLemmas.{lesser_through, greater_from}
-use Rattle.babel_table.proofs.NearLemmas.{found_there}
+use Rattle.babel_table.proofs.NearLemmas.{at_there, found_there}
 use Rattle.babel_table.proofs.near.find_near.Goals as goal
 
-pub returns-in-Equal : goal.returns-in-Equal
-returns-in-Equal g c =
+pub returns-in-Equal-clause-value : goal.returns-in-Equal-clause-value
+returns-in-Equal-clause-value g c =
     let table = c.args.table.now in
     found_there g.K.Key.order g.met.K.Key.total g.met.K.Key.exact c.args.key.now (g.T.Table.entries table) c.args.near.now c.in-Some.entry (g.met.T.Table.ordered table) (sym c.in-Some.ensures) (sym (ap is_eq c.in-Equal.ensures))
 
@@ -23,3 +23,9 @@ walk_back_for-requires-clause-greater g c =
 
 pub walk_for-requires-clause-within : goal.walk_for-requires-clause-within
 walk_for-requires-clause-within g c = slice_get_within (g.T.Table.entries c.args.table.now) c.args.near.now c.in-Some.entry (sym c.in-Some.ensures)
+
+pub returns-in-Equal-clause-at : goal.returns-in-Equal-clause-at
+returns-in-Equal-clause-at g c = λ some. (
+  c.in-Some.entry.1,
+  at_there g.K.Key.order g.met.K.Key.exact c.args.key.now (g.T.Table.entries c.args.table.now) c.args.near.now c.in-Some.entry (sym c.in-Some.ensures) (sym (ap is_eq c.in-Equal.ensures)),
+)

@@ -2,13 +2,10 @@
 use Rattle.std.specs.FinMap.{find}
 use Rattle.std.proofs.Common.{◌∙◌, sym, ap, subst, length, ◌<◌}
 use Rattle.babel_value.specs.Orders.{prefix_cmp}
-use Rattle.babel_value.proofs.OrderLaws.{prefix_total, prefix_exact}
-use Rattle.babel_table.proofs.LookupLemmas.{with_value_same}
-use Rattle.babel_choice.specs.Choices.{Selections, choice}
+use Rattle.babel_choice.specs.Choices.{choice}
 use Rattle.babel_choice.specs.Origins.{is_own}
-use Rattle.babel_route.specs.Selections.{RoutesValue, reselected}
 use Rattle.babel_route.proofs.CurrencyLemmas.{same_selection}
-use Rattle.babel_route.proofs.CurrentLemmas.{selected_here}
+use Rattle.babel_route.proofs.CurrentLemmas.{selected_here, unchanged_reselected}
 use Rattle.babel_route.proofs.RoomLemmas.{selection_fits_new, selected_within}
 use Rattle.babel_route.proofs.routes.RoutesOver.select_changed.Goals as goal
 
@@ -18,14 +15,11 @@ returns-then-is_same_selection-clause-routes g c =
     let cost = g.C.Costs.cost_of c.args.costs.now in
     let prefix = c.args.prefix.now in
     let local = is_own c.args.origin in
-    let inside = c.self.inside in
-    let es = g.E.Table.entries inside.entries in
-    let ss = g.S.Table.entries inside.selections in
-    let chosen = c.choose-after.ensures.choice ∙ ap (λ before. choice sources cost prefix local before es) c.find_near-before.ensures in
-    let current = sym c.find_near-before.ensures ∙ same_selection c.find_near-before.result c.choose-after.result (sym c.if-is_same_selection.ensures) ∙ chosen in
-    let value : RoutesValue = record { entries = es; selections = ss } in
-    let same = with_value_same prefix_cmp prefix_total prefix_exact prefix (choice sources cost prefix local (find prefix_cmp prefix ss) es) ss (g.met.S.Table.ordered inside.selections) current in
-    sym c.self.view_is ∙ ap (λ (xs : Selections). record { entries = es; selections = xs }) (sym same) ∙ ap (reselected sources cost prefix local) c.self.view_is
+    let es = g.E.Table.entries c.self.inside.entries in
+    let ss = g.S.Table.entries c.self.inside.selections in
+    let chosen = c.choose-after.ensures.choice ∙ ap (λ before. choice sources cost prefix local before es) c.find_near-before.ensures.value in
+    let current = sym c.find_near-before.ensures.value ∙ same_selection c.find_near-before.result c.choose-after.result (sym c.if-is_same_selection.ensures) ∙ chosen in
+    unchanged_reselected sources cost prefix local (record { entries = es; selections = ss }) c.args.self.now (g.met.S.Table.ordered c.self.inside.selections) c.self.view_is current
 
 pub exchange_near-requires-clause-room : goal.exchange_near-requires-clause-room
 exchange_near-requires-clause-room g c =

@@ -14,7 +14,7 @@ pub replace_near-requires : goal.replace_near-requires
 replace_near-requires g c =
     let old = c.self.inside in
     let kept = c.self.invariant in
-    record { before = c.find_near-before.ensures; room = λ some none. subst (λ room. length (g.S.Table.entries old.selections) < room) (sym kept.1) (selection_fits_new c.args.prefix.now (g.E.Table.entries old.entries) (g.S.Table.entries old.selections) (g.met.S.Table.ordered old.selections) (c.choose-after.ensures.known some) none kept.2) }
+    record { before = c.find_near-before.ensures.value; at = c.find_near-before.ensures.at; room = λ some none. subst (λ room. length (g.S.Table.entries old.selections) < room) (sym kept.1) (selection_fits_new c.args.prefix.now (g.E.Table.entries old.entries) (g.S.Table.entries old.selections) (g.met.S.Table.ordered old.selections) (c.choose-after.ensures.known some) none kept.2) }
 
 pub invariant_of-self : goal.invariant_of-self
 invariant_of-self g c =
@@ -31,7 +31,7 @@ returns-clause-first g c =
     let es = g.E.Table.entries c.self.inside.entries in
     let ss = g.S.Table.entries c.self.inside.selections in
     let new : RoutesValue = record { entries = es; selections = g.S.Table.entries c.replace_near.new.selections } in
-    let chosen = c.choose-after.ensures.choice ∙ ap (λ before. choice sources cost prefix local before es) c.find_near-before.ensures in
+    let chosen = c.choose-after.ensures.choice ∙ ap (λ before. choice sources cost prefix local before es) c.find_near-before.ensures.value in
     let selections = c.replace_near.ensures.entries ∙ ap (λ value. with_value prefix_cmp prefix value ss) chosen in
     selects_first sources cost prefix local c.args.self.now new
     (ap (λ (xs : Selections). record { entries = es; selections = xs }) selections ∙ ap (reselected sources cost prefix local) c.self.view_is)

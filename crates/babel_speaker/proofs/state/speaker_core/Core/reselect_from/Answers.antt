@@ -1,47 +1,32 @@
--- A route of the neighbour, or one of another.
-use Rattle.std.proofs.Common.{◌<◌, ◌≤◌, length, slice_get, sym, ap, subst, ◌∙◌}
-use Rattle.std.proofs.lemmas.List.{drop_all}
-use Rattle.babel_speaker.specs.LinkChanges.{prefixes_from}
-use Rattle.babel_state.specs.Reselection.{reselect_each}
+-- All other selections are current.
+use Rattle.std.proofs.Common.{subst}
 use Rattle.babel_state.specs.State.{State}
 use Rattle.babel_state.specs.CurrentSelections.{AreRoutesInOrder}
 use Rattle.babel_state.specs.SettledLaws.{AreSelectionsInOrder}
-use Rattle.babel_speaker.proofs.StaleReselections.{prefix_in, from_reselected, one_walked, none_walked}
+use Rattle.babel_speaker.proofs.StaleReselections.{from_reselected}
 use Rattle.babel_speaker.proofs.Settling.{current_all}
-use Rattle.babel_speaker.proofs.state.speaker_core.Core.reselect_from.Goals.{in-Some, in_default}
 use Rattle.babel_speaker.proofs.state.speaker_core.Core.reselect_from.Goals as goal
 
-pub loop-place-preserved : goal.loop-place-preserved
-loop-place-preserved c =
-    let peer = c.args.peer.now in
-    let es = c.args.self.now.routes.entries in
-    let kept = c.loop-place.invariant in
-    let found = c.prefix_from.ensures ∙ ap (λ (s : State). prefix_in peer (slice_get s.routes.entries c.loop-place.place)) c.self-in-loop-place.view_is in
-    let count = c.len-place-end.ensures.len ∙ ap (λ (s : State). length s.routes.entries) c.self.view_is in
-    let within = subst (λ n. c.loop-place.place < n) (count ∙ ap length (sym kept.kept)) c.loop-place-test.true in
-    elim c.match-prefix_from.branch [
-      | in-Some w ↦ record {
-        done = one_walked peer c.args.now es c.loop-place.place w.in-Some.prefix c.loop-place.self c.match-prefix_from.self _ (sym w.in-Some.is ∙ found) kept.kept (w.self-is ∙ w.reselect_changed.ensures.state) kept.done;
-        kept = ap (λ (s : State). s.routes.entries) w.self-is ∙ w.reselect_changed.ensures.entries ∙ kept.kept;
-      }
-      | in_default w ↦ record {
-        done = none_walked peer c.args.now es c.loop-place.place c.loop-place.self c.match-prefix_from.self _ within (sym w.in_default.is ∙ found) kept.kept w.self-is kept.done;
-        kept = ap (λ (s : State). s.routes.entries) w.self-is ∙ kept.kept;
-      }
-    ]
+pub returns-then-are_shared-clause-state : goal.returns-then-are_shared-clause-state
+returns-then-are_shared-clause-state c =
+    from_reselected c.args.now c.args.peer.now c.args.self.now c.reselect_shared_from.new.self
+    (subst (λ (s : State). AreRoutesInOrder s) c.self.view_is c.len-count.ensures.in_order)
+    (subst (λ (s : State). AreSelectionsInOrder s) c.self.view_is c.len-count.ensures.selections_in_order)
+    c.requires.others c.reselect_shared_from.ensures
 
-pub returns-clause-state : goal.returns-clause-state
-returns-clause-state c =
-    let es = c.args.self.now.routes.entries in
-    let count = c.len-place-end.ensures.len ∙ ap (λ (s : State). length s.routes.entries) c.self.view_is in
-    let ended = drop_all c.loop-place.place es (subst (λ n. n ≤ c.loop-place.place) count c.loop-place-test.false) in
-    from_reselected c.args.now c.args.peer.now c.args.self.now c.loop-place.self
-    (subst (λ (s : State). AreRoutesInOrder s) c.self.view_is c.len-place-end.ensures.in_order)
-    (subst (λ (s : State). AreSelectionsInOrder s) c.self.view_is c.len-place-end.ensures.selections_in_order)
-    c.requires.others
-    (ap (λ fs. reselect_each c.args.now (prefixes_from c.args.peer.now fs) c.loop-place.self) (sym ended) ∙ c.loop-place.invariant.done)
+pub returns-else-as_slice-gt1-clause-state : goal.returns-else-as_slice-gt1-clause-state
+returns-else-as_slice-gt1-clause-state c =
+    from_reselected c.args.now c.args.peer.now c.args.self.now c.reselect_each_from.new.self
+    (subst (λ (s : State). AreRoutesInOrder s) c.self.view_is c.len-count.ensures.in_order)
+    (subst (λ (s : State). AreSelectionsInOrder s) c.self.view_is c.len-count.ensures.selections_in_order)
+    c.requires.others c.reselect_each_from.ensures
 
-pub returns-clause-current : goal.returns-clause-current
-returns-clause-current c =
-    current_all c.args.now c.args.self.now c.loop-place.self
-    (subst (λ (s : State). AreRoutesInOrder s) c.self.view_is c.len-place-end.ensures.in_order) (returns-clause-state c)
+pub returns-then-are_shared-clause-current : goal.returns-then-are_shared-clause-current
+returns-then-are_shared-clause-current c =
+    current_all c.args.now c.args.self.now c.reselect_shared_from.new.self
+    (subst (λ (s : State). AreRoutesInOrder s) c.self.view_is c.len-count.ensures.in_order) (returns-then-are_shared-clause-state c)
+
+pub returns-else-as_slice-gt1-clause-current : goal.returns-else-as_slice-gt1-clause-current
+returns-else-as_slice-gt1-clause-current c =
+    current_all c.args.now c.args.self.now c.reselect_each_from.new.self
+    (subst (λ (s : State). AreRoutesInOrder s) c.self.view_is c.len-count.ensures.in_order) (returns-else-as_slice-gt1-clause-state c)

@@ -1,11 +1,12 @@
 -- What is selected from here on leaves what all leave.
 use Rattle.std.proofs.Common.{◌≡◌, drop}
-use Rattle.babel_speaker.specs.LinkChanges.{prefixes_from}
+use Rattle.babel_speaker.specs.LinkChanges.{prefixes_from, AreCurrentBut}
 use Rattle.babel_state.specs.Reselection.{reselect_each}
-use Rattle.babel_speaker.proofs.state.speaker_core.Core.reselect_from.Given as goal
+use Rattle.babel_speaker.proofs.state.speaker_core.Core.reselect_shared_from.Given as goal
 
 abbrev pub invariant-loop-place : goal.invariant-loop-place
 invariant-loop-place l = record {
   done : reselect_each l.now (prefixes_from l.peer (drop l.place l.fn.self.routes.entries)) l.self ≡ reselect_each l.now (prefixes_from l.peer l.fn.self.routes.entries) l.fn.self;
   kept : l.self.routes.entries ≡ l.fn.self.routes.entries;
+  others : AreCurrentBut l.peer l.self;
 }
