@@ -168,8 +168,11 @@ def mesh_neighbours(node, nodes):
     return [other for other in range(nodes) if other != node]
 
 
+# In so many turns each node sends all its Updates three times and all its IHUs four times, whatever turn comes first: with each fourth
+# Hello and with each third. Fewer turns would count more of them in one network than in another.
+PERIOD = 12
 # In a ring of 64 nodes a route comes to the last node after 32 turns.
-SHAPES = [Shape("a ring", ring_neighbours, 40, 4), Shape("a full mesh", mesh_neighbours, 5, 1)]
+SHAPES = [Shape("a ring", ring_neighbours, 40, 2 * PERIOD), Shape("a full mesh", mesh_neighbours, 5, PERIOD)]
 
 
 def node_table(node, announces):

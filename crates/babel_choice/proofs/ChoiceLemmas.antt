@@ -11,7 +11,8 @@ use Rattle.babel_choice.specs.declared.choices.Rank.{Rank}
 use Rattle.babel_choice.specs.declared.choices.Candidate.{Candidate}
 use Rattle.babel_choice.specs.Routes.{Route, RouteEntries}
 use Rattle.babel_table.specs.Firsts.{first_from, first_of}
-use Rattle.babel_choice.specs.Choices.{is_of, routes_of, has_entry, route_metric, is_change, rank_of, rank_cmp, rank_at, is_lesser_rank, preference, selection_of}
+use Rattle.babel_sources.specs.Sources.{Sources}
+use Rattle.babel_choice.specs.Choices.{is_of, routes_of, is_candidate, candidates, has_entry, route_metric, is_change, rank_of, rank_cmp, rank_at, is_lesser_rank, preference, selection_of}
 
 -- a candidate alone has a metric
 pub measured : (passes : Bool) (metric found : ℕ) → cond passes (Some metric) None ≡ Some found → (passes ≡ true) × (found ≡ metric)
@@ -117,6 +118,10 @@ no_route p (f ∷ es) is = by (is_of p f) (no_route p es) is
 pub chosen_is_known : (order : Route → Route → Ordering) (passes : Route → Bool) (p : PrefixValue) (es routes : RouteEntries) → routes_of p es ≡ routes → IsSome (option_map selection_of (first_of order (filter passes routes))) → has_entry es p ≡ true
 chosen_is_known order passes p es [] is chosen = absurd (false≢true chosen)
 chosen_is_known order passes p es (r ∷ rs) is chosen = some_route p es r rs is
+
+pub candidate_is_known : (sources : Sources) (cost : Peer → ℕ) (order : Route → Route → Ordering) (p : PrefixValue) (local : Bool) (es : RouteEntries) → IsSome (option_map selection_of (first_of order (candidates sources cost p local es))) → has_entry es p ≡ true
+candidate_is_known sources cost order p true es chosen = absurd (false≢true chosen)
+candidate_is_known sources cost order p false es chosen = chosen_is_known order (is_candidate sources cost) p es (routes_of p es) refl chosen
 
 -- the first of one
 pub first_alone : (order : Route → Route → Ordering) (passes : Route → Bool) (e : Route) (routes : RouteEntries) → routes ≡ e ∷ [] → passes e ≡ true → first_of order (filter passes routes) ≡ Some e

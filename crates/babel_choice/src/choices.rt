@@ -9,7 +9,7 @@ ghost use Rattle.babel_value.specs.Metrics.{infinity};
 ghost use Rattle.babel_choice.specs.declared.choices.Candidate.{Candidate};
 ghost use Rattle.babel_choice.specs.PrefixBounds.{is_before};
 ghost use Rattle.babel_choice.specs.Origins.{is_own};
-ghost use Rattle.babel_choice.specs.Choices.{is_of, others_of, rank_at, is_lesser_rank, routes_of, has_entry, choice, peer_before, is_candidate, is_change, is_feasible_route, route_metric, rank_of, rank_cmp, preference, selection_of, selection_metric, overtakes};
+ghost use Rattle.babel_choice.specs.Choices.{is_of, others_of, rank_at, is_lesser_rank, routes_of, has_entry, choice, peer_before, is_candidate, is_change, is_feasible_route, route_metric, rank_of, rank_cmp, preference, selection_of, selection_metric, overtakes, candidates};
 
 use crate::walks::is_of;
 use crate::{Before, ChoiceInputs, Costs, Cursor, Entry, Origin, RouteKey, Selection};
@@ -49,15 +49,31 @@ pub fn choose<E: Table<RouteKey, Entry>, T: Table<Source, SourceEntry>, C: Costs
     ensures choice { result ≡ choice inputs.now.sources.now (C.cost_of inputs.now.costs.now) prefix.now (is_own origin) before.now (E.entries inputs.now.entries.now) }
     ensures known { IsSome result → has_entry (E.entries inputs.now.entries.now) prefix.now ≡ true }
 {
+    let first = choose_place(inputs, prefix, origin, peer_of(before), cursor);
+    selection_at(inputs.entries, first)
+}
+
+/// The index of the route that `choose` selects, if this neighbour was selected before. The search begins at the cursor,
+/// which goes to the last route of the prefix.
+#[inline(always)]
+pub fn choose_place<E: Table<RouteKey, Entry>, T: Table<Source, SourceEntry>, C: Costs>(
+    inputs: &ChoiceInputs<'_, E, T, C>,
+    prefix: &Prefix,
+    origin: Origin,
+    before: Option<Peer>,
+    cursor: &mut Cursor,
+) -> Option<usize>
+    ensures { option_and_then (slice_get (E.entries inputs.now.entries.now)) result ≡ first_of (preference (C.cost_of inputs.now.costs.now) before) (candidates inputs.now.sources.now (C.cost_of inputs.now.costs.now) prefix.now (is_own origin) (E.entries inputs.now.entries.now)) }
+{
     if origin.is_own() {
         return None;
     }
     let entries = inputs.entries;
     let place = places_below_near(entries, cursor.entry, &Before { prefix: *prefix });
     let near = &mut cursor.source;
-    let (first, end) = first_from(inputs, place, prefix, peer_of(before), near);
+    let (first, end) = first_from(inputs, place, prefix, before, near);
     cursor.entry = end.wrapping_sub(1);
-    selection_at(entries, first)
+    first
 }
 
 /// The neighbour of the selection.
@@ -217,6 +233,7 @@ fn is_first<E: Table<RouteKey, Entry>>(
 }
 
 /// Whether a candidate comes before another one. Their metrics mostly differ, and then no rank is made from the table.
+#[inline(always)]
 fn comes_before<E: Table<RouteKey, Entry>>(
     entries: &E,
     one: &Candidate,

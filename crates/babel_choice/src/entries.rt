@@ -23,10 +23,15 @@ impl Key for RouteKey {
 
     ghost exact = { route_exact };
 
+    // The derived comparison is a call of its own in a long walk.
     #[inline(always)]
     fn compare<L: Ledger>(&self, other: &RouteKey, steps: &mut Steps<L>) -> Ordering {
         steps.tick();
-        self.cmp(other)
+        let prefixes = self.prefix.cmp(&other.prefix);
+        if prefixes.is_ne() {
+            return prefixes;
+        }
+        self.peer.cmp(&other.peer)
     }
 }
 

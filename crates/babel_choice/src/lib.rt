@@ -20,7 +20,7 @@ mod revisions;
 mod walks;
 
 pub use bounds::{Before, Through};
-pub use choices::{choose, first_from, overtakes, peer_of, selection_at};
+pub use choices::{choose, choose_place, first_from, overtakes, peer_of, selection_at};
 pub use cursor::Cursor;
 pub use entries::{Entry, ReceivedUpdate, RouteKey, Selection};
 pub use inputs::{ChoiceInputs, Costs, Origin};

@@ -193,8 +193,8 @@ fn push_receiver(line: &mut Line, to: &Option<Addr>)
     }
 }
 
-/// Appends a name, and a prefix with its router-id.
-#[inline]
+/// Appends a name, and a prefix with its router-id. It is compiled into its callers, where the name is a constant.
+#[inline(always)]
 fn push_source(line: &mut Line, name: &str, prefix: &Prefix, router: RouterId)
     requires room { length line.old + length name.now + 69 ≤ line_room }
     ensures text { line.new ≡ line.old ++ (name.now ++ prefix_text prefix.now ++ codes " router " ++ router_text router) }

@@ -19,7 +19,7 @@ pub use babel_choice::{Costs, Entry};
 pub use babel_sources::Sources;
 pub use babel_table::{Full, Memory, Steps, Table};
 pub use routes::{
-    OnRepeat, PREFIX_PLACES, PrefixWalk, ROUTE_PLACES, Refreshed, Routes, RoutesOver,
+    OnRepeat, OriginChange, PREFIX_PLACES, PrefixWalk, ROUTE_PLACES, Refreshed, Routes, RoutesOver,
 };
 pub use tables::{RouteTable, SelectionTable};
 pub use trail::Trail;

@@ -14,6 +14,7 @@ ghost use Rattle.babel_route.specs.Selections.{choice_at, reselected, selection_
 ghost use Rattle.babel_table.specs.Firsts.{first_of, lesser_of};
 
 mod current;
+mod origins;
 mod prefix_walk;
 mod refresh;
 mod room;
@@ -24,9 +25,10 @@ use babel_choice::{
     PrefixRoutes, ReceivedUpdate, Retraction, RouteKey, Selection, Through, choose,
 };
 use babel_sources::{SourceEntry, SourcesOver};
-use babel_table::{Full, Memory, Table, find_in, find_near, places_below, revise_dues, set_near};
+use babel_table::{Full, Memory, Table, find_in, find_near, places_below, revise_dues};
 use babel_value::{Addr, Distance, Peer, Prefix, RouterId, Source};
 use current::replace_near;
+pub use origins::OriginChange;
 pub use prefix_walk::PrefixWalk;
 pub use refresh::{OnRepeat, Refreshed};
 use std::alloc::Global;

@@ -58,6 +58,11 @@ impl Table<RouteKey, Entry> for RouteTable {
     }
 
     #[inline(always)]
+    fn insert(&mut self, place: usize, key: RouteKey, value: Entry) {
+        self.table.insert(place, key, value);
+    }
+
+    #[inline(always)]
     fn change_near<C: Change<Entry>>(
         &mut self,
         near: usize,
@@ -70,6 +75,11 @@ impl Table<RouteKey, Entry> for RouteTable {
     #[inline(always)]
     fn remove(&mut self, key: &RouteKey) {
         self.table.remove(key);
+    }
+
+    #[inline(always)]
+    fn remove_at(&mut self, place: usize, key: &RouteKey) {
+        self.table.remove_at(place, key);
     }
 
     #[inline(always)]
@@ -135,6 +145,11 @@ impl Table<Prefix, Selection> for SelectionTable {
     }
 
     #[inline(always)]
+    fn insert(&mut self, place: usize, key: Prefix, value: Selection) {
+        self.table.insert(place, key, value);
+    }
+
+    #[inline(always)]
     fn change_near<C: Change<Selection>>(
         &mut self,
         near: usize,
@@ -147,6 +162,11 @@ impl Table<Prefix, Selection> for SelectionTable {
     #[inline(always)]
     fn remove(&mut self, key: &Prefix) {
         self.table.remove(key);
+    }
+
+    #[inline(always)]
+    fn remove_at(&mut self, place: usize, key: &Prefix) {
+        self.table.remove_at(place, key);
     }
 
     #[inline(always)]

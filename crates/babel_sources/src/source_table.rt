@@ -55,6 +55,11 @@ impl Table<Source, SourceEntry> for SourceTable {
     }
 
     #[inline(always)]
+    fn insert(&mut self, place: usize, key: Source, value: SourceEntry) {
+        self.table.insert(place, key, value);
+    }
+
+    #[inline(always)]
     fn change_near<C: Change<SourceEntry>>(
         &mut self,
         near: usize,
@@ -67,6 +72,11 @@ impl Table<Source, SourceEntry> for SourceTable {
     #[inline(always)]
     fn remove(&mut self, key: &Source) {
         self.table.remove(key);
+    }
+
+    #[inline(always)]
+    fn remove_at(&mut self, place: usize, key: &Source) {
+        self.table.remove_at(place, key);
     }
 
     #[inline(always)]

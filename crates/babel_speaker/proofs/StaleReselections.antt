@@ -195,6 +195,10 @@ pub entries_kept : (now : ℕ) (p : PrefixValue) (s t : State) → t ≡ reselec
 unfolding kept_of
 entries_kept now p s t is = ap (λ (u : State). u.routes.entries) is ∙ ap (λ (u : State). u.routes.entries) (reselects_kept now None p s)
 
+pub costs_kept : (now : ℕ) (p : PrefixValue) (peer : Peer) (s t : State) → t ≡ reselect now None p s → cost_at s peer ≡ cost_at t peer
+unfolding kept_of
+costs_kept now p peer s t is = sym (ap (λ (u : State). cost_at u peer) is ∙ ap (λ (u : State). cost_at u peer) (reselects_kept now None p s))
+
 -- ---- the prefixes of a neighbour's routes
 
 abbrev units : List PrefixValue → PrefixSet

@@ -14,7 +14,7 @@ pub mod timers;
 
 pub use announced::Announced;
 pub use interfaces::Interfaces;
-pub use link_costs::{LinkChange, LinkCosts};
+pub use link_costs::{KnownCost, KnownCosts, LinkChange, LinkCosts};
 pub use pending_items::PendingItems;
 pub use prefixes::Prefixes;
 pub use reachable::{Reachable, SelectedPrefixes};

@@ -1,5 +1,5 @@
 -- How the entries in the order in which they came, none twice, relate to the same entries in the order of their keys.
-use Rattle.std.proofs.Common.{◌≡◌, ℕ, zero, suc, ◌+◌, Bool, true, false, cond, not, List, [], ◌∷◌, ◌++◌, length, set, remove, slice_get, is_some, is_none, Option, Some, None, refl, sym, ap, subst, ◌∙◌, arith}
+use Rattle.std.proofs.Common.{◌≡◌, ℕ, zero, suc, ◌+◌, Bool, true, false, cond, not, List, [], ◌∷◌, ◌++◌, length, set, remove, slice_get, is_some, is_none, Option, Some, None, Result, Ok, Err, OnOk, IsErr, refl, sym, ap, subst, ◌∙◌, arith}
 use Rattle.std.proofs.lemmas.Bool.{and_parts, and_from, true≢false}
 use Rattle.std.proofs.lemmas.Option.{same_Some, none-some}
 use Rattle.std.specs.declared.cmp.Ordering.{Ordering}
@@ -11,6 +11,11 @@ use Rattle.std.specs.FinMap.Entries.{by_order, find-put, find-append, find-where
 use Rattle.babel_table.specs.Entries.{without, lesser_keys}
 use Rattle.babel_table.specs.Insertions.{in_order, are_distinct, sorted_in_order}
 use Rattle.babel_table.proofs.PlaceLemmas.{holds, sorted_put, sorted_without, lesser_cons, lesser_at, find_hit}
+
+-- what holds of a success, if there is no failure
+pub is_stored : {X E P : Type 0} (r : Result X E) → OnOk r P → (IsErr r → ⊥) → P
+is_stored (Ok x) ok never = ok
+is_stored (Err e) ok never = absurd (never refl)
 
 no_value : {A : Type 0} (o : Option A) → is_none o ≡ true → o ≡ None
 no_value None e = refl

@@ -2,9 +2,9 @@
 use Rattle.std.proofs.Common.{◌≡◌, ℕ, zero, suc, ◌+◌, ◌<◌, ◌≤◌, Bool, true, false, cond, not, T, List, [], ◌∷◌, ◌++◌, length, take, drop, set, get_or, remove, insert, slice_get, option_map, option_and_then, append_assoc, length-append, length-take-le, Option, Some, None, refl, sym, ap, subst, ◌∙◌, arith}
 use Rattle.std.specs.List.{cons_option}
 use Rattle.std.proofs.lemmas.List.Sums.{sum_by-cons}
-use Rattle.std.proofs.lemmas.List.{take_more, drop_more, set_at}
+use Rattle.std.proofs.lemmas.List.{take_more, drop_more, drop_all, set_at}
 use Rattle.std.proofs.lemmas.Bool.{and_parts, and_from}
-use Rattle.std.proofs.lemmas.Option.{same_Some, none-some}
+use Rattle.std.proofs.lemmas.Option.{same_Some, none-some, slice_get_within}
 use Rattle.std.specs.declared.cmp.Ordering.{Ordering}
 use Rattle.std.specs.declared.cmp.Ordering.TheVariants.{Less, Equal, Greater}
 use Rattle.std.specs.Ordering.{is_lt, is_gt, is_eq, eq_by_cmp, ordering_reverse}
@@ -12,7 +12,7 @@ use Rattle.std.specs.Cmp.{IsTotalOrder, tied_itself}
 use Rattle.std.specs.FinMap.{find, put, is_sorted, IsAntisymmetric}
 use Rattle.std.specs.FinMap.Entries.{below_all, is_sorted-put, is_sorted-where_key}
 use Rattle.babel_table.specs.Entries.{without, with_value, revised_entries, lesser_keys}
-use Rattle.babel_table.specs.Places.{are_lesser, are_greater}
+use Rattle.babel_table.specs.Places.{IsGap, are_lesser, are_greater}
 
 pub less : (r : Ordering) → is_lt r ≡ true → r ≡ Less
 less Less e = refl
@@ -90,6 +90,10 @@ module _ {K V : Type 0} (R : K → K → Ordering) where
       let here : R k e.0 ≡ Greater = head_lesser k e (take i es) before in
       rw here (find_gap k es i (tail_lesser k e (take i es) before) following)
 
+  -- a key that would be at an index is missing
+  pub missing : (k : K) (es : List (K × V)) (i : ℕ) → IsGap R k es i → None ≡ find R k es
+  missing k es i gap = sym (find_gap k es i gap.lesser gap.greater)
+
   pub put_gap : (k : K) (v : V) (es : List (K × V)) (i : ℕ) → are_lesser R k (take i es) ≡ true → are_greater R k (drop i es) ≡ true → put R k v es ≡ insert es i (k, v)
   put_gap k v [] zero before following = refl
   put_gap k v [] (suc i) before following = refl
@@ -141,6 +145,10 @@ module _ {K V : Type 0} (R : K → K → Ordering) where
         let here : R k f.0 ≡ Less = subst (λ (g : K × V). R k g.0 ≡ Less) (sym (same_Some f e at)) p in
         and_from (is_lt (R k f.0)) (are_greater R k es) (ap is_lt here) (below_greater k f.0 es here (others_greater f es sorted))
     greater_from k (f ∷ es) (suc i) e sorted at p = greater_from k es i e (tail_sorted f es sorted) at p
+
+    pub gap_before : (k : K) (es : List (K × V)) (i : ℕ) (e : K × V) → is_sorted R es ≡ true → slice_get es i ≡ Some e → R k e.0 ≡ Less → are_lesser R k (take i es) ≡ true → IsGap R k es i
+    gap_before k es i e sorted at p before =
+        record { within = omega (arith, slice_get_within es i e at); lesser = before; greater = greater_from k es i e sorted at p }
 
     -- ---- at an entry
     pub find_hit : (es : List (K × V)) (i : ℕ) (e : K × V) → is_sorted R es ≡ true → slice_get es i ≡ Some e → find R e.0 es ≡ Some e.1
@@ -224,6 +232,9 @@ module _ {K V : Type 0} (R : K → K → Ordering) (o : IsTotalOrder R) where
       let same : x ≡ e = same_Some x e (sym here ∙ at) in
       subst (λ (y : K × V). with_value R y.0 (f y.0 y.1) now ≡ take i old ++ revised_entries f (drop i old)) same
       (ap (with_value R x.0 (f x.0 x.1)) whole ∙ with_value_between before x following (f x.0 x.1) (subst (λ es. is_sorted R es ≡ true) whole sorted) ∙ ap (λ es. before ++ revised_entries f es) (sym (drop_more old i e lt)))
+
+pub gap_at_end : {K V : Type 0} (R : K → K → Ordering) (k : K) (es : List (K × V)) (i : ℕ) → are_lesser R k (take i es) ≡ true → length es ≡ i → IsGap R k es i
+gap_at_end R k es i before end = record { within = omega (arith, end); lesser = before; greater = ap (are_greater R k) (drop_all i es (omega (arith, end))) }
 
 pub past_end : {A : Type 0} (es : List A) (i : ℕ) → slice_get es i ≡ None → length es ≤ i
 past_end [] i at = omega arith

@@ -102,7 +102,7 @@ impl<T: Copy> GapVec<T> {
         let (gap, hole) = (self.gap, self.hole);
         self.gap = index;
         // A gap of no slots is everywhere.
-        if hole == 0 {
+        if hole == 0 || index == gap {
             return;
         }
         if index < gap {

@@ -31,7 +31,7 @@ pub use bounds::{Bound, places_below};
 pub use dues::{Due, revise_dues};
 pub use errors::Full;
 pub use keys::{Key, Sought};
-pub use near::{find_near, places_below_near, set_near};
+pub use near::{find_near, places_below_near, seek_near};
 pub use plain::PlainTable;
 pub use revisions::{Change, Revised, Revision};
 pub use sorted::{GapTable, SortedTable};

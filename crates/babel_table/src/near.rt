@@ -1,12 +1,11 @@
 //! Searches that begin near the index at which the last one ended. If the sought keys rise, and each is near
 //! the last one, they are one walk over the table.
 
-ghost use Rattle.std.specs.Prelude.{◌≡◌, true, ◌+◌, ◌≤◌, ◌<◌, take, drop, not, length, IsSome, IsNone};
+ghost use Rattle.std.specs.Prelude.{◌≡◌, true, ◌+◌, ◌≤◌, ◌<◌, take, drop, not, length, IsSome, IsNone, IsTrue, IsFalse};
 ghost use Rattle.std.specs.List.{list_all};
 ghost use Rattle.std.specs.Ordering.{is_gt};
 ghost use Rattle.std.specs.FinMap.{find};
-ghost use Rattle.babel_table.specs.Entries.{with_value};
-ghost use Rattle.babel_table.specs.Places.{IsAt, are_lesser, are_greater};
+ghost use Rattle.babel_table.specs.Places.{IsAt, IsGap, are_lesser, are_greater};
 ghost use Rattle.babel_table.specs.Bounds.{lesser_falls};
 
 use crate::{Bound, Key, Steps, Table, places_below};
@@ -128,40 +127,50 @@ fn places_below_from<K: Key, V: Copy, T: Table<K, V>, B: Bound<K>>(
 pub fn find_near<K: Key, V: Copy, T: Table<K, V>>(table: &T, near: &mut usize, key: &K) -> Option<V>
     ensures value { result ≡ find K.order key.now (T.entries table.now) }
     ensures at { IsSome result → IsAt key.now (T.entries table.now) near.new }
+    ensures gap { IsNone result → IsGap K.order key.now (T.entries table.now) near.new }
+{
+    if !seek_near(table, near, key) {
+        return None;
+    }
+    let entry = table.at(*near)?;
+    Some(entry.1)
+}
+
+/// Whether the table has the key. `near` becomes the index of the key, or the one at which it would be inserted.
+#[inline(always)]
+pub fn seek_near<K: Key, V: Copy, T: Table<K, V>>(table: &T, near: &mut usize, key: &K) -> bool
+    ensures at { IsTrue result → IsAt key.now (T.entries table.now) near.new }
+    ensures gap { IsFalse result → IsGap K.order key.now (T.entries table.now) near.new }
 {
     let Some(entry) = table.at(*near) else {
         return search_for(table, near, key);
     };
     match order_of(key, &entry.0) {
         Ordering::Less => walk_back_for(table, near, key),
-        Ordering::Equal => Some(entry.1),
+        Ordering::Equal => true,
         Ordering::Greater => walk_for(table, near, key),
     }
 }
 
 /// The same by a search.
-fn search_for<K: Key, V: Copy, T: Table<K, V>>(table: &T, near: &mut usize, key: &K) -> Option<V>
-    ensures value { result ≡ find K.order key.now (T.entries table.now) }
-    ensures at { IsSome result → IsAt key.now (T.entries table.now) near.new }
+fn search_for<K: Key, V: Copy, T: Table<K, V>>(table: &T, near: &mut usize, key: &K) -> bool
+    ensures at { IsTrue result → IsAt key.now (T.entries table.now) near.new }
+    ensures gap { IsFalse result → IsGap K.order key.now (T.entries table.now) near.new }
 {
     let place = places_below(table, &Lesser { key: *key });
     *near = place;
-    let Some(entry) = table.at(place) else {
-        return None;
-    };
-    if order_of(key, &entry.0).is_eq() {
-        Some(entry.1)
-    } else {
-        None
+    match table.at(place) {
+        Some(entry) => order_of(key, &entry.0).is_eq(),
+        None => false,
     }
 }
 
 /// The same by a walk from an index on whose key is lesser.
-fn walk_for<K: Key, V: Copy, T: Table<K, V>>(table: &T, near: &mut usize, key: &K) -> Option<V>
+fn walk_for<K: Key, V: Copy, T: Table<K, V>>(table: &T, near: &mut usize, key: &K) -> bool
     requires within { near.old < length (T.entries table.now) }
     requires lesser { are_lesser K.order key.now (take (near.old + 1) (T.entries table.now)) ≡ true }
-    ensures value { result ≡ find K.order key.now (T.entries table.now) }
-    ensures at { IsSome result → IsAt key.now (T.entries table.now) near.new }
+    ensures at { IsTrue result → IsAt key.now (T.entries table.now) near.new }
+    ensures gap { IsFalse result → IsGap K.order key.now (T.entries table.now) near.new }
 {
     let len = table.len();
     let start = *near;
@@ -171,30 +180,30 @@ fn walk_for<K: Key, V: Copy, T: Table<K, V>>(table: &T, near: &mut usize, key: &
         }
         *near = place;
         let Some(entry) = table.at(place) else {
-            return None;
+            return search_for(table, near, key);
         };
         match order_of(key, &entry.0) {
-            Ordering::Less => return None,
-            Ordering::Equal => return Some(entry.1),
+            Ordering::Less => return false,
+            Ordering::Equal => return true,
             Ordering::Greater => {}
         }
     }
     *near = len;
-    None
+    false
 }
 
 /// The same by a walk back from an index whose key is greater.
-fn walk_back_for<K: Key, V: Copy, T: Table<K, V>>(table: &T, near: &mut usize, key: &K) -> Option<V>
+fn walk_back_for<K: Key, V: Copy, T: Table<K, V>>(table: &T, near: &mut usize, key: &K) -> bool
     requires within { near.old < length (T.entries table.now) }
     requires greater { are_greater K.order key.now (drop near.old (T.entries table.now)) ≡ true }
-    ensures value { result ≡ find K.order key.now (T.entries table.now) }
-    ensures at { IsSome result → IsAt key.now (T.entries table.now) near.new }
+    ensures at { IsTrue result → IsAt key.now (T.entries table.now) near.new }
+    ensures gap { IsFalse result → IsGap K.order key.now (T.entries table.now) near.new }
 {
     let mut place = *near;
     for _ in 0..FAR {
         *near = place;
         if place == 0 {
-            return None;
+            return false;
         }
         let Some(entry) = table.at(place - 1) else {
             return search_for(table, near, key);
@@ -203,31 +212,10 @@ fn walk_back_for<K: Key, V: Copy, T: Table<K, V>>(table: &T, near: &mut usize, k
             Ordering::Less => place -= 1,
             Ordering::Equal => {
                 *near = place - 1;
-                return Some(entry.1);
+                return true;
             }
-            Ordering::Greater => return None,
+            Ordering::Greater => return false,
         }
     }
     search_for(table, near, key)
-}
-
-/// Stores the value at the key, or removes the entry of the key if there is no value. The index is that
-/// of the key, or the one at which it would be inserted.
-#[inline(always)]
-pub fn set_near<K: Key, V: Copy, T: Table<K, V>>(
-    table: &mut T,
-    place: usize,
-    key: K,
-    value: Option<V>,
-)
-    requires room { IsSome value → IsNone (find K.order key (T.entries table.old)) → length (T.entries table.old) < T.room table.old }
-    ensures entries { T.entries table.new ≡ with_value K.order key value (T.entries table.old) }
-    ensures room { T.room table.new ≡ T.room table.old }
-{
-    match value {
-        Some(value) => {
-            let _ = table.put_near(place.wrapping_sub(1), key, value);
-        }
-        None => table.remove(&key),
-    }
 }

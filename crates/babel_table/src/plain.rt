@@ -68,6 +68,10 @@ impl<K: Key, V: Copy> Table<K, V> for PlainTable<K, V> {
         }
     }
 
+    fn remove_at(&mut self, _place: usize, key: &K) {
+        self.remove(key);
+    }
+
     fn put_near(&mut self, near: usize, key: K, value: V) -> Result<usize, Full> {
         match self.put(key, value) {
             Ok(()) => Ok(near),
@@ -76,6 +80,10 @@ impl<K: Key, V: Copy> Table<K, V> for PlainTable<K, V> {
     }
 
     fn replace(&mut self, _place: usize, key: K, value: V) {
+        let _ = self.put(key, value);
+    }
+
+    fn insert(&mut self, _place: usize, key: K, value: V) {
         let _ = self.put(key, value);
     }
 

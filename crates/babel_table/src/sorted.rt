@@ -72,6 +72,10 @@ impl<K: Key, V: Copy, Q: Sequence<K, V>> Table<K, V> for SortedTable<K, V, Q> {
         self.entries.set(place, key, value);
     }
 
+    fn insert(&mut self, place: usize, key: K, value: V) {
+        self.entries.insert(place, key, value);
+    }
+
     fn change_near<C: Change<V>>(
         &mut self,
         near: usize,
@@ -91,6 +95,10 @@ impl<K: Key, V: Copy, Q: Sequence<K, V>> Table<K, V> for SortedTable<K, V, Q> {
         if let Ok(place) = place_of(self, key) {
             self.entries.remove(place);
         }
+    }
+
+    fn remove_at(&mut self, place: usize, _key: &K) {
+        self.entries.remove(place);
     }
 
     fn revise<R: Revision<K, V>>(&mut self, revision: &R) {

@@ -3,7 +3,7 @@
 ghost use Rattle.std.specs.Prelude.{◌≡◌, ℕ, ◌+◌, ◌≤◌, ◌<◌, ◌↔◌, List, [], length, slice_get, IfOk, OnOk, OnErr, IsErr, IsNone, IsSome, IsTrue};
 ghost use Rattle.std.specs.FinMap.{find, put, is_sorted};
 ghost use Rattle.babel_table.specs.Entries.{revised_entries, without, with_value};
-ghost use Rattle.babel_table.specs.Places.{IsAt};
+ghost use Rattle.babel_table.specs.Places.{IsAt, IsGap};
 
 use crate::{Change, Full, Key, Memory, Revision, Sought, Steps};
 use std::alloc::Global;
@@ -62,6 +62,13 @@ pub trait Table<K: Key, V: Copy>: Drop {
         ensures entries { entries self.new ≡ put K.order key value (entries self.old) }
         ensures room { room self.new ≡ room self.old };
 
+    /// Stores the value at the key, which the table lacks and would have at the index. There is no look-up.
+    fn insert(&mut self, place: usize, key: K, value: V)
+        requires gap { IsGap K.order key (entries self.old) place }
+        requires room { length (entries self.old) < room self.old }
+        ensures entries { entries self.new ≡ put K.order key value (entries self.old) }
+        ensures room { room self.new ≡ room self.old };
+
     /// Stores what the change makes of the value at the key, with one look-up, and returns what it takes the
     /// place of. The look-up begins near an index, as that of `put_near`. `Full` as of `put`.
     fn change_near<C: Change<V>>(
@@ -78,6 +85,12 @@ pub trait Table<K: Key, V: Copy>: Drop {
 
     /// Removes the entry of the key, if there is one.
     fn remove(&mut self, key: &K)
+        ensures entries { entries self.new ≡ without K.order key.now (entries self.old) }
+        ensures room { room self.new ≡ room self.old };
+
+    /// Removes the entry of the key, which the table has at the index. There is no look-up.
+    fn remove_at(&mut self, place: usize, key: &K)
+        requires at { IsAt key.now (entries self.old) place }
         ensures entries { entries self.new ≡ without K.order key.now (entries self.old) }
         ensures room { room self.new ≡ room self.old };
 

@@ -41,11 +41,27 @@ begins xs n small =
 next : (xs ys : List ℕ) (m n : ℕ) → n < 65536 → m ≡ n / 10 → ys ≡ xs ++ front m → ys ++ last_digit n ≡ xs ++ front n
 next xs ys m n high same is = grows xs ys n high (is ∙ ap (λ (k : ℕ). xs ++ front k) same)
 
-pub decimal_of_three : (xs : List ℕ) (n : ℕ) → n < 1000
-    → ((xs ++ last_digit (n / 100)) ++ last_digit (n / 10)) ++ (48 + n % 10) ∷ [] ≡ xs ++ decimal n
-decimal_of_three xs n high =
-    let one = begins xs (n / 100) (omega arith) in
-    let two = next xs _ (n / 100) (n / 10) (omega arith) (omega arith) one in ends xs _ n (omega arith) two
+-- The last digit of a number that isn't 0.
+has_last : (n : ℕ) → 0 < n → (48 + n % 10) ∷ [] ≡ last_digit n
+has_last n some = rw (lt-ltb 0 n some) refl
+
+pub decimal_of_one : (xs : List ℕ) (n : ℕ) → n < 10 → xs ++ (48 + n % 10) ∷ [] ≡ xs ++ decimal n
+decimal_of_one xs n high =
+    let last : n % 10 ≡ n = omega arith in rw last (ap (λ (t : List ℕ). xs ++ t) (sym (decimal_digit n high)))
+
+pub decimal_of_two : (xs : List ℕ) (n : ℕ) → 10 ≤ n → n < 100
+    → (xs ++ (48 + (n / 10) % 10) ∷ []) ++ (48 + n % 10) ∷ [] ≡ xs ++ decimal n
+decimal_of_two xs n low high =
+    let one = ap (λ (t : List ℕ). xs ++ t) (has_last (n / 10) (omega arith)) ∙ begins xs (n / 10) (omega arith) in
+    ends xs _ n (omega arith) one
+
+pub decimal_of_three : (xs : List ℕ) (n : ℕ) → 100 ≤ n → n < 1000
+    → ((xs ++ (48 + (n / 100) % 10) ∷ []) ++ (48 + (n / 10) % 10) ∷ []) ++ (48 + n % 10) ∷ [] ≡ xs ++ decimal n
+decimal_of_three xs n low high =
+    let one = ap (λ (t : List ℕ). xs ++ t) (has_last (n / 100) (omega arith)) ∙ begins xs (n / 100) (omega arith) in
+    let ys = xs ++ (48 + (n / 100) % 10) ∷ [] in
+    let two = ap (λ (t : List ℕ). ys ++ t) (has_last (n / 10) (omega arith)) ∙ next xs ys (n / 100) (n / 10) (omega arith) (omega arith) one in
+    ends xs _ n (omega arith) two
 
 pub decimal_of_five : (xs : List ℕ) (n : ℕ) → n < 65536
     → ((((xs ++ last_digit (n / 10000)) ++ last_digit (n / 1000)) ++ last_digit (n / 100)) ++ last_digit (n / 10)) ++ (48 + n % 10) ∷ []

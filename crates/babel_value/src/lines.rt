@@ -133,6 +133,16 @@ impl Line {
         ensures text { self.new ≡ self.old ++ decimal number }
         ensures short { length self.new ≤ length self.old + 5 }
     {
+        // Most numbers have few digits.
+        if number < 10 {
+            return self.push_ones(number);
+        }
+        if number < 100 {
+            return self.push_two(number);
+        }
+        if number < 1000 {
+            return self.push_three(number);
+        }
         self.push_digit(number / 10_000);
         self.push_digit(number / 1000);
         self.push_digit(number / 100);
@@ -147,8 +157,37 @@ impl Line {
         ensures short { length self.new ≤ length self.old + 3 }
     {
         let number = u16::from(number);
-        self.push_digit(number / 100);
-        self.push_digit(number / 10);
+        if number < 10 {
+            return self.push_ones(number);
+        }
+        if number < 100 {
+            return self.push_two(number);
+        }
+        self.push_three(number);
+    }
+
+    /// Appends a number of two digits in decimal.
+    #[inline(always)]
+    fn push_two(&mut self, number: u16)
+        requires two { (10 ≤ number) × (number < 100) }
+        requires room { length self.old + 2 ≤ line_room }
+        ensures text { self.new ≡ self.old ++ decimal number }
+        ensures short { length self.new ≤ length self.old + 2 }
+    {
+        self.push_ones(number / 10);
+        self.push_ones(number);
+    }
+
+    /// Appends a number of three digits in decimal.
+    #[inline(always)]
+    fn push_three(&mut self, number: u16)
+        requires three { (100 ≤ number) × (number < 1000) }
+        requires room { length self.old + 3 ≤ line_room }
+        ensures text { self.new ≡ self.old ++ decimal number }
+        ensures short { length self.new ≤ length self.old + 3 }
+    {
+        self.push_ones(number / 100);
+        self.push_ones(number / 10);
         self.push_ones(number);
     }
 

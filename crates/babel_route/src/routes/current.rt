@@ -1,22 +1,25 @@
 //! Whether the selection of a prefix is current (RFC 8966, section 3.6).
 
-ghost use Rattle.std.specs.Prelude.{◌≡◌, ◌<◌, Bool, true, Some, length, slice_get, IsSome, IsNone, IfSome};
+ghost use Rattle.std.specs.Prelude.{◌≡◌, ◌<◌, Bool, true, Some, None, length, slice_get, option_and_then, IsSome, IsNone, IsTrue, IfSome};
 ghost use Rattle.std.specs.FinMap.{find};
 ghost use Rattle.std.specs.Ordering.{eq_by_cmp};
 ghost use Rattle.babel_value.specs.Orders.{prefix_cmp, peer_cmp};
 ghost use Rattle.babel_table.specs.Entries.{with_value};
-ghost use Rattle.babel_table.specs.Places.{IsAt};
-ghost use Rattle.babel_choice.specs.Choices.{is_change, peer_before};
+ghost use Rattle.babel_table.specs.Places.{IsAt, IsGap};
+ghost use Rattle.babel_choice.specs.Choices.{is_change, peer_before, selection_of};
 ghost use Rattle.babel_choice.specs.Origins.{is_own};
+ghost use Rattle.babel_route.specs.OriginChanges.{origin_change, selection_from};
 ghost use Rattle.babel_route.specs.Currency.{is_same_distance, is_same_entry, is_same_selection, is_current};
 ghost use Rattle.babel_route.specs.Selections.{selection_at, reselected, IsCurrentBut};
 
 use super::RoutesOver;
+use super::origins::OriginChange;
 use babel_choice::{
-    ChoiceInputs, Costs, Cursor, Entry, Origin, RouteKey, Selection, choose, overtakes,
+    ChoiceInputs, Costs, Cursor, Entry, Origin, RouteKey, Selection, choose, choose_place,
+    overtakes,
 };
 use babel_sources::{SourceEntry, SourcesOver};
-use babel_table::{Table, find_near, set_near};
+use babel_table::{Table, find_near, seek_near};
 use babel_value::{Distance, Peer, Prefix, Source};
 
 impl<E: Table<RouteKey, Entry>, S: Table<Prefix, Selection>> RoutesOver<E, S> {
@@ -91,8 +94,8 @@ impl<E: Table<RouteKey, Entry>, S: Table<Prefix, Selection>> RoutesOver<E, S> {
             || has_prefix_at(&self.entries, place.wrapping_sub(1), prefix)
     }
 
-    /// Selects the route of the prefix again, as `select_near`. It returns `None` if the selection was the one that a
-    /// reselection leaves: then nothing changed. The cursor goes to the next prefix.
+    /// Selects the route of the prefix again, as `select_near`, and returns how the origin of its selected route changed. No
+    /// selection is copied but one that is stored. The cursor goes to the next prefix.
     #[inline(always)]
     pub fn select_changed<T: Table<Source, SourceEntry>, C: Costs>(
         &mut self,
@@ -101,26 +104,150 @@ impl<E: Table<RouteKey, Entry>, S: Table<Prefix, Selection>> RoutesOver<E, S> {
         sources: &SourcesOver<T>,
         costs: &C,
         cursor: &mut Cursor,
-    ) -> Option<(Option<Selection>, Option<Selection>)>
-        ensures current { IsNone result → self.new ≡ self.old }
-        ensures before { IfSome result (λ selections. selections.0 ≡ selection_at prefix.now self.old) }
-        ensures selected { IfSome result (λ selections. selections.1 ≡ selection_at prefix.now self.new) }
+    ) -> OriginChange
+        ensures change { result ≡ origin_change (selection_at prefix.now self.old) (selection_at prefix.now self.new) }
         ensures routes { self.new ≡ reselected sources.now (C.cost_of costs.now) prefix.now (is_own origin) self.old }
     {
         let mut place = cursor.selection;
-        let before = find_near(&self.selections, &mut place, prefix);
+        let before = selected_peer_near(&self.selections, &mut place, prefix);
         let inputs = ChoiceInputs {
             entries: &self.entries,
             sources,
             costs,
         };
-        let after = choose(&inputs, prefix, origin, &before, cursor);
-        cursor.selection = place_after(place, &before, &after);
-        if is_same_selection(&before, &after) {
-            return None;
+        let chosen = choose_place(&inputs, prefix, origin, before, cursor);
+        // After a selection that is new, the next one is mostly new too: then its search begins here.
+        cursor.selection = place.wrapping_add(usize::from(before.is_some() && chosen.is_some()));
+        if before.is_some() {
+            exchange_at(&self.entries, &mut self.selections, place, prefix, chosen)
+        } else {
+            insert_at(&self.entries, &mut self.selections, place, prefix, chosen)
         }
-        exchange_near(&mut self.selections, place, *prefix, &before, &after);
-        Some((before, after))
+    }
+}
+
+/// The neighbour of the prefix's selection. `near` becomes the index of the selection, or the one at which it would be
+/// inserted.
+#[inline(always)]
+fn selected_peer_near<S: Table<Prefix, Selection>>(
+    selections: &S,
+    near: &mut usize,
+    prefix: &Prefix,
+) -> Option<Peer>
+    ensures peer { result ≡ peer_before (find prefix_cmp prefix.now (S.entries selections.now)) }
+    ensures at { IsSome result → IsAt prefix.now (S.entries selections.now) near.new }
+    ensures gap { IsNone result → IsGap prefix_cmp prefix.now (S.entries selections.now) near.new }
+{
+    if !seek_near(selections, near, prefix) {
+        return None;
+    }
+    let selected = selections.at(*near)?;
+    Some(selected.1.peer)
+}
+
+/// Makes the route at the index `chosen` the selection of the prefix, whose selection is at the index `place`, or removes
+/// that if there is none.
+#[inline(always)]
+fn exchange_at<E: Table<RouteKey, Entry>, S: Table<Prefix, Selection>>(
+    entries: &E,
+    selections: &mut S,
+    place: usize,
+    prefix: &Prefix,
+    chosen: Option<usize>,
+) -> OriginChange
+    requires at { IsAt prefix.now (S.entries selections.old) place }
+    ensures change { result ≡ origin_change (find prefix_cmp prefix.now (S.entries selections.old)) (selection_from chosen (E.entries entries.now)) }
+    ensures entries { S.entries selections.new ≡ with_value prefix_cmp prefix.now (selection_from chosen (E.entries entries.now)) (S.entries selections.old) }
+    ensures room { S.room selections.new ≡ S.room selections.old }
+{
+    let Some(old) = selections.at(place) else {
+        return OriginChange::Same;
+    };
+    let Some(new) = route_from(entries, chosen) else {
+        selections.remove_at(place, prefix);
+        return loss_of(&old.1);
+    };
+    if is_selection_of(&old.1, &new) {
+        return OriginChange::Same;
+    }
+    selections.replace(place, *prefix, selection_of(&new));
+    change_of_router(&old.1, &new)
+}
+
+/// Makes the route at the index `chosen` the selection of the prefix, which has none and would have it at the index `place`.
+#[inline(always)]
+fn insert_at<E: Table<RouteKey, Entry>, S: Table<Prefix, Selection>>(
+    entries: &E,
+    selections: &mut S,
+    place: usize,
+    prefix: &Prefix,
+    chosen: Option<usize>,
+) -> OriginChange
+    requires gap { IsGap prefix_cmp prefix.now (S.entries selections.old) place }
+    requires room { IsSome (selection_from chosen (E.entries entries.now)) → length (S.entries selections.old) < S.room selections.old }
+    ensures change { result ≡ origin_change (find prefix_cmp prefix.now (S.entries selections.old)) (selection_from chosen (E.entries entries.now)) }
+    ensures entries { S.entries selections.new ≡ with_value prefix_cmp prefix.now (selection_from chosen (E.entries entries.now)) (S.entries selections.old) }
+    ensures room { S.room selections.new ≡ S.room selections.old }
+{
+    match route_from(entries, chosen) {
+        Some(new) => {
+            selections.insert(place, *prefix, selection_of(&new));
+            OriginChange::New
+        }
+        None => OriginChange::Same,
+    }
+}
+
+/// The route at the index, if there is one.
+#[inline(always)]
+fn route_from<E: Table<RouteKey, Entry>>(
+    entries: &E,
+    place: Option<usize>,
+) -> Option<(RouteKey, Entry)>
+    ensures { result ≡ option_and_then (slice_get (E.entries entries.now)) place }
+{
+    entries.at(place?)
+}
+
+/// The selection of a route.
+#[inline(always)]
+fn selection_of(route: &(RouteKey, Entry)) -> Selection
+    ensures { result ≡ selection_of route.now }
+{
+    Selection {
+        peer: route.0.peer,
+        entry: route.1,
+    }
+}
+
+/// Whether the selection is the route as it is.
+#[inline(always)]
+fn is_selection_of(selection: &Selection, route: &(RouteKey, Entry)) -> bool
+    ensures { IsTrue result → selection.now ≡ selection_of route.now }
+{
+    selection.peer.cmp(&route.0.peer).is_eq() && is_same_entry(&selection.entry, &route.1)
+}
+
+/// The loss of a selected route.
+#[inline(always)]
+fn loss_of(old: &Selection) -> OriginChange
+    ensures { result ≡ origin_change (Some old.now) None }
+{
+    OriginChange::Lost {
+        router: old.entry.router,
+        seqno: old.entry.distance.seqno,
+    }
+}
+
+/// How the origin changes from the selection to the route.
+#[inline(always)]
+fn change_of_router(old: &Selection, new: &(RouteKey, Entry)) -> OriginChange
+    ensures { result ≡ origin_change (Some old.now) (Some (selection_of new.now)) }
+{
+    if old.entry.router.cmp(&new.1.router).is_eq() {
+        OriginChange::Same
+    } else {
+        OriginChange::New
     }
 }
 
@@ -167,17 +294,6 @@ fn is_others(selection: &Option<Selection>, peer: &Peer) -> bool
     }
 }
 
-/// The index at which the search for the next prefix's selection begins: after that of this prefix, which is at the index
-/// `place`, if it is still there. After one that is new, the next is mostly new too: then its search begins here.
-/// A search may begin at any index, and finds the same.
-fn place_after(place: usize, before: &Option<Selection>, after: &Option<Selection>) -> usize {
-    if before.is_some() && after.is_some() {
-        place.wrapping_add(1)
-    } else {
-        place
-    }
-}
-
 /// Stores the new selection of the prefix, unless it is the old one.
 #[inline(always)]
 pub(crate) fn replace_near<S: Table<Prefix, Selection>>(
@@ -189,6 +305,7 @@ pub(crate) fn replace_near<S: Table<Prefix, Selection>>(
 )
     requires before { before.now ≡ find prefix_cmp prefix (S.entries selections.old) }
     requires at { IsSome before.now → IsAt prefix (S.entries selections.old) place }
+    requires gap { IsNone before.now → IsGap prefix_cmp prefix (S.entries selections.old) place }
     requires room { IsSome after → IsNone (find prefix_cmp prefix (S.entries selections.old)) → length (S.entries selections.old) < S.room selections.old }
     ensures entries { S.entries selections.new ≡ with_value prefix_cmp prefix after (S.entries selections.old) }
     ensures room { S.room selections.new ≡ S.room selections.old }
@@ -196,27 +313,11 @@ pub(crate) fn replace_near<S: Table<Prefix, Selection>>(
     if is_same_selection(before, &after) {
         return;
     }
-    exchange_near(selections, place, prefix, before, &after);
-}
-
-/// Stores the new selection of the prefix.
-#[inline(always)]
-fn exchange_near<S: Table<Prefix, Selection>>(
-    selections: &mut S,
-    place: usize,
-    prefix: Prefix,
-    before: &Option<Selection>,
-    after: &Option<Selection>,
-)
-    requires before { before.now ≡ find prefix_cmp prefix (S.entries selections.old) }
-    requires at { IsSome before.now → IsAt prefix (S.entries selections.old) place }
-    requires room { IsSome after.now → IsNone (find prefix_cmp prefix (S.entries selections.old)) → length (S.entries selections.old) < S.room selections.old }
-    ensures entries { S.entries selections.new ≡ with_value prefix_cmp prefix after.now (S.entries selections.old) }
-    ensures room { S.room selections.new ≡ S.room selections.old }
-{
     match (before, after) {
-        (Some(_), Some(after)) => selections.replace(place, prefix, *after),
-        _ => set_near(selections, place, prefix, *after),
+        (Some(_), Some(after)) => selections.replace(place, prefix, after),
+        (Some(_), None) => selections.remove_at(place, &prefix),
+        (None, Some(after)) => selections.insert(place, prefix, after),
+        (None, None) => {}
     }
 }
 

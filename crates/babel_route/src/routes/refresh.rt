@@ -7,7 +7,7 @@ ghost use Rattle.std.specs.FinMap.{find, put};
 ghost use Rattle.babel_value.specs.declared.keys.Peer.{Peer};
 ghost use Rattle.babel_value.specs.Orders.{prefix_cmp, peer_cmp};
 ghost use Rattle.babel_table.specs.Entries.{with_value};
-ghost use Rattle.babel_table.specs.Places.{IsAt};
+ghost use Rattle.babel_table.specs.Places.{IsAt, IsGap};
 ghost use Rattle.babel_choice.specs.RouteKeys.{route_cmp};
 ghost use Rattle.babel_choice.specs.Routes.{key_of, updated};
 ghost use Rattle.babel_sources.specs.Sources.{Sources};
@@ -19,7 +19,7 @@ use super::RoutesOver;
 use super::current::is_same_entry;
 use super::room::is_crowded;
 use babel_choice::{Cursor, Entry, ReceivedUpdate, RouteKey, Selection};
-use babel_table::{Full, Table, find_near, set_near};
+use babel_table::{Full, Table, find_near};
 use babel_value::{Peer, Prefix, hold_time};
 
 /// What is done with an update that repeats its neighbour's entry.
@@ -85,9 +85,9 @@ impl<E: Table<RouteKey, Entry>, S: Table<Prefix, Selection>> RoutesOver<E, S> {
         Ok(None)
     }
 
-    /// Stores the entry of a key that the table lacks. The index is the one at which it is inserted.
+    /// Stores the entry of a key that the table lacks and would have at the index.
     fn insert_near(&mut self, place: usize, key: RouteKey, entry: Entry) -> Result<(), Full>
-        requires new { IsNone (find route_cmp key self.old.entries) }
+        requires gap { IsGap route_cmp key self.old.entries place }
         ensures full { IsErr result ↔ (places_taken self.old ≡ most_routes) }
         ensures ok { OnOk result (self.new ≡ record self.old { entries = put route_cmp key entry self.old.entries }) }
         ensures err { OnErr result (self.new ≡ self.old) }
@@ -96,7 +96,7 @@ impl<E: Table<RouteKey, Entry>, S: Table<Prefix, Selection>> RoutesOver<E, S> {
             return Err(Full);
         }
         self.due = self.due.min(entry.deadline);
-        set_near(&mut self.entries, place, key, Some(entry));
+        self.entries.insert(place, key, entry);
         Ok(())
     }
 

@@ -1,11 +1,14 @@
 //! Route selection and what follows from it: triggered updates and requests for a seqno (RFC 8966,
 //! sections 3.6, 3.7.2 and 3.8.2).
 
-ghost use Rattle.std.specs.Prelude.{◌≡◌, [], ◌∷◌, None, IsTrue, IsFalse, IsNone, IsSome, IfSome};
+ghost use Rattle.std.specs.Prelude.{◌≡◌, [], ◌∷◌, Option, None, IsTrue, IsFalse, IsNone, IsSome, IfSome};
+ghost use Rattle.babel_choice.specs.declared.entries.Selection.{Selection};
+ghost use Rattle.babel_route.specs.OriginChanges.{origin_change};
+ghost use Rattle.babel_sources.specs.Sources.{pair_of};
 ghost use Rattle.babel_state.specs.declared.requests.Resend.TheVariants.{Unfeasible};
 ghost use Rattle.babel_state.specs.Limits.{request_hops};
 ghost use Rattle.babel_state.specs.Reselection.{queue, updates_to_all, update_to, request_seqno, unfeasible_peers, is_same_origin, advertise_change, may_request_for_lost, seqno_after, request_for_lost, is_selected_peer, request_for_update, request_from_sender, request_for_seqno, follow_up, select, reselect, reselect_each, reselect_all};
-ghost use Rattle.babel_state.specs.State.{prefixes_in, selected_at};
+ghost use Rattle.babel_state.specs.State.{cost_at, prefixes_in, selected_at};
 ghost use Rattle.babel_state.specs.CurrentSelections.{AreCurrent};
 ghost use Rattle.babel_state.specs.KeptRoutes.{KeepsRoutes};
 ghost use Rattle.babel_speaker.specs.LinkChanges.{prefixes_from, AreCurrentBut, AreOthersCurrent, IsCurrentButAt};
@@ -16,8 +19,9 @@ use crate::input::causes::UnfeasibleUpdate;
 use crate::input::selection_changes::{are_alike, is_same_origin, is_selected_peer, seqno_after};
 use crate::output::queueing::{has_unfeasible, queue_requests_to_unfeasible, queue_updates_to_all};
 use crate::state::Core;
-use crate::tables::{LinkChange, LinkCosts, Scratch, SeqnoRequest};
-use babel_choice::{Cursor, RouteKey, Selection};
+use crate::tables::{KnownCost, KnownCosts, LinkChange, LinkCosts, Scratch, SeqnoRequest};
+use babel_choice::{Costs, Cursor, RouteKey, Selection};
+use babel_route::OriginChange;
 use babel_state::{Item, REQUEST_HOPS, Resend, Target};
 use babel_value::{Peer, Prefix, Seqno, Source};
 
@@ -146,15 +150,12 @@ impl Core {
         !self.announces(prefix) && has_unfeasible(&self.routes, &self.sources, prefix, cursor)
     }
 
-    /// Requests a greater seqno of a lost route (RFC 8966, section 3.8.2.1).
-    fn request_for_lost(&mut self, now: u64, prefix: &Prefix, lost: &Selection)
-        ensures { self.new ≡ request_for_lost now prefix.now lost.now self.old }
+    /// Requests a greater seqno than the lost one of a lost route's source, unless its pair has a greater one yet
+    /// (RFC 8966, section 3.8.2.1).
+    fn request_for_lost(&mut self, now: u64, source: Source, lost: Seqno)
+        ensures { self.new ≡ request_seqno now source (seqno_after (pair_of source self.old.sources) lost) Unfeasible request_hops (unfeasible_peers source.prefix self.old) self.old }
     {
-        let source = Source {
-            prefix: *prefix,
-            router: lost.entry.router,
-        };
-        let seqno = seqno_after(self.pair(&source), lost.entry.distance.seqno);
+        let seqno = seqno_after(self.pair(&source), lost);
         self.request_seqno_from_unfeasible(now, source, seqno);
     }
 
@@ -208,7 +209,11 @@ impl Core {
         let old = &selections.0;
         if let Some(lost) = old {
             if selections.1.is_none() && self.may_request_for_lost(prefix, cursor) {
-                self.request_for_lost(now, prefix, lost);
+                let source = Source {
+                    prefix: *prefix,
+                    router: lost.entry.router,
+                };
+                self.request_for_lost(now, source, lost.entry.distance.seqno);
                 return;
             }
         }
@@ -302,35 +307,68 @@ impl Core {
         self.reselect_all(now, &mut hints.scratch)
     }
 
-    /// Selects the route of the prefix again, as `select_near`. It returns `None` if its selection is current: then nothing
-    /// changed. The cursor goes to the next prefix.
+    /// Selects the route of the prefix again, as `select_near`, and returns how the origin of its selected route changed. The
+    /// cursor goes to the next prefix.
     #[inline(always)]
     fn select_changed(
         &mut self,
         prefix: &Prefix,
+        known: &KnownCost,
         cursor: &mut Cursor,
-    ) -> Option<(Option<Selection>, Option<Selection>)>
+    ) -> OriginChange
+        requires known { known.now.cost ≡ cost_at self.old known.now.peer }
         ensures state { self.new ≡ select prefix.now self.old }
-        ensures current { IsNone result → self.new ≡ self.old }
-        ensures old { IfSome result (λ selections. selections.0 ≡ selected_at prefix.now self.old) }
-        ensures new { IfSome result (λ selections. selections.1 ≡ selected_at prefix.now self.new) }
+        ensures change { result ≡ origin_change (selected_at prefix.now self.old) (selected_at prefix.now self.new) }
     {
         let origin = self.origin(prefix);
         let links = LinkCosts::new(&self.interfaces, &self.neighbours);
+        let costs = KnownCosts::new(links, known);
         self.routes
-            .select_changed(prefix, origin, &self.sources, &links, cursor)
+            .select_changed(prefix, origin, &self.sources, &costs, cursor)
     }
 
-    /// Selects the route of the prefix again, as `reselect_near` without a cause. If its selection is current, that is
-    /// found by the same choice. The cursor goes to the next prefix.
+    /// What follows from a change of the origin alone, as of `follow_up` without a cause.
+    fn follow_change(
+        &mut self,
+        now: u64,
+        prefix: &Prefix,
+        change: OriginChange,
+        cursor: &mut Cursor,
+    )
+        ensures { (old new : Option Selection) → change ≡ origin_change old new → self.new ≡ follow_up now None prefix.now old new self.old }
+    {
+        match change {
+            OriginChange::Same => {}
+            OriginChange::New => self.queue_updates_to_all(prefix),
+            OriginChange::Lost { router, seqno } => {
+                self.queue_updates_to_all(prefix);
+                if self.may_request_for_lost(prefix, cursor) {
+                    let source = Source {
+                        prefix: *prefix,
+                        router,
+                    };
+                    self.request_for_lost(now, source, seqno);
+                }
+            }
+        }
+    }
+
+    /// Selects the route of the prefix again, as `reselect_near` without a cause. The cursor goes to the next prefix.
     #[inline(always)]
-    fn reselect_changed(&mut self, now: u64, prefix: &Prefix, cursor: &mut Cursor)
+    fn reselect_changed(
+        &mut self,
+        now: u64,
+        prefix: &Prefix,
+        known: &KnownCost,
+        cursor: &mut Cursor,
+    )
+        requires known { known.now.cost ≡ cost_at self.old known.now.peer }
         ensures state { self.new ≡ reselect now None prefix.now self.old }
         ensures entries { self.new.routes.entries ≡ self.old.routes.entries }
+        ensures known { known.now.cost ≡ cost_at self.new known.now.peer }
     {
-        if let Some(selections) = self.select_changed(prefix, cursor) {
-            self.follow_up(now, None, prefix, &selections, cursor);
-        }
+        let change = self.select_changed(prefix, known, cursor);
+        self.follow_change(now, prefix, change, cursor);
     }
 
     /// The selection of the prefix, if a reselection leaves it after a change of the neighbour alone: of its routes, or of the
@@ -355,21 +393,54 @@ impl Core {
             .kept_selection(&key, &self.sources, &links, cursor)
     }
 
-    /// Whether the prefix has routes of several neighbours, and its selection stays after a change of the link to one of them.
-    /// `false` says nothing. The cursor is at that neighbour's route, and goes to the next prefix's selection.
+    /// Whether the selection of the prefix stays after a change of the link to the neighbour. `false` says nothing. The cursor
+    /// is at that neighbour's route, and goes to the next prefix's selection.
     #[inline(never)]
     fn keeps_selection(&self, prefix: &Prefix, peer: &Peer, cursor: &mut Cursor) -> bool
         requires others { IsCurrentButAt peer.now prefix.now self.now }
         ensures { IsTrue result → self.now ≡ select prefix.now self.now }
     {
-        if !self.routes.is_shared(cursor.entry)
-            || self.kept_selection(prefix, peer, cursor).is_none()
-        {
+        if self.kept_selection(prefix, peer, cursor).is_none() {
             return false;
         }
         // The next prefix is mostly the next one that has a selection.
         cursor.selection = cursor.selection.wrapping_add(1);
         true
+    }
+
+    /// The cost of the link to the neighbour now, which no reselection changes.
+    fn known_cost(&self, peer: &Peer) -> KnownCost
+        ensures peer { result.peer ≡ peer.now }
+        ensures known { result.cost ≡ cost_at self.now result.peer }
+    {
+        let links = LinkCosts::new(&self.interfaces, &self.neighbours);
+        KnownCost {
+            peer: *peer,
+            cost: links.cost(peer),
+        }
+    }
+
+    /// Selects the route of the prefix again after a change of the link to the neighbour of this cost. If the prefix has
+    /// routes of several neighbours, its selection may stay. The cursor is at that neighbour's route.
+    #[inline(always)]
+    fn reselect_after_link(
+        &mut self,
+        now: u64,
+        prefix: &Prefix,
+        known: &KnownCost,
+        cursor: &mut Cursor,
+    )
+        requires known { known.now.cost ≡ cost_at self.old known.now.peer }
+        requires others { IsCurrentButAt known.now.peer prefix.now self.old }
+        ensures state { self.new ≡ reselect now None prefix.now self.old }
+        ensures entries { self.new.routes.entries ≡ self.old.routes.entries }
+        ensures known { known.now.cost ≡ cost_at self.new known.now.peer }
+    {
+        if !self.routes.is_shared(cursor.entry) {
+            self.reselect_changed(now, prefix, known, cursor);
+        } else if !self.keeps_selection(prefix, &known.peer, cursor) {
+            self.reselect_near(now, None, prefix, cursor);
+        }
     }
 
     /// Selects the route of each prefix again to which the neighbour has a route, in one walk over the table. If all other
@@ -393,13 +464,14 @@ impl Core {
     fn reselect_each_from(&mut self, now: u64, peer: &Peer)
         ensures { self.new ≡ reselect_each now (prefixes_from peer.now self.old.routes.entries) self.old }
     {
+        let known = self.known_cost(peer);
         let mut cursor = Cursor::new();
         for place in 0..self.routes.len() {
             if let Some(prefix) = self.routes.prefix_from(place, peer) {
                 cursor.entry = place;
                 // A search may begin at any index. Sources of routes that follow each other mostly do too.
                 cursor.source = cursor.source.wrapping_add(1);
-                self.reselect_changed(now, &prefix, &mut cursor);
+                self.reselect_changed(now, &prefix, &known, &mut cursor);
             }
         }
     }
@@ -411,6 +483,7 @@ impl Core {
         requires others { AreCurrentBut peer.now self.old }
         ensures { self.new ≡ reselect_each now (prefixes_from peer.now self.old.routes.entries) self.old }
     {
+        let known = self.known_cost(peer);
         let mut cursor = Cursor::new();
         for place in 0..self.routes.len() {
             let Some(prefix) = self.routes.prefix_from(place, peer) else {
@@ -418,9 +491,7 @@ impl Core {
             };
             cursor.entry = place;
             cursor.source = cursor.source.wrapping_add(1);
-            if !self.keeps_selection(&prefix, peer, &mut cursor) {
-                self.reselect_changed(now, &prefix, &mut cursor);
-            }
+            self.reselect_after_link(now, &prefix, &known, &mut cursor);
         }
     }
 

@@ -20,9 +20,9 @@ use babel_value::{Peer, Prefix, Source};
 pub fn queue_updates_to_all(pending: &mut PendingItems, interfaces: u8, prefix: Prefix)
     ensures { pending.new ≡ queued (map (update_to_all prefix) (range_with_len 0 interfaces)) pending.old }
 {
+    pending.make_room(usize::from(interfaces));
     for iface in 0..interfaces {
-        let target = Target { iface, to: None };
-        pending.push(Item::Update { target, prefix });
+        queue_update(pending, Target { iface, to: None }, prefix);
     }
 }
 

@@ -38,6 +38,45 @@ impl<'a> Costs for LinkCosts<'a> {
     }
 }
 
+/// The cost of the link to one neighbour.
+#[derive(Clone, Copy)]
+pub struct KnownCost {
+    /// The neighbour.
+    pub peer: Peer,
+    /// The cost of the link to it.
+    pub cost: Metric,
+}
+
+/// The same costs. That of one neighbour's link was looked up before.
+#[derive(Drop)]
+pub struct KnownCosts<'a> {
+    links: LinkCosts<'a>,
+    known: &'a KnownCost,
+    ghost is_known: { known.now.cost ≡ link_cost links.interfaces.now links.neighbours.now known.now.peer },
+}
+
+impl<'a> KnownCosts<'a> {
+    /// The costs, one of which is this one.
+    pub fn new(links: LinkCosts<'a>, known: &'a KnownCost) -> KnownCosts<'a>
+        requires known { known.now.cost ≡ link_cost links.interfaces.now links.neighbours.now known.now.peer }
+        ensures links { result.links ≡ links.entry }
+    {
+        KnownCosts { links, known }
+    }
+}
+
+impl<'a> Costs for KnownCosts<'a> {
+    ghost cost_of = { λ c peer. link_cost c.links.interfaces.now c.links.neighbours.now peer };
+
+    #[inline(always)]
+    fn cost(&self, peer: &Peer) -> Metric {
+        if peer.cmp(&self.known.peer).is_eq() {
+            return self.known.cost;
+        }
+        self.links.cost(peer)
+    }
+}
+
 /// What a Hello, an IHU or a tick changed of all that selections depend on.
 #[derive(Clone, Copy)]
 pub enum LinkChange {

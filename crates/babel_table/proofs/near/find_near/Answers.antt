@@ -1,31 +1,17 @@
--- The key of the entry at the index is this one, or all up to it are lesser.
-use Rattle.std.proofs.Common.{sym, ap, add-one}
-use Rattle.std.specs.Ordering.{is_eq}
-use Rattle.std.proofs.lemmas.Option.{slice_get_within}
-use Rattle.babel_table.proofs.PlaceLemmas.{lesser_through, greater_from}
-use Rattle.babel_table.proofs.NearLemmas.{at_there, found_there}
+-- The table has the key at the index, or it is missing.
+use Rattle.std.proofs.Common.{Some, refl, sym, ap, ◌∙◌}
+use Rattle.std.proofs.lemmas.Option.{same_Some}
+use Rattle.babel_table.proofs.PlaceLemmas.{find_hit, missing}
 use Rattle.babel_table.proofs.near.find_near.Goals as goal
 
-pub returns-in-Equal-clause-value : goal.returns-in-Equal-clause-value
-returns-in-Equal-clause-value g c =
+pub returns-then-not-seek_near-clause-value : goal.returns-then-not-seek_near-clause-value
+returns-then-not-seek_near-clause-value g c =
+    missing g.K.Key.order c.args.key.now (g.T.Table.entries c.args.table.now) c.seek_near.new.near (c.if-not-seek_near.ensures.gap refl)
+
+pub returns-clause-value : goal.returns-clause-value
+returns-clause-value g c =
     let table = c.args.table.now in
-    found_there g.K.Key.order g.met.K.Key.total g.met.K.Key.exact c.args.key.now (g.T.Table.entries table) c.args.near.now c.in-Some.entry (g.met.T.Table.ordered table) (sym c.in-Some.ensures) (sym (ap is_eq c.in-Equal.ensures))
-
-pub walk_for-requires-clause-lesser : goal.walk_for-requires-clause-lesser
-walk_for-requires-clause-lesser g c =
-    let table = c.args.table.now in
-    rw (add-one c.args.near.now) (lesser_through g.K.Key.order g.met.K.Key.total c.args.key.now (g.T.Table.entries table) c.args.near.now c.in-Some.entry (g.met.T.Table.ordered table) (sym c.in-Some.ensures) (sym c.in-Greater.ensures))
-
-pub walk_back_for-requires-clause-greater : goal.walk_back_for-requires-clause-greater
-walk_back_for-requires-clause-greater g c =
-    let table = c.args.table.now in
-    greater_from g.K.Key.order g.met.K.Key.total c.args.key.now (g.T.Table.entries table) c.args.near.now c.in-Some.entry (g.met.T.Table.ordered table) (sym c.in-Some.ensures) (sym c.in-Less.ensures)
-
-pub walk_for-requires-clause-within : goal.walk_for-requires-clause-within
-walk_for-requires-clause-within g c = slice_get_within (g.T.Table.entries c.args.table.now) c.args.near.now c.in-Some.entry (sym c.in-Some.ensures)
-
-pub returns-in-Equal-clause-at : goal.returns-in-Equal-clause-at
-returns-in-Equal-clause-at g c = λ some. (
-  c.in-Some.entry.1,
-  at_there g.K.Key.order g.met.K.Key.exact c.args.key.now (g.T.Table.entries c.args.table.now) c.args.near.now c.in-Some.entry (sym c.in-Some.ensures) (sym (ap is_eq c.in-Equal.ensures)),
-)
+    let es = g.T.Table.entries table in
+    let at = c.if-not-seek_near.ensures.at refl in
+    let here = same_Some c.in_ok-entry.entry (c.args.key.now, at.0) (c.in_ok-entry.ensures ∙ at.1) in
+    ap (λ e. Some e.1) here ∙ sym (find_hit g.K.Key.order g.met.K.Key.total es c.seek_near.new.near (c.args.key.now, at.0) (g.met.T.Table.ordered table) at.1)

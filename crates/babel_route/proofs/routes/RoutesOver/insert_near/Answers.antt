@@ -10,7 +10,7 @@ invariant_of-self g c =
     let old = c.self.inside in
     let kept = c.self.invariant in
     let es = g.E.Table.entries old.entries in
-    let new_es = g.E.Table.entries c.set_near.new.table in
-    let within = put_within c.args.key c.args.entry es new_es (g.S.Table.entries old.selections) (g.met.E.Table.ordered old.entries) c.set_near.ensures.entries (λ none. leb-false 256 _ (sym c.if-is_crowded.ensures)) kept.2 in
-    let quiet = put_due c.min-self-inside.result old.due c.args.key c.args.entry es new_es (omega (arith, c.min-self-inside.ensures)) (omega (arith, c.min-self-inside.ensures)) c.set_near.ensures.entries kept.3 in
-    (c.set_near.ensures.room ∙ kept.0, kept.1, within, quiet)
+    let new_es = g.E.Table.entries c.insert.new.self in
+    let within = put_within c.args.key c.args.entry es new_es (g.S.Table.entries old.selections) (g.met.E.Table.ordered old.entries) c.insert.ensures.entries (λ none. leb-false 256 _ (sym c.if-is_crowded.ensures)) kept.2 in
+    let quiet = put_due c.min-self-inside.result old.due c.args.key c.args.entry es new_es (omega (arith, c.min-self-inside.ensures)) (omega (arith, c.min-self-inside.ensures)) c.insert.ensures.entries kept.3 in
+    (c.insert.ensures.room ∙ kept.0, kept.1, within, quiet)

@@ -1,39 +1,59 @@
--- A selection takes no place, since its prefix has an entry. If it is the old one, storing it changes nothing.
+-- A selection takes no place, since its prefix has an entry.
+use Rattle.std.proofs.Common.{◌≡◌, true, ◌∙◌, sym, ap, subst, refl, IsNone, IsSome, length, ◌<◌, option_map}
 use Rattle.std.specs.FinMap.{find}
-use Rattle.std.proofs.Common.{◌∙◌, sym, ap, subst, length, ◌<◌}
 use Rattle.babel_value.specs.Orders.{prefix_cmp}
-use Rattle.babel_choice.specs.Choices.{choice}
+use Rattle.babel_table.proofs.PlaceLemmas.{missing}
+use Rattle.babel_choice.specs.Choices.{has_entry, preference, selection_of}
 use Rattle.babel_choice.specs.Origins.{is_own}
-use Rattle.babel_route.proofs.CurrencyLemmas.{same_selection}
-use Rattle.babel_route.proofs.CurrentLemmas.{selected_here, unchanged_reselected}
+use Rattle.babel_choice.proofs.ChoiceLemmas.{candidate_is_known}
+use Rattle.babel_route.specs.OriginChanges.{origin_change, selection_from}
+use Rattle.babel_route.specs.Selections.{selection_at}
+use Rattle.babel_route.proofs.CurrentLemmas.{selected_here}
+use Rattle.babel_route.proofs.OriginLemmas.{none_of}
 use Rattle.babel_route.proofs.RoomLemmas.{selection_fits_new, selected_within}
 use Rattle.babel_route.proofs.routes.RoutesOver.select_changed.Goals as goal
 
-pub returns-then-is_same_selection-clause-routes : goal.returns-then-is_same_selection-clause-routes
-returns-then-is_same_selection-clause-routes g c =
-    let sources = c.args.sources.now in
-    let cost = g.C.Costs.cost_of c.args.costs.now in
-    let prefix = c.args.prefix.now in
-    let local = is_own c.args.origin in
-    let es = g.E.Table.entries c.self.inside.entries in
-    let ss = g.S.Table.entries c.self.inside.selections in
-    let chosen = c.choose-after.ensures.choice ∙ ap (λ before. choice sources cost prefix local before es) c.find_near-before.ensures.value in
-    let current = sym c.find_near-before.ensures.value ∙ same_selection c.find_near-before.result c.choose-after.result (sym c.if-is_same_selection.ensures) ∙ chosen in
-    unchanged_reselected sources cost prefix local (record { entries = es; selections = ss }) c.args.self.now (g.met.S.Table.ordered c.self.inside.selections) c.self.view_is current
-
-pub exchange_near-requires-clause-room : goal.exchange_near-requires-clause-room
-exchange_near-requires-clause-room g c =
+pub insert_at-requires-clause-room : goal.insert_at-requires-clause-room
+insert_at-requires-clause-room g c = λ some.
     let old = c.self.inside in
     let kept = c.self.invariant in
-    λ some none. subst (λ room. length (g.S.Table.entries old.selections) < room) (sym kept.1) (selection_fits_new c.args.prefix.now (g.E.Table.entries old.entries) (g.S.Table.entries old.selections) (g.met.S.Table.ordered old.selections) (c.choose-after.ensures.known some) none kept.2)
+    let prefix = c.args.prefix.now in
+    let es = g.E.Table.entries old.entries in
+    let ss = g.S.Table.entries old.selections in
+    let cost = g.C.Costs.cost_of c.args.costs.now in
+    let known = candidate_is_known c.args.sources.now cost (preference cost c.selected_peer_near-before.result) prefix (is_own c.args.origin) es (subst IsSome (ap (option_map selection_of) c.choose_place-chosen.ensures) some) in
+    let gap = c.selected_peer_near-before.ensures.gap (none_of c.selected_peer_near-before.result (sym c.if-is_some-2.ensures)) in
+    let none = subst IsNone (missing prefix_cmp prefix ss c.selected_peer_near-before.new.near gap) refl in
+    subst (λ room. length ss < room) (sym kept.1) (selection_fits_new prefix es ss (g.met.S.Table.ordered old.selections) known none kept.2)
 
 pub invariant_of-self : goal.invariant_of-self
 invariant_of-self g c =
     let old = c.self.inside in
     let kept = c.self.invariant in
-    (kept.0, c.exchange_near.ensures.room ∙ kept.1, selected_within c.args.prefix.now c.choose-after.result (g.E.Table.entries old.entries) (g.S.Table.entries old.selections) (g.S.Table.entries c.exchange_near.new.selections) c.choose-after.ensures.known c.exchange_near.ensures.entries kept.2, kept.3)
-
-pub returns-clause-selected : goal.returns-clause-selected
-returns-clause-selected g c =
     let prefix = c.args.prefix.now in
-    sym (ap (find prefix_cmp prefix) c.exchange_near.ensures.entries ∙ selected_here prefix c.choose-after.result (g.S.Table.entries c.self.inside.selections))
+    let es = g.E.Table.entries old.entries in
+    let cost = g.C.Costs.cost_of c.args.costs.now in
+    let known : IsSome (selection_from c.choose_place-chosen.result es) → has_entry es prefix ≡ true = λ some. candidate_is_known c.args.sources.now cost (preference cost c.selected_peer_near-before.result) prefix (is_own c.args.origin) es (subst IsSome (ap (option_map selection_of) c.choose_place-chosen.ensures) some) in
+    (kept.0, c.exchange_at.ensures.room ∙ kept.1, selected_within prefix (selection_from c.choose_place-chosen.result es) es (g.S.Table.entries old.selections) (g.S.Table.entries c.exchange_at.new.selections) known c.exchange_at.ensures.entries kept.2, kept.3)
+
+pub invariant_of-self-else-is_some-2 : goal.invariant_of-self-else-is_some-2
+invariant_of-self-else-is_some-2 g c =
+    let old = c.self.inside in
+    let kept = c.self.invariant in
+    let prefix = c.args.prefix.now in
+    let es = g.E.Table.entries old.entries in
+    let cost = g.C.Costs.cost_of c.args.costs.now in
+    let known : IsSome (selection_from c.choose_place-chosen.result es) → has_entry es prefix ≡ true = λ some. candidate_is_known c.args.sources.now cost (preference cost c.selected_peer_near-before.result) prefix (is_own c.args.origin) es (subst IsSome (ap (option_map selection_of) c.choose_place-chosen.ensures) some) in
+    (kept.0, c.insert_at.ensures.room ∙ kept.1, selected_within prefix (selection_from c.choose_place-chosen.result es) es (g.S.Table.entries old.selections) (g.S.Table.entries c.insert_at.new.selections) known c.insert_at.ensures.entries kept.2, kept.3)
+
+pub returns-then-is_some-2-clause-change : goal.returns-then-is_some-2-clause-change
+returns-then-is_some-2-clause-change g c =
+    let prefix = c.args.prefix.now in
+    let here = sym (ap (find prefix_cmp prefix) c.exchange_at.ensures.entries ∙ selected_here prefix (selection_from c.choose_place-chosen.result (g.E.Table.entries c.self.inside.entries)) (g.S.Table.entries c.self.inside.selections)) in
+    c.exchange_at.ensures.change ∙ (λ i. origin_change (selection_at prefix (c.self.view_is i)) (here i))
+
+pub returns-else-is_some-2-clause-change : goal.returns-else-is_some-2-clause-change
+returns-else-is_some-2-clause-change g c =
+    let prefix = c.args.prefix.now in
+    let here = sym (ap (find prefix_cmp prefix) c.insert_at.ensures.entries ∙ selected_here prefix (selection_from c.choose_place-chosen.result (g.E.Table.entries c.self.inside.entries)) (g.S.Table.entries c.self.inside.selections)) in
+    c.insert_at.ensures.change ∙ (λ i. origin_change (selection_at prefix (c.self.view_is i)) (here i))

@@ -14,7 +14,7 @@ pub replace_near-requires : goal.replace_near-requires
 replace_near-requires g c =
     let old = c.self.inside in
     let kept = c.self.invariant in
-    record { before = c.find_near-before.ensures.value; at = c.find_near-before.ensures.at; room = λ some none. subst (λ room. length (g.S.Table.entries old.selections) < room) (sym kept.1) (selection_fits_new c.args.prefix.now (g.E.Table.entries old.entries) (g.S.Table.entries old.selections) (g.met.S.Table.ordered old.selections) (c.choose-after.ensures.known some) none kept.2) }
+    record { before = c.find_near-before.ensures.value; at = c.find_near-before.ensures.at; gap = c.find_near-before.ensures.gap; room = λ some none. subst (λ room. length (g.S.Table.entries old.selections) < room) (sym kept.1) (selection_fits_new c.args.prefix.now (g.E.Table.entries old.entries) (g.S.Table.entries old.selections) (g.met.S.Table.ordered old.selections) (c.choose-after.ensures.known some) none kept.2) }
 
 pub invariant_of-self : goal.invariant_of-self
 invariant_of-self g c =

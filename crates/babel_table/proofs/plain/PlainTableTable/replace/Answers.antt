@@ -1,12 +1,9 @@
 -- The table has the key, so it isn't full of others.
-use Rattle.std.proofs.Common.{Result, Ok, Err, OnOk, IsErr, IsNone, refl, subst, true≢false}
+use Rattle.std.proofs.Common.{IsNone, subst, true≢false}
 use Rattle.babel_table.specs.Insertions.{in_order, sorted_in_order}
+use Rattle.babel_table.proofs.InsertionLemmas.{is_stored}
 use Rattle.babel_table.proofs.PlaceLemmas.{find_hit}
 use Rattle.babel_table.proofs.plain.PlainTableTable.replace.Goals as goal
-
-is_stored : {X E P : Type 0} (r : Result X E) → OnOk r P → (IsErr r → ⊥) → P
-is_stored (Ok x) ok never = ok
-is_stored (Err e) ok never = absurd (never refl)
 
 pub returns-clause-entries : goal.returns-clause-entries
 returns-clause-entries g c =

@@ -3,7 +3,7 @@ use Rattle.std.proofs.Common.{◌<◌, ◌≤◌, length, slice_get, sym, ap, su
 use Rattle.std.proofs.lemmas.List.{drop_all}
 use Rattle.babel_speaker.specs.LinkChanges.{prefixes_from}
 use Rattle.babel_state.specs.Reselection.{reselect_each}
-use Rattle.babel_state.specs.State.{State}
+use Rattle.babel_state.specs.State.{State, cost_at}
 use Rattle.babel_speaker.proofs.StaleReselections.{prefix_in, one_walked, none_walked}
 use Rattle.babel_speaker.proofs.state.speaker_core.Core.reselect_each_from.Goals.{in-Some, in_default}
 use Rattle.babel_speaker.proofs.state.speaker_core.Core.reselect_each_from.Goals as goal
@@ -20,10 +20,12 @@ loop-place-preserved c =
       | in-Some w ↦ record {
         done = one_walked peer c.args.now es c.loop-place.place w.in-Some.prefix c.loop-place.self c.match-prefix_from.self _ (sym w.in-Some.is ∙ found) kept.kept (w.self-is ∙ w.reselect_changed.ensures.state) kept.done;
         kept = ap (λ (s : State). s.routes.entries) w.self-is ∙ w.reselect_changed.ensures.entries ∙ kept.kept;
+        known = w.reselect_changed.ensures.known ∙ ap (λ (s : State). cost_at s c.known_cost-known.result.peer) (sym w.self-is);
       }
       | in_default w ↦ record {
         done = none_walked peer c.args.now es c.loop-place.place c.loop-place.self c.match-prefix_from.self _ within (sym w.in_default.is ∙ found) kept.kept w.self-is kept.done;
         kept = ap (λ (s : State). s.routes.entries) w.self-is ∙ kept.kept;
+        known = kept.known ∙ ap (λ (s : State). cost_at s c.known_cost-known.result.peer) (sym w.self-is);
       }
     ]
 

@@ -1,16 +1,19 @@
--- A route of the neighbour whose selection stays or is chosen again, or a route of another.
+-- A route of the neighbour, or one of another.
 use Rattle.std.specs.FinMap.{is_sorted}
 use Rattle.std.proofs.Common.{◌≡◌, ◌<◌, ◌≤◌, true, length, slice_get, refl, sym, ap, subst, ◌∙◌}
 use Rattle.std.proofs.lemmas.List.{drop_all}
 use Rattle.babel_choice.specs.RouteKeys.{route_cmp}
 use Rattle.babel_choice.specs.Routes.{RouteEntries}
-use Rattle.babel_speaker.specs.LinkChanges.{prefixes_from, AreCurrentBut}
+use Rattle.babel_speaker.specs.LinkChanges.{prefixes_from, IsCurrentButAt}
 use Rattle.babel_state.specs.Reselection.{reselect_each}
 use Rattle.babel_state.specs.State.{State}
 use Rattle.babel_state.specs.CurrentSelections.{AreRoutesInOrder}
-use Rattle.babel_speaker.proofs.StaleReselections.{keeps_but, prefix_in, unchanged_reselected, one_walked, none_walked}
-use Rattle.babel_speaker.proofs.state.speaker_core.Core.reselect_shared_from.Goals.{then-not-keeps_selection, else-not-keeps_selection}
+use Rattle.babel_speaker.proofs.StaleReselections.{keeps_but, prefix_in, one_walked, none_walked}
 use Rattle.babel_speaker.proofs.state.speaker_core.Core.reselect_shared_from.Goals as goal
+
+pub reselect_after_link-requires-clause-others : goal.reselect_after_link-requires-clause-others
+reselect_after_link-requires-clause-others c =
+    subst (λ q. IsCurrentButAt q c.in-Some.prefix c.loop-place.self) (sym c.known_cost-known.ensures.peer) (c.loop-place.invariant.others c.in-Some.prefix)
 
 pub loop-place-preserved : goal.loop-place-preserved
 loop-place-preserved c =
@@ -20,22 +23,13 @@ loop-place-preserved c =
     let prefix = c.in-Some.prefix in
     let found = sym c.in-Some.is ∙ c.prefix_from.ensures ∙ ap (λ (s : State). prefix_in peer (slice_get s.routes.entries c.loop-place.place)) c.self-in-loop-place.view_is in
     let in_order : AreRoutesInOrder c.loop-place.self = subst (λ (fs : RouteEntries). is_sorted route_cmp fs ≡ true) (sym kept.kept) (subst (λ (s : State). AreRoutesInOrder s) c.self.view_is c.len-place-end.ensures.in_order) in
-    elim c.if-not-keeps_selection.branch [
-      | then-not-keeps_selection w ↦
-          let is = w.self-is ∙ w.reselect_changed.ensures.state in
-          record {
-            done = one_walked peer c.args.now es c.loop-place.place prefix c.loop-place.self c.if-not-keeps_selection.self _ found kept.kept is kept.done;
-            kept = ap (λ (s : State). s.routes.entries) w.self-is ∙ w.reselect_changed.ensures.entries ∙ kept.kept;
-            others = keeps_but c.args.now peer prefix c.loop-place.self c.if-not-keeps_selection.self in_order is kept.others;
-          }
-      | else-not-keeps_selection w ↦
-          let is = unchanged_reselected c.args.now prefix c.loop-place.self c.if-not-keeps_selection.self (w.self-is ∙ c.keeps_selection.ensures w.if-not-keeps_selection.false) w.self-is in
-          record {
-            done = one_walked peer c.args.now es c.loop-place.place prefix c.loop-place.self c.if-not-keeps_selection.self _ found kept.kept is kept.done;
-            kept = ap (λ (s : State). s.routes.entries) w.self-is ∙ kept.kept;
-            others = subst (AreCurrentBut peer) (sym w.self-is) kept.others;
-          }
-    ]
+    let is = c.reselect_after_link.ensures.state in
+    record {
+      done = one_walked peer c.args.now es c.loop-place.place prefix c.loop-place.self c.reselect_after_link.new.self _ found kept.kept is kept.done;
+      kept = c.reselect_after_link.ensures.entries ∙ kept.kept;
+      known = c.reselect_after_link.ensures.known;
+      others = keeps_but c.args.now peer prefix c.loop-place.self c.reselect_after_link.new.self in_order is kept.others;
+    }
 
 pub loop-place-preserved-in_default : goal.loop-place-preserved-in_default
 loop-place-preserved-in_default c =
@@ -48,6 +42,7 @@ loop-place-preserved-in_default c =
     record {
       done = none_walked peer c.args.now es c.loop-place.place c.loop-place.self c.loop-place.self _ within found kept.kept refl kept.done;
       kept = kept.kept;
+      known = kept.known;
       others = kept.others;
     }
 
