@@ -168,11 +168,10 @@ def mesh_neighbours(node, nodes):
     return [other for other in range(nodes) if other != node]
 
 
-# In so many turns each node sends all its Updates three times and all its IHUs four times, whatever turn comes first: with each fourth
-# Hello and with each third. Fewer turns would count more of them in one network than in another.
-PERIOD = 12
-# In a ring of 64 nodes a route comes to the last node after 32 turns.
-SHAPES = [Shape("a ring", ring_neighbours, 40, 2 * PERIOD), Shape("a full mesh", mesh_neighbours, 5, PERIOD)]
+# A node sends all its Updates with each fourth Hello, and its IHUs with each third. The counted turns of a ring are whole periods of
+# both. A full mesh of 64 nodes has 4,160 events a turn, and a scenario of ten turns is too long (F5): there one period of
+# Updates is counted. In a ring of 64 nodes a route comes to the last node after 32 turns.
+SHAPES = [Shape("a ring", ring_neighbours, 40, 24), Shape("a full mesh", mesh_neighbours, 5, 4)]
 
 
 def node_table(node, announces):
