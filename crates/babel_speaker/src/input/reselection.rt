@@ -150,8 +150,8 @@ impl Core {
         !self.announces(prefix) && has_unfeasible(&self.routes, &self.sources, prefix, cursor)
     }
 
-    /// Requests a greater seqno than the lost one of a lost route's source, unless its pair has a greater one yet
-    /// (RFC 8966, section 3.8.2.1).
+    /// Requests a greater seqno of a lost route's source: one more than that of its pair, or than the lost one if it has no
+    /// pair (RFC 8966, section 3.8.2.1).
     fn request_for_lost(&mut self, now: u64, source: Source, lost: Seqno)
         ensures { self.new ≡ request_seqno now source (seqno_after (pair_of source self.old.sources) lost) Unfeasible request_hops (unfeasible_peers source.prefix self.old) self.old }
     {
