@@ -26,7 +26,8 @@ pub(crate) fn cell_of<'l>(answer: &'l str, line: &'l str, column: &Column) -> Ce
     }
 }
 
-/// After how many centiseconds the neighbour or the route of the line is given up, if a line of the reply has that.
+/// After how many centiseconds the neighbour or the route of the line is given up, if a line of the
+/// reply has that.
 pub(crate) fn expiry_of(answer: &str, line: &str) -> Option<u64> {
     for other in answer.lines() {
         if word(other, 0) == "expires" && is_same_thing(other, line) {

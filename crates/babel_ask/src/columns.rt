@@ -7,7 +7,8 @@ pub(crate) enum ColumnKind {
     Text,
     /// Numbers, also in JSON.
     Number,
-    /// After how long the thing is given up if nothing more is heard: seconds for people, centiseconds in JSON.
+    /// After how long the thing is given up if nothing more is heard: seconds for people,
+    /// centiseconds in JSON.
     Expiry,
 }
 

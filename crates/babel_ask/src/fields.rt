@@ -25,7 +25,8 @@ pub(crate) fn is_of(line: &str, kind: &str) -> bool {
     word(line, 0) == "add" && word(line, 1) == kind
 }
 
-/// The name of the interface with this number: that of the line `add interface NAME` that so many others come before.
+/// The name of the interface with this number: that of the line `add interface NAME` that so many
+/// others come before.
 pub(crate) fn interface_name<'l>(answer: &'l str, number: &str) -> &'l str {
     let Ok(number) = number.parse::<usize>() else {
         return "?";

@@ -1,9 +1,12 @@
-//! What an operator asks a running speaker, and how its reply is shown: the pure part of `babel ask`.
+//! What an operator asks a running speaker, and how its reply is shown: the pure part of
+//! `babel ask`.
 //!
 //! - `questions`: what is asked, and the commands of the control socket that ask it.
-//! - `fields`: the fields of a reply's line. `columns`: which of them are shown, and `cells` what of them.
+//! - `fields`: the fields of a reply's line. `columns`: which of them are shown, and `cells` what
+//!   of them.
 //! - `tables`: aligned tables for people, and `objects`: a JSON object a line, for scripts.
-//! - `reasons`: a sentence for each route of a prefix. `replies` shows a whole reply, and `logs` a line of the log.
+//! - `reasons`: a sentence for each route of a prefix. `replies` shows a whole reply, and `logs` a
+//!   line of the log.
 #![tactic(auto)]
 
 mod cells;

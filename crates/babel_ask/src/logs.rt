@@ -10,7 +10,8 @@ use crate::AnswerForm;
 use crate::objects::Quoted;
 use std::io::{self, Write};
 
-/// Writes a line that a control socket sends after `log on`, and flushes. The greeting and the replies of the socket are left out.
+/// Writes a line that a control socket sends after `log on`, and flushes. The greeting and the
+/// replies of the socket are left out.
 ///
 /// # Errors
 ///

@@ -32,7 +32,8 @@ fn write_letter<W: fmt::Write>(letter: char, f: &mut fmt::Formatter<W>) -> fmt::
     }
 }
 
-/// An address as the lines of `explain` write it. One of IPv6 is shown in its short form (RFC 5952).
+/// An address as the lines of `explain` write it. One of IPv6 is shown in its short form (RFC
+/// 5952).
 #[derive(Clone, Copy)]
 pub(crate) struct ShortAddress<'l>(pub(crate) &'l str);
 

@@ -49,7 +49,8 @@ fn parse_word<'q>(word: &str) -> Option<Question<'q>>
 }
 
 impl Question<'_> {
-    /// The lines that ask it of the control socket. The last one ends the connection, but for that of the log.
+    /// The lines that ask it of the control socket. The last one ends the connection, but for that
+    /// of the log.
     pub fn request(&self, alloc: Global) -> Result<String, AllocError>
         ensures { IfOk result (λ text. string_bytes text ≡ request_text self.now) }
     {

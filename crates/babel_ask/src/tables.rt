@@ -118,7 +118,8 @@ fn colour_of(row: Row<'_>) -> Option<&'static str> {
     }
 }
 
-/// Writes a cell after the gap, and returns how many blanks come before the next one. Numbers and times are at the right of it.
+/// Writes a cell after the gap, and returns how many blanks come before the next one. Numbers and
+/// times are at the right of it.
 fn write_cell<W: Write>(
     cell: Cell<'_>,
     kind: ColumnKind,

@@ -44,8 +44,8 @@ impl Model for Builder {
 }
 
 impl Builder {
-    /// A datagram without messages, to be sent from this address. A receiver takes the address as the
-    /// next hop of its family (RFC 8966, section 4.6.8).
+    /// A datagram without messages, to be sent from this address. A receiver takes the address as
+    /// the next hop of its family (RFC 8966, section 4.6.8).
     pub fn new(source: Addr) -> Builder
         ensures empty { result ≡ record { source = source; body = [] } }
         ensures silent { HasEncoded result [] }
@@ -64,7 +64,8 @@ impl Builder {
         }
     }
 
-    /// Begins another datagram in place of this one. It is the same as a new builder, but no octet is moved.
+    /// Begins another datagram in place of this one. It is the same as a new builder, but no octet
+    /// is moved.
     pub fn begin(&mut self, source: Addr)
         ensures empty { self.new ≡ record { source = source; body = [] } }
         ensures silent { HasEncoded self.new [] }
@@ -75,8 +76,8 @@ impl Builder {
         self.state = ParserState::new(source);
     }
 
-    /// Adds the message in few octets (RFC 8966, section 4.5), if its TLVs fit. Otherwise it returns
-    /// `false`, and nothing has changed.
+    /// Adds the message in few octets (RFC 8966, section 4.5), if its TLVs fit. Otherwise it
+    /// returns `false`, and nothing has changed.
     #[must_use]
     pub fn add(&mut self, message: &Message) -> bool
         ensures fits { result ≡ fits self.old message.now }
@@ -98,8 +99,8 @@ impl Builder {
         fits
     }
 
-    /// Writes the datagram to `out`, in place of what was there: the header with the length of the body, and the
-    /// body.
+    /// Writes the datagram to `out`, in place of what was there: the header with the length of the
+    /// body, and the body.
     pub fn write_to(&self, out: &mut ArrayVec<u8, DATAGRAM_LEN>)
         ensures octets { out.new.items ≡ datagram self.now.body }
         // The datagram means the messages that were added.

@@ -1,4 +1,5 @@
-//! Whether octets are the same. They are compared as numbers, which takes one step in place of eight.
+//! Whether octets are the same. They are compared as numbers, which takes one step in place of
+//! eight.
 
 ghost use Rattle.std.specs.Prelude.{◌≡◌, ◌+◌, ◌≤◌, ◌&&◌, length, slice_range};
 ghost use Rattle.std.specs.Str.{bytes_eq};

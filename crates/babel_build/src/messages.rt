@@ -1,5 +1,6 @@
 //! The TLVs of a message in few octets (RFC 8966, sections 4.5 and 4.6): an Update leaves out its
-//! router-id, its next hop and the first octets of its prefix if a reader has them from earlier TLVs.
+//! router-id, its next hop and the first octets of its prefix if a reader has them from earlier
+//! TLVs.
 
 ghost use Rattle.std.specs.Prelude.{◌≡◌, ◌++◌, length, take, is_some, IfSome, IfNone, OnSome};
 ghost use Rattle.std.specs.Bool.{OnTrue, OnFalse};
@@ -89,7 +90,8 @@ struct Origin<'a> {
     next_hop: &'a Addr,
 }
 
-/// Appends an Update, after a Router-Id and a Next Hop if the reader needs them. Mostly it has both.
+/// Appends an Update, after a Router-Id and a Next Hop if the reader needs them. Mostly it has
+/// both.
 #[inline(always)]
 #[tactic(auto, using(crate::proofs::Shared::origin_is_kept))]
 fn put_finite(
@@ -147,9 +149,9 @@ fn put_and_set_default(
     fits
 }
 
-/// Appends a Router-Id, if the router-id differs and the address of the prefix doesn't give it. Returns the flags of the
-/// Update, which sets the default prefix, and the router-id if that differs and the address gives it. `None`: there is no
-/// room.
+/// Appends a Router-Id, if the router-id differs and the address of the prefix doesn't give it.
+/// Returns the flags of the Update, which sets the default prefix, and the router-id if that
+/// differs and the address gives it. `None`: there is no room.
 #[inline]
 fn put_needed_router_id(
     datagram: &mut Datagram,

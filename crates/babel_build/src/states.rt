@@ -1,4 +1,5 @@
-//! What a reader has from earlier TLVs (RFC 8966, section 4.5), and what a TLV can leave out for it.
+//! What a reader has from earlier TLVs (RFC 8966, section 4.5), and what a TLV can leave out for
+//! it.
 
 ghost use Rattle.std.specs.Prelude.{◌≡◌, ◌≤◌, length, take};
 ghost use Rattle.std.specs.Option.{option_map};
@@ -62,8 +63,9 @@ fn given_router(addr: &Addr) -> [u8; ROUTER_ID_LEN]
     router
 }
 
-/// How many of the first `taken` octets of an address the default prefix of its encoding has too, from the first on.
-/// Whole addresses are compared: their length is known where this is compiled, so that the loop is unrolled.
+/// How many of the first `taken` octets of an address the default prefix of its encoding has too,
+/// from the first on. Whole addresses are compared: their length is known where this is compiled,
+/// so that the loop is unrolled.
 #[inline]
 #[tactic(auto, using(crate::proofs::Shared::omitted_in_front))]
 pub(crate) fn omitted(state: &ParserState, addr: &Addr, taken: usize) -> usize

@@ -18,7 +18,8 @@ use babel_table::{Table, places_below_near};
 use babel_value::{Metric, Peer, Prefix, Source};
 use std::cmp::Ordering;
 
-/// The criteria between the candidates of a prefix, the first field first: the least rank is selected.
+/// The criteria between the candidates of a prefix, the first field first: the least rank is
+/// selected.
 #[derive(Clone, Copy, PartialEq, Eq, PartialOrd, Ord)]
 pub struct Rank {
     /// The metric by the neighbour's present cost.
@@ -36,8 +37,8 @@ struct Candidate {
     place: usize,
 }
 
-/// The selection of the prefix after this one: the candidate that no other comes before, and none if
-/// the prefix is the speaker's own.
+/// The selection of the prefix after this one: the candidate that no other comes before, and none
+/// if the prefix is the speaker's own.
 #[inline(always)]
 pub fn choose<E: Table<RouteKey, Entry>, T: Table<Source, SourceEntry>, C: Costs>(
     inputs: &ChoiceInputs<'_, E, T, C>,
@@ -53,8 +54,8 @@ pub fn choose<E: Table<RouteKey, Entry>, T: Table<Source, SourceEntry>, C: Costs
     selection_at(inputs.entries, first)
 }
 
-/// The index of the route that `choose` selects, if this neighbour was selected before. The search begins at the cursor,
-/// which goes to the last route of the prefix.
+/// The index of the route that `choose` selects, if this neighbour was selected before. The search
+/// begins at the cursor, which goes to the last route of the prefix.
 #[inline(always)]
 pub fn choose_place<E: Table<RouteKey, Entry>, T: Table<Source, SourceEntry>, C: Costs>(
     inputs: &ChoiceInputs<'_, E, T, C>,
@@ -188,8 +189,9 @@ pub fn selection_at<E: Table<RouteKey, Entry>>(
     })
 }
 
-/// The candidate found before, unless the route at the index is a candidate that comes before it. Most routes don't:
-/// so their metrics are compared first, and the source of such a route is not looked up.
+/// The candidate found before, unless the route at the index is a candidate that comes before it.
+/// Most routes don't: so their metrics are compared first, and the source of such a route is not
+/// looked up.
 #[inline(always)]
 fn first_with<E: Table<RouteKey, Entry>, T: Table<Source, SourceEntry>, C: Costs>(
     inputs: &ChoiceInputs<'_, E, T, C>,
@@ -232,7 +234,8 @@ fn is_first<E: Table<RouteKey, Entry>>(
     }
 }
 
-/// Whether a candidate comes before another one. Their metrics mostly differ, and then no rank is made from the table.
+/// Whether a candidate comes before another one. Their metrics mostly differ, and then no rank is
+/// made from the table.
 #[inline(always)]
 fn comes_before<E: Table<RouteKey, Entry>>(
     entries: &E,
@@ -326,8 +329,9 @@ fn is_feasible<T: Table<Source, SourceEntry>>(
     sources.feasible_near(source, route.1.distance, near)
 }
 
-/// Whether the route takes the place of the selection of another neighbour: it is a candidate, and its metric is lesser, if
-/// there is a selection. Metrics are compared first, so the source of most routes is not looked up.
+/// Whether the route takes the place of the selection of another neighbour: it is a candidate, and
+/// its metric is lesser, if there is a selection. Metrics are compared first, so the source of most
+/// routes is not looked up.
 pub fn overtakes<E: Table<RouteKey, Entry>, T: Table<Source, SourceEntry>, C: Costs>(
     inputs: &ChoiceInputs<'_, E, T, C>,
     route: &(RouteKey, Entry),

@@ -55,7 +55,8 @@ pub struct ReceivedUpdate {
 pub struct Entry {
     /// The router that announces the prefix.
     pub router: RouterId,
-    /// The sequence number, and the metric that the neighbour advertised: infinity after a retraction.
+    /// The sequence number, and the metric that the neighbour advertised: infinity after a
+    /// retraction.
     pub distance: Distance,
     /// The address to which packets are sent.
     pub next_hop: Addr,

@@ -1,4 +1,5 @@
-//! The entries of a route table (RFC 8966, section 3.2.6), and which of a prefix's routes is chosen (section 3.6).
+//! The entries of a route table (RFC 8966, section 3.2.6), and which of a prefix's routes is chosen
+//! (section 3.6).
 //!
 //! - `entries`: what the route table keeps, and by which keys.
 //! - `revisions`: changes of all entries at once.

@@ -54,8 +54,8 @@ impl<'a, T: Table<RouteKey, Entry>> Iterator for AllRoutes<'a, T> {
     }
 }
 
-/// The routes whose deadline is due at a moment, in the order of their keys. A clause sees the list of those that are
-/// still to come.
+/// The routes whose deadline is due at a moment, in the order of their keys. A clause sees the list
+/// of those that are still to come.
 #[derive(Drop)]
 pub struct DueRoutes<'a, T: Table<RouteKey, Entry>> {
     table: &'a T,
@@ -177,8 +177,8 @@ impl<'a, T: Table<Prefix, Selection>> Iterator for AllSelections<'a, T> {
     }
 }
 
-/// The routes of one prefix, in the order of the neighbours. A clause sees the list of those that are
-/// still to come.
+/// The routes of one prefix, in the order of the neighbours. A clause sees the list of those that
+/// are still to come.
 #[derive(Drop)]
 pub struct PrefixRoutes<'a, T: Table<RouteKey, Entry>> {
     table: &'a T,
@@ -210,8 +210,8 @@ impl<'a, T: Table<RouteKey, Entry>> PrefixRoutes<'a, T> {
         }
     }
 
-    /// The same. The search begins at the index, which goes to the route before the first one of the prefix: so the
-    /// routes of rising prefixes are found in one walk over the table.
+    /// The same. The search begins at the index, which goes to the route before the first one of
+    /// the prefix: so the routes of rising prefixes are found in one walk over the table.
     pub fn new_near(table: &'a T, prefix: Prefix, near: &mut usize) -> PrefixRoutes<'a, T>
         ensures { result ≡ routes_of prefix (T.entries table.now) }
     {

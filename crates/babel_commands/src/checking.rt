@@ -1,4 +1,5 @@
-//! The command `check`: whether a speaker can be made of a configuration, or restored from a snapshot.
+//! The command `check`: whether a speaker can be made of a configuration, or restored from a
+//! snapshot.
 
 mod checking;
 

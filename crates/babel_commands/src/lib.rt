@@ -4,9 +4,12 @@
 //! readers, and arguments are text.
 //!
 //! - `showing`: the command `show`: what Babel datagrams mean (RFC 8966), as lines of text.
-//! - `faults`: why a command refuses, and the line that says so. All commands have these faults in common.
-//! - `checking`: the command `check`: whether a speaker can be made of a configuration, or restored from a snapshot.
-//! - `reporting`: the commands `replay` and `explain`: what a speaker makes of a log, and why routes are used or not.
+//! - `faults`: why a command refuses, and the line that says so. All commands have these faults in
+//!   common.
+//! - `checking`: the command `check`: whether a speaker can be made of a configuration, or restored
+//!   from a snapshot.
+//! - `reporting`: the commands `replay` and `explain`: what a speaker makes of a log, and why
+//!   routes are used or not.
 //! - `hops`: the command `net`: the next hops of a network after each event of a scenario.
 #![tactic(auto)]
 

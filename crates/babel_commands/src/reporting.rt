@@ -1,4 +1,5 @@
-//! The commands `replay` and `explain`: what a speaker makes of a log, and why routes are used or not.
+//! The commands `replay` and `explain`: what a speaker makes of a log, and why routes are used or
+//! not.
 
 mod absence;
 mod explaining;

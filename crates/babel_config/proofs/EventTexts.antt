@@ -1,14 +1,16 @@
 -- A text with an event's word spells no event, if what follows the word cannot be read.
-use Rattle.std.proofs.Common.{◌≡◌, ℕ, List, false, codes, refl, sym, ◌∙◌}
+use Rattle.std.proofs.Common.{◌≡◌, ℕ, List, Option, Some, None, false, codes, refl, sym, ◌∙◌}
 use Rattle.std.proofs.lemmas.Bool.{both_ways}
 use Rattle.std.proofs.lemmas.Slice.Eq.{bytes_eq-Decides}
 use Rattle.std.specs.Str.{bytes_eq}
 use Rattle.babel_machine.specs.declared.events.Event.{Event}
 use Rattle.babel_machine.specs.declared.events.Event.TheVariants as events
 use Rattle.babel_value.specs.Prefixes.{PrefixValue}
+use Rattle.babel_text.specs.Readings.{Reads}
 use Rattle.babel_text.specs.Numbers.{IsNumberText}
 use Rattle.babel_text.specs.Prefixes.{IsPrefixText}
-use Rattle.babel_config.specs.Events.{HasBlank, IsPair, IsLong, before_blank, after_blank, word_of, HasFields, IsEventText}
+use Rattle.babel_config.specs.Events.{IsAfterWord, IsPair, IsLong, IsEventText}
+use Rattle.babel_text.specs.Fields.{HasBlank, before_blank, after_blank}
 
 module _ {A B : Type 0} (IsWord : List ℕ → A → Type 0) (IsRest : List ℕ → B → Type 0) (text word rest : List ℕ) where
   pub pair : (a : A) (b : B) → HasBlank text → word ≡ before_blank text → rest ≡ after_blank text → IsWord word a → IsRest rest b → IsPair IsWord IsRest text (a, b)
@@ -17,13 +19,14 @@ module _ {A B : Type 0} (IsWord : List ℕ → A → Type 0) (IsRest : List ℕ 
   pub no_pair : rest ≡ after_blank text → ((b : B) → ¬ (IsRest rest b)) → (p : A × B) → ¬ (IsPair IsWord IsRest text p)
   no_pair follows none p h = none p.1 (rw follows h.2)
 
+pub after_word : {A : Type 0} (IsRest : List ℕ → A → Type 0) (text rest : List ℕ) → HasBlank text → rest ≡ after_blank text → (read : Option A) → Reads IsRest rest read → Reads (IsAfterWord IsRest) text read
+after_word IsRest text rest blank follows None none = λ value h. none value (rw follows h.1)
+after_word IsRest text rest blank follows (Some value) some = (blank, rw (sym follows) some)
+
 apart : (a b : List ℕ) → bytes_eq a b ≡ false → a ≡ b → ⊥
 apart a b other same = both_ways (bytes_eq a b) other ((bytes_eq-Decides a b).1 same)
 
 module _ (text word rest : List ℕ) (is : word ≡ before_blank text) (follows : rest ≡ after_blank text) where
-  pub event_text : (event : Event) → HasBlank text → word ≡ word_of event → HasFields rest event → IsEventText text event
-  event_text event blank same h = (blank, sym is ∙ same, rw (sym follows) h)
-
   pub no_tick : word ≡ codes "tick" → ((p : ℕ × ℕ) → ¬ (IsPair IsLong IsLong rest p)) → (event : Event) → ¬ (IsEventText text event)
   no_tick same none (events.Tick node now) h = none (node, now) (rw follows h.2)
   no_tick same none (events.Emit node now) h = apart (codes "tick") (codes "emit") refl (sym same ∙ is ∙ h.1)

@@ -1,7 +1,7 @@
 -- What the words of `hear` have to do with its fields.
 use Rattle.std.proofs.Common.{ℕ, List, refl, sym}
 use Rattle.babel_config.specs.declared.heard.HeardDatagram.{HeardDatagram}
-use Rattle.babel_config.specs.Events.{before_blank, after_blank}
+use Rattle.babel_text.specs.Fields.{before_blank, after_blank}
 use Rattle.babel_config.specs.Heard.{HasHeardFields, HasWords, HaveSender}
 
 -- A text with the fields has five words.

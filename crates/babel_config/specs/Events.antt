@@ -1,25 +1,19 @@
 -- The texts of events (profile), with one blank between two words:
 -- `tick N T`, `emit N T`, `deliver K N I T`, `cost N I C`, `raise N`, `announce N P`, `withdraw N P`, `restart N T`.
-use Rattle.std.specs.Prelude.{◌≡◌, ◌<◌, ◌==◌, ℕ, List, length, codes}
-use Rattle.std.specs.List.{position_or_len, before_first, after_first}
+use Rattle.std.specs.Prelude.{◌≡◌, ℕ, List, codes}
+use Rattle.babel_text.specs.Fields.{HasBlank, before_blank, after_blank}
 use Rattle.babel_text.specs.Numbers.{IsNumberText}
 use Rattle.babel_text.specs.Prefixes.{IsPrefixText}
 use Rattle.babel_machine.specs.declared.events.Event.{Event}
 use Rattle.babel_machine.specs.declared.events.Event.TheVariants as events
 
--- The text has a blank; what is before the first one; and what is after it.
-abbrev pub HasBlank : List ℕ → Type 0
-HasBlank text = position_or_len (λ octet. octet == 32) text < length text
-
-abbrev pub before_blank : List ℕ → List ℕ
-before_blank text = before_first (λ octet. octet == 32) text
-
-abbrev pub after_blank : List ℕ → List ℕ
-after_blank text = after_first (λ octet. octet == 32) text
-
 -- A word, and what follows it.
 abbrev pub IsPair : {A B : Type 0} → (List ℕ → A → Type 0) → (List ℕ → B → Type 0) → List ℕ → A × B → Type 0
 IsPair IsWord IsRest text pair = HasBlank text × IsWord (before_blank text) pair.0 × IsRest (after_blank text) pair.1
+
+-- What follows a word.
+abbrev pub IsAfterWord : {A : Type 0} → (List ℕ → A → Type 0) → List ℕ → A → Type 0
+IsAfterWord IsRest text value = HasBlank text × IsRest (after_blank text) value
 
 -- Nodes and datagrams by their numbers, and moments in centiseconds.
 abbrev pub IsLong : List ℕ → ℕ → Type 0

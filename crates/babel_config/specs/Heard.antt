@@ -6,7 +6,8 @@ use Rattle.babel_value.specs.Texts.{IsAddrText}
 use Rattle.babel_text.specs.Numbers.{IsNumberText}
 use Rattle.babel_text.specs.Octets.{hex_octets}
 use Rattle.babel_config.specs.declared.heard.HeardDatagram.{HeardDatagram}
-use Rattle.babel_config.specs.Events.{HasBlank, before_blank, after_blank, IsPair, IsLong}
+use Rattle.babel_config.specs.Events.{IsPair, IsLong}
+use Rattle.babel_text.specs.Fields.{HasBlank, before_blank, after_blank}
 
 -- The most octets of a datagram: its length is a number of 16 bits (RFC 768).
 abbrev pub max_datagram_len : ℕ

@@ -4,11 +4,29 @@ ghost use Rattle.std.specs.Prelude.{◌≡◌, IfSome, None};
 ghost use Rattle.babel_text.specs.Readings.{Reads};
 ghost use Rattle.babel_text.specs.Numbers.{IsNumberText};
 ghost use Rattle.babel_text.specs.Prefixes.{IsPrefixText};
-ghost use Rattle.babel_config.specs.Events.{HasBlank, before_blank, after_blank, IsPair, IsLong, IsEventText};
+ghost use Rattle.babel_config.specs.Events.{IsAfterWord, IsPair, IsLong, IsEventText};
+ghost use Rattle.babel_text.specs.Fields.{HasBlank, before_blank, after_blank};
 
 use babel_machine::Event;
-use babel_text::{parse_prefix, parse_u8, parse_u16, parse_u64};
+use babel_text::{parse_prefix, parse_u64, split_field, u8_of, u16_of, u64_of};
 use babel_value::Prefix;
+
+// The words of events.
+const TICK: &[u8] = b"tick";
+
+const EMIT: &[u8] = b"emit";
+
+const DELIVER: &[u8] = b"deliver";
+
+const COST: &[u8] = b"cost";
+
+const RAISE: &[u8] = b"raise";
+
+const ANNOUNCE: &[u8] = b"announce";
+
+const WITHDRAW: &[u8] = b"withdraw";
+
+const RESTART: &[u8] = b"restart";
 
 /// The number of a node or of a datagram.
 pub(crate) fn parse_usize(text: &str) -> Option<usize>
@@ -28,12 +46,20 @@ pub(crate) fn split_word(text: &str) -> Option<(&str, &str)>
     text.split_once(' ')
 }
 
+/// The number of a node or of a datagram that these octets of text spell.
+fn usize_of(text: &[u8]) -> Option<usize>
+    ensures { Reads (IsNumberText 64) text.now result }
+{
+    let number = u64_of(text)?;
+    usize::try_from(number).ok()
+}
+
 /// `N T`: a node and a moment.
-fn parse_node_and_moment(text: &str) -> Option<(usize, u64)>
+fn parse_node_and_moment(text: &[u8]) -> Option<(usize, u64)>
     ensures { Reads (IsPair IsLong IsLong) text.now result }
 {
-    let (node, now) = text.split_once(' ')?;
-    Some((parse_usize(node)?, parse_u64(now)?))
+    let (node, now) = split_field(text)?;
+    Some((usize_of(node)?, u64_of(now)?))
 }
 
 /// `N P`: a node and a prefix.
@@ -45,84 +71,91 @@ fn parse_node_and_prefix(text: &str) -> Option<(usize, Prefix)>
 }
 
 /// `I T`: an interface and a moment.
-fn parse_iface_and_moment(text: &str) -> Option<(u8, u64)>
+fn parse_iface_and_moment(text: &[u8]) -> Option<(u8, u64)>
     ensures { Reads (IsPair (IsNumberText 8) IsLong) text.now result }
 {
-    let (iface, now) = text.split_once(' ')?;
-    Some((parse_u8(iface)?, parse_u64(now)?))
+    let (iface, now) = split_field(text)?;
+    Some((u8_of(iface)?, u64_of(now)?))
 }
 
 /// `I C`: an interface and a cost.
-fn parse_iface_and_cost(text: &str) -> Option<(u8, u16)>
+fn parse_iface_and_cost(text: &[u8]) -> Option<(u8, u16)>
     ensures { Reads (IsPair (IsNumberText 8) (IsNumberText 16)) text.now result }
 {
-    let (iface, cost) = text.split_once(' ')?;
-    Some((parse_u8(iface)?, parse_u16(cost)?))
+    let (iface, cost) = split_field(text)?;
+    Some((u8_of(iface)?, u16_of(cost)?))
 }
 
 /// `K N I T`: a datagram, a node, an interface and a moment.
-fn parse_delivery(text: &str) -> Option<(usize, (usize, (u8, u64)))>
+fn parse_delivery(text: &[u8]) -> Option<(usize, (usize, (u8, u64)))>
     ensures { Reads (IsPair IsLong (IsPair IsLong (IsPair (IsNumberText 8) IsLong))) text.now result }
 {
-    let (datagram, rest) = text.split_once(' ')?;
-    let (node, rest) = rest.split_once(' ')?;
+    let (datagram, rest) = split_field(text)?;
+    let (node, rest) = split_field(rest)?;
     Some((
-        parse_usize(datagram)?,
-        (parse_usize(node)?, parse_iface_and_moment(rest)?),
+        usize_of(datagram)?,
+        (usize_of(node)?, parse_iface_and_moment(rest)?),
     ))
 }
 
 /// `N I C`: a node, an interface and a cost.
-fn parse_cost(text: &str) -> Option<(usize, (u8, u16))>
+fn parse_cost(text: &[u8]) -> Option<(usize, (u8, u16))>
     ensures { Reads (IsPair IsLong (IsPair (IsNumberText 8) (IsNumberText 16))) text.now result }
 {
-    let (node, rest) = text.split_once(' ')?;
-    Some((parse_usize(node)?, parse_iface_and_cost(rest)?))
+    let (node, rest) = split_field(text)?;
+    Some((usize_of(node)?, parse_iface_and_cost(rest)?))
 }
 
-/// The event that the text spells.
+/// The node and the prefix after the event's word. Prefixes are read from text.
+fn parse_announcement(text: &str) -> Option<(usize, Prefix)>
+    ensures { Reads (IsAfterWord (IsPair IsLong IsPrefixText)) text.now result }
+{
+    let (_word, fields) = split_word(text)?;
+    parse_node_and_prefix(fields)
+}
+
+/// The event that the text spells. All but prefixes are read from octets: words are so short that a
+/// search for each blank takes longer than a look at each octet.
 pub(crate) fn parse_event(text: &str) -> Option<Event>
     ensures { Reads IsEventText text.now result }
 {
-    let (word, fields) = split_word(text)?;
-    match word {
-        "tick" => {
-            let (node, now) = parse_node_and_moment(fields)?;
-            Some(Event::Tick { node, now })
-        }
-        "emit" => {
-            let (node, now) = parse_node_and_moment(fields)?;
-            Some(Event::Emit { node, now })
-        }
-        "deliver" => {
-            let (datagram, (node, (iface, now))) = parse_delivery(fields)?;
-            Some(Event::Deliver {
-                datagram,
-                node,
-                iface,
-                now,
-            })
-        }
-        "cost" => {
-            let (node, (iface, cost)) = parse_cost(fields)?;
-            Some(Event::SetCost { node, iface, cost })
-        }
-        "raise" => {
-            let node = parse_usize(fields)?;
-            Some(Event::Raise { node })
-        }
-        "announce" => {
-            let (node, prefix) = parse_node_and_prefix(fields)?;
-            Some(Event::Announce { node, prefix })
-        }
-        "withdraw" => {
-            let (node, prefix) = parse_node_and_prefix(fields)?;
-            Some(Event::Withdraw { node, prefix })
-        }
-        "restart" => {
-            let (node, now) = parse_node_and_moment(fields)?;
-            Some(Event::Restart { node, now })
-        }
-        _ => None,
+    let (word, fields) = split_field(text.as_bytes())?;
+    if word == TICK {
+        let (node, now) = parse_node_and_moment(fields)?;
+        return Some(Event::Tick { node, now });
     }
+    if word == EMIT {
+        let (node, now) = parse_node_and_moment(fields)?;
+        return Some(Event::Emit { node, now });
+    }
+    if word == DELIVER {
+        let (datagram, (node, (iface, now))) = parse_delivery(fields)?;
+        return Some(Event::Deliver {
+            datagram,
+            node,
+            iface,
+            now,
+        });
+    }
+    if word == COST {
+        let (node, (iface, cost)) = parse_cost(fields)?;
+        return Some(Event::SetCost { node, iface, cost });
+    }
+    if word == RAISE {
+        let node = usize_of(fields)?;
+        return Some(Event::Raise { node });
+    }
+    if word == ANNOUNCE {
+        let (node, prefix) = parse_announcement(text)?;
+        return Some(Event::Announce { node, prefix });
+    }
+    if word == WITHDRAW {
+        let (node, prefix) = parse_announcement(text)?;
+        return Some(Event::Withdraw { node, prefix });
+    }
+    if word == RESTART {
+        let (node, now) = parse_node_and_moment(fields)?;
+        return Some(Event::Restart { node, now });
+    }
+    None
 }

@@ -1,12 +1,13 @@
-//! The events of a scenario: those of the network's own nodes, and datagrams that they hear from others.
+//! The events of a scenario: those of the network's own nodes, and datagrams that they hear from
+//! others.
 
-ghost use Rattle.std.specs.Prelude.{◌≡◌, [], codes, IfOk, IfErr, IfSome, IsNone};
+ghost use Rattle.std.specs.Prelude.{◌≡◌, [], codes, IfOk, IfErr, IfSome, IsNone, IsTrue, IsFalse};
 ghost use Rattle.toml.specs.Data.{get};
 ghost use Rattle.toml.specs.View.{view};
 ghost use Rattle.babel_text.specs.Readings.{Reads};
 ghost use Rattle.babel_toml.specs.Values.{IsText, IsGivenOr, IsList};
 ghost use Rattle.babel_toml.specs.Faults.{IsCaused, HasGivenFault, HasListFault};
-ghost use Rattle.babel_config.specs.Events.{after_blank};
+ghost use Rattle.babel_text.specs.Fields.{after_blank};
 ghost use Rattle.babel_config.specs.Heard.{IsHearing};
 ghost use Rattle.babel_config.specs.ScenarioEvents.{IsScenarioEventText};
 ghost use Rattle.babel_config.specs.Scenarios.{HasEventFault};
@@ -14,9 +15,13 @@ ghost use Rattle.babel_config.specs.Scenarios.{HasEventFault};
 use crate::events::{parse_event, split_word};
 use crate::heard::{HeardDatagram, parse_heard};
 use babel_machine::Event;
+use babel_text::split_field;
 use babel_toml::FileFault;
 use std::alloc::{AllocError, Global};
 use toml::Value;
+
+/// The word of a datagram that a node hears.
+const HEAR: &[u8] = b"hear";
 
 /// One event of a scenario.
 #[derive(Debug, Drop)]
@@ -27,13 +32,27 @@ pub enum ScenarioEvent {
     Heard(HeardDatagram),
 }
 
+/// Whether the text begins with the word `hear`.
+fn is_hearing(text: &str) -> bool
+    ensures some { IsTrue result → IsHearing text.now }
+    ensures none { IsFalse result → ¬ (IsHearing text.now) }
+{
+    match split_field(text.as_bytes()) {
+        Some((word, _)) => word == HEAR,
+        None => false,
+    }
+}
+
 /// The fields after the word `hear`, if the text begins with it.
 fn hear_fields(text: &str) -> Option<&str>
     ensures some { IfSome result (λ fields. IsHearing text.now × (fields.now ≡ after_blank text.now)) }
     ensures none { IsNone result → ¬ (IsHearing text.now) }
 {
-    let (word, fields) = split_word(text)?;
-    if word == "hear" { Some(fields) } else { None }
+    if !is_hearing(text) {
+        return None;
+    }
+    let (_word, fields) = split_word(text)?;
+    Some(fields)
 }
 
 /// The event that the text spells.

@@ -79,7 +79,8 @@ impl Changes {
     ///
     /// # Errors
     ///
-    /// An allocation failed. What was written last isn't known then, so no client may go on with it.
+    /// An allocation failed. What was written last isn't known then, so no client may go on with
+    /// it.
     pub fn write_changes<T: Tables>(
         &mut self,
         view: &View<'_, T>,

@@ -167,7 +167,8 @@ impl Client {
         }
     }
 
-    /// Adds a text that was written, unless memory or room is missing. Then the connection is closed.
+    /// Adds a text that was written, unless memory or room is missing. Then the connection is
+    /// closed.
     fn push(&mut self, written: Result<(), AllocError>, text: &str)
         ensures failed { OnErr written (self.new.stage ≡ Stage.Broken) }
         ensures access { self.new.access ≡ self.old.access }

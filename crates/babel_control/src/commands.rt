@@ -44,8 +44,8 @@ pub enum Command {
     Stop,
 }
 
-/// Reads a line. Blanks around its words don't count, and what comes after a `#` at its beginning is a comment. `None`: there
-/// is no such command.
+/// Reads a line. Blanks around its words don't count, and what comes after a `#` at its beginning
+/// is a comment. `None`: there is no such command.
 pub fn parse_command(line: &str) -> Option<Command>
     ensures { IsReading (words_of line.now) result }
 {

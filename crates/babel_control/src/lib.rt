@@ -1,18 +1,22 @@
 //! The control socket of a running speaker: its protocol, and the socket with its clients.
 //!
-//! The protocol is that of babeld's local socket, with commands of our own. A client is greeted, sends commands, a line
-//! each, and gets lines that end with `ok`, `no` or `bad`. A client that monitors is also sent each change.
+//! The protocol is that of babeld's local socket, with commands of our own. A client is greeted,
+//! sends commands, a line each, and gets lines that end with `ok`, `no` or `bad`. A client that
+//! monitors is also sent each change.
 //!
 //! The protocol is sans-IO, octets of a client in and octets for it out:
 //!
 //! - `commands`: what a line asks for.
-//! - `input`: the line that a client has sent so far. `output`: what waits for it. Both are bounded.
+//! - `input`: the line that a client has sent so far. `output`: what waits for it. Both are
+//!   bounded.
 //! - `views`: what the socket shows of a speaker and its devices.
-//! - `texts`: addresses, prefixes and router-ids, as babeld writes them. `lines`: the lines of the protocol.
+//! - `texts`: addresses, prefixes and router-ids, as babeld writes them. `lines`: the lines of the
+//!   protocol.
 //! - `rows`: the speaker's tables as these lines show them, and `changes`: what changed of them.
 //! - `replies`: the reply to a command. `clients`: a client. `places`: where a control socket is.
 //!
-//! `socket` alone has input and output: it makes the socket, and reads from its clients and writes to them.
+//! `socket` alone has input and output: it makes the socket, and reads from its clients and writes
+//! to them.
 #![tactic(auto)]
 
 mod changes;

@@ -21,7 +21,8 @@ pub enum OutputFull {
     Memory,
 }
 
-/// The octets that wait for a client, at most `MAX_OUTPUT`. A clause sees them as a list, the first to be sent first.
+/// The octets that wait for a client, at most `MAX_OUTPUT`. A clause sees them as a list, the first
+/// to be sent first.
 #[derive(Drop)]
 pub struct Output {
     octets: Vec<u8>,
@@ -52,8 +53,8 @@ impl Output {
     ///
     /// # Errors
     ///
-    /// `Room` if and only if more than `MAX_OUTPUT` octets would wait. `Memory` if there is room, and an allocation fails. Nothing
-    /// changes then.
+    /// `Room` if and only if more than `MAX_OUTPUT` octets would wait. `Memory` if there is room,
+    /// and an allocation fails. Nothing changes then.
     pub fn push(&mut self, text: &[u8]) -> Result<(), OutputFull>
         ensures ok { OnOk result (self.new ≡ self.old ++ text.now) }
         ensures err { OnErr result (self.new ≡ self.old) }

@@ -14,8 +14,8 @@ pub enum ControlPlace<'p> {
     Port(u16),
 }
 
-/// The place that a text names: a port if it is a number from 1 to 65535, or else a path. `None`: it is empty, or all of its
-/// characters are digits and it is no such number.
+/// The place that a text names: a port if it is a number from 1 to 65535, or else a path. `None`:
+/// it is empty, or all of its characters are digits and it is no such number.
 pub fn parse_place(text: &str) -> Option<ControlPlace<'_>>
     ensures { IfSome result (IsPlaceOf text.now) }
 {

@@ -21,17 +21,19 @@ pub trait Tables {
     /// When each neighbour and route is given up if nothing more is heard.
     fn expiries(&self, alloc: Global) -> Result<Expiries, AllocError>;
 
-    /// Adds a line for each route of the prefix: what was advertised, and whether it is used or why not.
+    /// Adds a line for each route of the prefix: what was advertised, and whether it is used or why
+    /// not.
     fn push_why(&self, prefix: &Prefix, out: &mut String) -> Result<(), AllocError>;
 }
 
 /// When neighbours and routes are given up if nothing more is heard.
 #[derive(Drop)]
 pub struct Expiries {
-    /// The neighbours, in ascending order, each with the moment at which its next Hello is missed. `None`: its Hellos have no
-    /// interval.
+    /// The neighbours, in ascending order, each with the moment at which its next Hello is missed.
+    /// `None`: its Hellos have no interval.
     pub neighbours: Vec<(Peer, Option<u64>)>,
-    /// The routes, ascending by prefix, then neighbour, each with the moment at which it is too old.
+    /// The routes, ascending by prefix, then neighbour, each with the moment at which it is too
+    /// old.
     pub routes: Vec<(Prefix, Peer, u64)>,
 }
 

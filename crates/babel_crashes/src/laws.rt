@@ -1,5 +1,5 @@
-//! Why crashes make no loop, as laws over networks. Each law is the contract of a function that does
-//! nothing.
+//! Why crashes make no loop, as laws over networks. Each law is the contract of a function that
+//! does nothing.
 
 ghost use Rattle.babel_crashes.specs.CrashLaws.{TurnsAreEvents, CrashesAreRestartEvents, LivesAreRestartEvents};
 ghost use Rattle.babel_crashes.specs.IntakeLaws.{StepsAreEvents, CrashesWithIntakesAreRestartEvents};
@@ -16,9 +16,9 @@ pub fn turns_are_events()
     settings_stay();
 }
 
-/// A node that is killed anywhere in its turns, and started from what is on disk, makes the event Restart
-/// after some whole turns. Every datagram that was sent is recorded by then; the others are lost. So the
-/// network has no loop.
+/// A node that is killed anywhere in its turns, and started from what is on disk, makes the event
+/// Restart after some whole turns. Every datagram that was sent is recorded by then; the others are
+/// lost. So the network has no loop.
 pub fn crashes_are_restart_events()
     ensures once { CrashesAreRestartEvents }
     ensures again { LivesAreRestartEvents }

@@ -1,4 +1,5 @@
-//! Callers of the layers' calls: the clauses of these calls are enough for what a caller wants to know.
+//! Callers of the layers' calls: the clauses of these calls are enough for what a caller wants to
+//! know.
 
 ghost use Rattle.std.specs.Prelude.{◌≡◌, true, map, Some, None, IfSome, IfOk, MatchResult};
 ghost use Rattle.std.specs.List.{list_all};

@@ -1,5 +1,6 @@
-//! Examples worked by hand, on which the check computes the definitions: each is the contract of a function that does nothing.
-//! Then callers of the layers' calls, whose clauses follow from the clauses of these calls.
+//! Examples worked by hand, on which the check computes the definitions: each is the contract of a
+//! function that does nothing. Then callers of the layers' calls, whose clauses follow from the
+//! clauses of these calls.
 //!
 //! - `links`, `tables`, `sources` and `routes` have examples of the layers below the speaker.
 //! - `states` has examples of a speaker's states, and of the steps between them.

@@ -1,5 +1,5 @@
-//! Examples worked by hand, each the contract of a function that does nothing: the definitions give these
-//! values.
+//! Examples worked by hand, each the contract of a function that does nothing: the definitions give
+//! these values.
 
 ghost use Rattle.std.specs.Prelude.{◌≡◌, true, false, [], ◌∷◌, IsTrue};
 ghost use Rattle.babel_link.specs.declared.marks.Heard.TheVariants.{Kept, Flush};
@@ -7,8 +7,8 @@ ghost use Rattle.babel_link.specs.Histories.{heard_marks, heard_verdict, is_up};
 ghost use Rattle.babel_link.specs.Neighbours.{tick_of, cost_of};
 ghost use Rattle.babel_examples.specs.LinkExamples.{three_hellos, five_marks, marks_with, one_of_sixteen, neighbour, after_hello, only_multicast, after_ihu};
 
-/// The numbers of the Hellos 65534, 0 and 2 go round the circle. Then one that is 16 past the expected
-/// one is kept, and one that is 17 past it flushes.
+/// The numbers of the Hellos 65534, 0 and 2 go round the circle. Then one that is 16 past the
+/// expected one is kept, and one that is 17 past it flushes.
 #[tactic(auto, unfolding(babel_link::specs::Histories::heard_marks, babel_link::specs::Histories::heard_verdict, babel_link::specs::Histories::is_up))]
 pub fn worked_marks()
     ensures three { three_hellos ≡ marks_with five_marks 3 }

@@ -1,5 +1,5 @@
-//! Examples of routes, on which the check computes the definitions. Each is the contract of a function
-//! that does nothing.
+//! Examples of routes, on which the check computes the definitions. Each is the contract of a
+//! function that does nothing.
 
 ghost use Rattle.std.specs.Prelude.{◌≡◌, true, false, Some, None, [], ◌∷◌};
 ghost use Rattle.std.specs.FinMap.{find};

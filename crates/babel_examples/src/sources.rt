@@ -1,5 +1,5 @@
-//! Examples of the source table, on which the check computes the definitions. Each is the contract of a
-//! function that does nothing.
+//! Examples of the source table, on which the check computes the definitions. Each is the contract
+//! of a function that does nothing.
 
 ghost use Rattle.std.specs.Prelude.{◌≡◌, true, false, Some, None, [], ◌∷◌, length};
 ghost use Rattle.babel_sources.specs.Distances.{is_feasible};

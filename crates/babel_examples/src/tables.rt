@@ -1,5 +1,5 @@
-//! Examples on which the check computes the definitions. Each is the contract of a function that does
-//! nothing.
+//! Examples on which the check computes the definitions. Each is the contract of a function that
+//! does nothing.
 
 ghost use Rattle.std.specs.Prelude.{◌≡◌};
 ghost use Rattle.babel_table.specs.Digits.{binary_digits};

@@ -9,7 +9,8 @@ use babel_router_file::{Cause, DEVICE, DEVICE_KEYS, FILE_KEYS, Kind, Problem, fi
 use std::alloc::Global;
 use std::io::{self, Write};
 
-/// Writes why the file is refused: F1 to F3, and F4. If the cause isn't found, the sentence is that of the code.
+/// Writes why the file is refused: F1 to F3, and F4. If the cause isn't found, the sentence is that
+/// of the code.
 pub fn explain_router_file<W: Write>(
     alloc: Global,
     file: FileText<'_>,

@@ -1,4 +1,5 @@
-//! The sentence about a file of a topology that is refused: line and column, key, value, what is allowed and what to do.
+//! The sentence about a file of a topology that is refused: line and column, key, value, what is
+//! allowed and what to do.
 //!
 //! `places` finds where in the file a fault is, and `sentences` has what is written.
 

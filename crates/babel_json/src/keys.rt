@@ -1,7 +1,7 @@
 //! The key of a file that a sentence is about.
 
-/// The key that the sentence names, if it is about one: `unknown key 'helo' in ..`, `interface 0 has no key 'cost'; ..`,
-/// `'cost' must be ..` and `cost = 0 is not in ..`.
+/// The key that the sentence names, if it is about one: `unknown key 'helo' in ..`,
+/// `interface 0 has no key 'cost'; ..`, `'cost' must be ..` and `cost = 0 is not in ..`.
 pub(crate) fn key_in(sentence: &str) -> Option<&str> {
     if let Some(rest) = sentence.strip_prefix("unknown key '") {
         return quoted(rest);

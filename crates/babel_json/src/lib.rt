@@ -7,8 +7,8 @@
 //! - `writers`: [`FormWriter`], through which the standard output goes.
 //! - `reports`: the lines of each [`Report`], and the object that each becomes; `shapes` has their
 //!   fields, and `words` splits them.
-//! - `faults`: [`FaultWriter`], through which the standard error goes; `places` finds file, line and
-//!   column in a sentence, and `keys` the key that it is about.
+//! - `faults`: [`FaultWriter`], through which the standard error goes; `places` finds file, line
+//!   and column in a sentence, and `keys` the key that it is about.
 //! - `selecting`: [`LineFilter`], which lines of a report are written.
 //! - `shortening`: IPv6 addresses as RFC 5952 writes them.
 //! - `objects`: an object with its members in order, written by `serde_json`.

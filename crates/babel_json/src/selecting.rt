@@ -3,7 +3,8 @@
 use babel_value::{Line, Prefix};
 use std::io::{self, Write};
 
-/// The words by which lines can be selected: what a line is about, the names of messages, and codes.
+/// The words by which lines can be selected: what a line is about, the names of messages, and
+/// codes.
 pub const WORDS: [&str; 49] = [
     "select",
     "out",

@@ -22,8 +22,8 @@ pub(crate) fn push_short(line: &str, out: &mut Vec<u8>) -> io::Result<()> {
     Ok(())
 }
 
-/// Whether there is a colon in the text. Only an IPv6 address has colons: most lines have none, and of
-/// the others most words.
+/// Whether there is a colon in the text. Only an IPv6 address has colons: most lines have none, and
+/// of the others most words.
 fn has_colon(text: &str) -> bool {
     memchr(b':', text.as_bytes()).is_some()
 }

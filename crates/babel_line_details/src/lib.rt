@@ -1,8 +1,8 @@
 //! Sentences about lines, for people: a code is for scripts.
 //!
 //! - About a line of input that can't be read: which field, its text, and what is allowed. `logs`
-//!   finds the field of a log's line, `shown` that of a line or an argument of `show`, and `problems`
-//!   has the sentences.
+//!   finds the field of a log's line, `shown` that of a line or an argument of `show`, and
+//!   `problems` has the sentences.
 //! - About a line of a report: what its code means. `report_codes` has the sentences, and
 //!   `seen_codes` the codes that were explained.
 #![tactic(auto)]

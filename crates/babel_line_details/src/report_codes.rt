@@ -74,8 +74,8 @@ pub enum ReportCode {
     I13,
 }
 
-/// The codes with their names and sentences, in the order of the codes. A sentence has what the code
-/// means and, if something can be done, what to do.
+/// The codes with their names and sentences, in the order of the codes. A sentence has what the
+/// code means and, if something can be done, what to do.
 static CODES: [(ReportCode, &str, &str); 33] = [
     (ReportCode::S1, "S1", NO_INTERFACE),
     (

@@ -31,8 +31,8 @@ pub fn neighbours_by_their_peers()
         → find peer_cmp peer (tick_of now links) ≡ option_and_then (ticked_link now) (find peer_cmp peer links) }
 {}
 
-/// What a tick makes of one neighbour. It goes if and only if a deadline of Hellos is due and then no Hello
-/// is remembered. Its txcost is infinite from the tick at which that is due.
+/// What a tick makes of one neighbour. It goes if and only if a deadline of Hellos is due and then
+/// no Hello is remembered. Its txcost is infinite from the tick at which that is due.
 pub fn neighbours_fall_silent()
     ensures gone { (now : ℕ) (link : Link) → IsNone (ticked_link now link) ↔ FallsSilent now link }
     ensures txcost { (now : ℕ) (link after : Link) → ticked_link now link ≡ Some after

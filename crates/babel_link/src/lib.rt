@@ -1,9 +1,9 @@
 //! The links of a Babel speaker (RFC 8966): which neighbours it hears, and what their links cost.
 //!
-//! A Hello makes a neighbour. The neighbour has a history of the multicast and one of the unicast Hellos
-//! that came or were missed, and the cost that its last IHU advertised. Moments are centiseconds, given
-//! by the caller in any order. Nothing here knows of datagrams, routes or sockets, and only
-//! `Neighbours::new` takes memory.
+//! A Hello makes a neighbour. The neighbour has a history of the multicast and one of the unicast
+//! Hellos that came or were missed, and the cost that its last IHU advertised. Moments are
+//! centiseconds, given by the caller in any order. Nothing here knows of datagrams, routes or
+//! sockets, and only `Neighbours::new` takes memory.
 #![tactic(auto)]
 
 mod changes;

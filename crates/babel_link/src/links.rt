@@ -120,7 +120,8 @@ fn take_hello(history: &mut Option<History>, now: u64, seqno: Seqno, interval: u
     }
 }
 
-/// The moment from which the next Hello of the history is missed; the greatest one if it is not known.
+/// The moment from which the next Hello of the history is missed; the greatest one if it is not
+/// known.
 fn hello_due(history: Option<History>) -> u64
     ensures { (now : ℕ) → now < result → option_and_then (fired_history now) history ≡ None }
 {
@@ -297,7 +298,8 @@ impl Link {
         }
     }
 
-    /// The link after the deadlines that are due were handled; `None` if that flushes the neighbour.
+    /// The link after the deadlines that are due were handled; `None` if that flushes the
+    /// neighbour.
     #[tactic(auto, unfolding(crate::specs::Links::ticked_link))]
     fn handled(self, now: u64) -> Option<Link>
         ensures { result ≡ ticked_link now self }
@@ -374,7 +376,8 @@ impl Link {
         self.cost(Metric(0))
     }
 
-    /// What changed of the link's cost since it was this, over an interface of a finite nominal cost.
+    /// What changed of the link's cost since it was this, over an interface of a finite nominal
+    /// cost.
     fn cost_since(&self, before: Metric) -> LinkCost
         ensures { (result ≡ costs.Kept) ↔ (link_cost 0 self.now ≡ before) }
     {

@@ -47,9 +47,9 @@ impl Marks {
         }
     }
 
-    /// Handles a later Hello. If it is ahead of the expected one, those between were missed. If it is late,
-    /// as many of the newest marks go. One that is more than 16 away begins the history again, and the call
-    /// returns `Flush`.
+    /// Handles a later Hello. If it is ahead of the expected one, those between were missed. If it
+    /// is late, as many of the newest marks go. One that is more than 16 away begins the history
+    /// again, and the call returns `Flush`.
     #[tactic(auto, unfolding(crate::specs::Histories::heard_marks, crate::specs::Histories::heard_verdict))]
     pub fn heard(&mut self, seqno: Seqno) -> Heard
         ensures verdict { result ≡ heard_verdict seqno self.old }
@@ -90,7 +90,8 @@ impl Marks {
         self.word.count()
     }
 
-    /// Which of them came, as a word of bits: the lowest bit is the newest Hello, and a 1 is one that came.
+    /// Which of them came, as a word of bits: the lowest bit is the newest Hello, and a 1 is one
+    /// that came.
     pub fn bits(&self) -> u16
         ensures { result ≡ word_of self.now.marks }
     {

@@ -29,7 +29,8 @@ pub struct Neighbours {
     links: Vec<(Peer, Link)>,
     /// Before this moment no deadline is due.
     due: u64,
-    /// Where the neighbour is that was looked up last. It only matters for speed: a look-up begins there.
+    /// Where the neighbour is that was looked up last. It only matters for speed: a look-up begins
+    /// there.
     near: Cell<usize>,
 }
 
@@ -58,7 +59,8 @@ fn insert_reserved<T: Drop>(items: &mut Vec<T>, place: usize, item: T)
     items.insert(place, item).unwrap()
 }
 
-/// Handles the deadlines of the neighbours, in one pass. Returns a moment before which none is due again.
+/// Handles the deadlines of the neighbours, in one pass. Returns a moment before which none is due
+/// again.
 fn tick_links(
     links: &mut Vec<(Peer, Link)>,
     now: u64,
@@ -136,8 +138,9 @@ impl Neighbours {
         if next < self.links.len() { next } else { 0 }
     }
 
-    /// Where the peer's entry is, or where it would be inserted. It looks first where the last one was found, then at
-    /// the next place: a datagram is of one neighbour, and the routes of a prefix are in the order of theirs.
+    /// Where the peer's entry is, or where it would be inserted. It looks first where the last one
+    /// was found, then at the next place: a datagram is of one neighbour, and the routes of a
+    /// prefix are in the order of theirs.
     fn search_near(&self, peer: &Peer) -> Result<usize, usize>
         ensures found { IfOk result (IsPlaceOf peer.now self.now) }
         ensures absent { IfErr result (IsGapFor peer.now self.now) }
@@ -158,7 +161,8 @@ impl Neighbours {
         found
     }
 
-    /// The same for the sender of a message, mostly that of the last one. So the first look is compiled into the callers.
+    /// The same for the sender of a message, mostly that of the last one. So the first look is
+    /// compiled into the callers.
     #[inline(always)]
     fn search_sender(&self, peer: &Peer) -> Result<usize, usize>
         ensures found { IfOk result (IsPlaceOf peer.now self.now) }
@@ -204,9 +208,10 @@ impl Neighbours {
         insert_reserved(&mut self.links, place, (peer, link));
     }
 
-    /// Handles a Hello with this interval in centiseconds (RFC 8966, section 3.4.1). The first one of a
-    /// peer makes it a neighbour, and is refused if there are 64 others. `Flush` means that the neighbour
-    /// seems to have restarted: it is made again, and its route entries are to be removed.
+    /// Handles a Hello with this interval in centiseconds (RFC 8966, section 3.4.1). The first one
+    /// of a peer makes it a neighbour, and is refused if there are 64 others. `Flush` means that
+    /// the neighbour seems to have restarted: it is made again, and its route entries are to be
+    /// removed.
     pub fn hello(
         &mut self,
         now: u64,
@@ -226,7 +231,8 @@ impl Neighbours {
         }
     }
 
-    /// The same, of a Hello of this kind. Returns what it changed of the cost of the peer's link, too.
+    /// The same, of a Hello of this kind. Returns what it changed of the cost of the peer's link,
+    /// too.
     #[tactic(auto, unfolding(crate::specs::Neighbours::hello_of, crate::specs::Neighbours::hello_verdict))]
     pub fn hear(
         &mut self,
@@ -262,8 +268,9 @@ impl Neighbours {
         }
     }
 
-    /// Handles an IHU, which advertises what receiving from us costs the neighbour (RFC 8966, section 3.4.2).
-    /// The interval is in centiseconds. Returns `false` if the peer is no neighbour.
+    /// Handles an IHU, which advertises what receiving from us costs the neighbour (RFC 8966,
+    /// section 3.4.2). The interval is in centiseconds. Returns `false` if the peer is no
+    /// neighbour.
     pub fn ihu(&mut self, now: u64, peer: Peer, rxcost: Metric, interval: u16) -> bool
         ensures known { result ≡ is_some (find peer_cmp peer self.old) }
         ensures links { self.new ≡ ihu_of now peer rxcost interval self.old }
@@ -273,7 +280,8 @@ impl Neighbours {
         known
     }
 
-    /// The same. Returns what it changed of the cost of the peer's link: nothing if the peer is no neighbour.
+    /// The same. Returns what it changed of the cost of the peer's link: nothing if the peer is no
+    /// neighbour.
     #[tactic(auto, unfolding(crate::specs::Neighbours::ihu_of))]
     pub fn hear_ihu(&mut self, now: u64, peer: Peer, rxcost: Metric, interval: u16) -> LinkCost
         ensures links { self.new ≡ ihu_of now peer rxcost interval self.old }
@@ -289,10 +297,10 @@ impl Neighbours {
         cost
     }
 
-    /// Handles the deadlines that are due (RFC 8966, sections 3.4.1 and 3.4.2): an expected Hello is
-    /// missed, a txcost is too old. A neighbour of which no Hello is remembered any more is flushed:
-    /// `gone` is emptied, and then has the flushed neighbours in ascending order. Returns `false` if no
-    /// deadline is due; then it looks at no neighbour.
+    /// Handles the deadlines that are due (RFC 8966, sections 3.4.1 and 3.4.2): an expected Hello
+    /// is missed, a txcost is too old. A neighbour of which no Hello is remembered any more is
+    /// flushed: `gone` is emptied, and then has the flushed neighbours in ascending order. Returns
+    /// `false` if no deadline is due; then it looks at no neighbour.
     pub fn tick(&mut self, now: u64, gone: &mut ArrayVec<Peer, MAX_NEIGHBOURS>) -> bool
         ensures links { self.new ≡ tick_of now self.old }
         ensures gone { gone.new.items ≡ gone_of now self.old }
@@ -307,7 +315,8 @@ impl Neighbours {
         true
     }
 
-    /// Whether a deadline may be due. If it returns `false`, none is, and `tick` changes nothing. It looks at no neighbour.
+    /// Whether a deadline may be due. If it returns `false`, none is, and `tick` changes nothing.
+    /// It looks at no neighbour.
     #[inline]
     fn may_be_due(&self, now: u64) -> bool
         ensures links { IsFalse result → tick_of now self.now ≡ self.now }
@@ -316,8 +325,9 @@ impl Neighbours {
         self.due <= now
     }
 
-    /// Handles the deadlines that are due, as `tick`, and returns what that changed of the links' costs. `Several`
-    /// only means that this isn't known. Before the first deadline it looks at no neighbour.
+    /// Handles the deadlines that are due, as `tick`, and returns what that changed of the links'
+    /// costs. `Several` only means that this isn't known. Before the first deadline it looks at no
+    /// neighbour.
     #[inline]
     pub fn tick_costs(&mut self, now: u64, gone: &mut ArrayVec<Peer, MAX_NEIGHBOURS>) -> CostChanges
         ensures links { self.new ≡ tick_of now self.old }
@@ -335,7 +345,8 @@ impl Neighbours {
         changes
     }
 
-    /// What a tick at this moment would change of the links' costs. `Several` only means that this isn't known.
+    /// What a tick at this moment would change of the links' costs. `Several` only means that this
+    /// isn't known.
     fn cost_changes(&self, now: u64) -> CostChanges
         ensures costs { result ≡ Nothing → (peer : Peer) (nominal : ℕ) → cost_of peer nominal (tick_of now self.now) ≡ cost_of peer nominal self.now }
         ensures others { (peer : Peer) → result ≡ One peer → KeepsOtherCosts peer self.now (tick_of now self.now) }

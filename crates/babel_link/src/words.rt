@@ -34,7 +34,8 @@ impl Mark {
     }
 }
 
-/// The newest marks, at most as many as there is room for: the lowest bit is the newest mark, and a 1 a Hello that came.
+/// The newest marks, at most as many as there is room for: the lowest bit is the newest mark, and a
+/// 1 a Hello that came.
 #[derive(Clone, Copy, Debug)]
 pub(crate) struct Word {
     pub(crate) bits: u16,
@@ -104,8 +105,8 @@ impl Word {
         }
     }
 
-    /// Adds the mark of a Hello that came. If `ahead` is near, as many were missed before it. Else it is
-    /// `late`, and as many of the newest marks go.
+    /// Adds the mark of a Hello that came. If `ahead` is near, as many were missed before it. Else
+    /// it is `late`, and as many of the newest marks go.
     #[tactic(auto, using(crate::proofs::WordLemmas::newest_newest))]
     pub(crate) fn hear(&mut self, ahead: u16, late: u16)
         ensures { self.new

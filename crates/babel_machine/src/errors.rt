@@ -16,11 +16,12 @@ pub enum MachineFault {
     /// A2: the source's raise count has its greatest value.
     #[error("the raise count has its greatest value")]
     CountAtGreatest,
-    /// A3: the owner names a metric other than 0. Or another node has no pick, or names a metric that isn't
-    /// greater than its pick's, or one above 65534.
+    /// A3: the owner names a metric other than 0. Or another node has no pick, or names a metric
+    /// that isn't greater than its pick's, or one above 65534.
     #[error("the node may not send this pair")]
     MayNotSend,
-    /// A4: the named node never sent the pair, or it isn't better than everything that the picker sent.
+    /// A4: the named node never sent the pair, or it isn't better than everything that the picker
+    /// sent.
     #[error("the node may not pick this pair")]
     MayNotPick,
     /// A5: an allocation failed.

@@ -42,8 +42,8 @@ pub enum Event {
         node: usize,
         prefix: Prefix,
     },
-    /// The node's speaker is saved and restored with the node's configuration, in one step. It goes on with its
-    /// source table and own seqno (RFC 8966, sections 3.2.5 and 3.2.2) alone.
+    /// The node's speaker is saved and restored with the node's configuration, in one step. It goes
+    /// on with its source table and own seqno (RFC 8966, sections 3.2.5 and 3.2.2) alone.
     Restart {
         node: usize,
         now: u64,

@@ -19,7 +19,8 @@ mod pick;
 mod source;
 mod step;
 
-/// Nodes and sources, by their numbers from 0: what each node ever sent for each source, and what it picked.
+/// Nodes and sources, by their numbers from 0: what each node ever sent for each source, and what
+/// it picked.
 #[derive(Drop)]
 pub struct Machine {
     sources: Vec<Source>,
@@ -42,8 +43,8 @@ impl Machine {
     ghost use Rattle.babel_machine.specs.MachineRefusals.{RefusedAt, IsAllowedAt, NewRefused};
     ghost use Rattle.babel_machine.specs.Cycle.{next_hop_at, NoCycle, OwnerHasNoPick};
 
-    /// A machine of `nodes` nodes in which node `owners[i]` owns source `i`. Nothing is sent or picked.
-    /// A1 if an owner is no node, A5 if an allocation fails.
+    /// A machine of `nodes` nodes in which node `owners[i]` owns source `i`. Nothing is sent or
+    /// picked. A1 if an owner is no node, A5 if an allocation fails.
     pub fn new(alloc: Global, nodes: usize, owners: Vec<usize>) -> Result<Self, MachineFault>
         ensures in_range { OnOk result (All (λ owner. owner < nodes) owners.items) }
         ensures first { IfOk result (λ machine. machine ≡ first_states nodes owners.items) }
@@ -66,8 +67,9 @@ impl Machine {
         self.step(source, Step::Raise)
     }
 
-    /// The node sends a pair for the source: the owner its raise count under metric 0, another node its pick's
-    /// count under a greater metric up to 65534. A pair that it has sent before takes no memory. A1, A3, A5.
+    /// The node sends a pair for the source: the owner its raise count under metric 0, another node
+    /// its pick's count under a greater metric up to 65534. A pair that it has sent before takes no
+    /// memory. A1, A3, A5.
     pub fn announce(&mut self, node: usize, source: usize, metric: u16) -> Result<(), MachineFault>
         ensures ok { OnOk result (StepsAt self.old source (Step.Announce node metric) self.new) }
         ensures allowed { OnOk result (IsAllowedAt self.old source (Step.Announce node metric)) }
@@ -77,8 +79,8 @@ impl Machine {
         self.step(source, Step::Announce { node, metric })
     }
 
-    /// The node picks the pair that `from` sent for the source, if it is better than all that the node ever sent
-    /// for it. A1, A4.
+    /// The node picks the pair that `from` sent for the source, if it is better than all that the
+    /// node ever sent for it. A1, A4.
     pub fn pick(
         &mut self,
         node: usize,
@@ -109,7 +111,8 @@ impl Machine {
         self.step(source, Step::Drop { node })
     }
 
-    /// The node that the node's pick for the source is from. None without a pick, or for numbers out of range.
+    /// The node that the node's pick for the source is from. None without a pick, or for numbers
+    /// out of range.
     pub fn next_hop(&self, node: usize, source: usize) -> Option<usize>
         ensures returned { result ≡ next_hop_at self.now node source }
         // after any calls

@@ -1,5 +1,6 @@
-//! Each allocation fails: of the tables, of the machine, of a speaker, and of a network. `tests/refused-memory` lets them fail in
-//! turn; it tests what reads datagrams, files and logs by runs of the program. `neighbour_calls` has calls that take no memory.
+//! Each allocation fails: of the tables, of the machine, of a speaker, and of a network.
+//! `tests/refused-memory` lets them fail in turn; it tests what reads datagrams, files and logs by
+//! runs of the program. `neighbour_calls` has calls that take no memory.
 #![tactic(auto)]
 
 #[cfg(test)]

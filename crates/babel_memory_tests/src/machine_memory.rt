@@ -11,8 +11,8 @@ fn a_machine_too_large_for_memory_is_refused(rt: HostRuntime) {
     assert!(rt; machine.err() == Some(Memory));
 }
 
-/// Whether node 0 announces. If the allocation fails, the fault is A5, and nothing has changed: what would have been sent
-/// can't be picked. The same call is then Ok.
+/// Whether node 0 announces. If the allocation fails, the fault is A5, and nothing has changed:
+/// what would have been sent can't be picked. The same call is then Ok.
 fn announces(machine: &mut Machine, raises: u64) -> bool {
     match machine.announce(0, 0, 0) {
         Ok(()) => true,

@@ -1,5 +1,6 @@
 //! A network among routers of others: a datagram that is heard out of memory changes nothing, and
-//! neither does an event of ours. If a network is not made, there is nothing to test: `is_made` makes it again.
+//! neither does an event of ours. If a network is not made, there is nothing to test: `is_made`
+//! makes it again.
 
 use crate::network_memory::{configs, is_memory};
 use crate::routers::prefix;
@@ -20,8 +21,8 @@ const HELLO: Heard<'static> = Heard {
     now: 0,
 };
 
-/// Node 1 hears Hello 1, an IHU to 192.168.0.2, the router-id 9, and an Update of 10.0.0.0/8 with seqno 7
-/// and metric 5.
+/// Node 1 hears Hello 1, an IHU to 192.168.0.2, the router-id 9, and an Update of 10.0.0.0/8 with
+/// seqno 7 and metric 5.
 const UPDATE: Heard<'static> = Heard {
     node: 1,
     iface: 0,
@@ -35,7 +36,8 @@ const UPDATE: Heard<'static> = Heard {
 
 const COUNT: usize = 5;
 
-/// Node 1 hears the route, and sends a datagram before and after it: the Tick queues a Hello, and the route an Update.
+/// Node 1 hears the route, and sends a datagram before and after it: the Tick queues a Hello, and
+/// the route an Update.
 const EVENTS: [MixedEvent<'static>; COUNT] = [
     MixedEvent::Heard(HELLO),
     MixedEvent::Ours(Event::Tick { node: 1, now: 0 }),
@@ -44,8 +46,8 @@ const EVENTS: [MixedEvent<'static>; COUNT] = [
     MixedEvent::Ours(Event::Emit { node: 1, now: 400 }),
 ];
 
-/// Whether node 1 has a selected route, how many updates were heard, and whether a first, a second and a third datagram were
-/// sent.
+/// Whether node 1 has a selected route, how many updates were heard, and whether a first, a second
+/// and a third datagram were sent.
 type Seen = (bool, usize, [bool; 3]);
 
 /// What is seen before each of the events, and at the end.
@@ -75,7 +77,8 @@ fn network(alloc: Global) -> Result<MixedNetwork, NetFault> {
     }
 }
 
-/// Hears the datagram. If an allocation fails, the fault is N6, nothing has changed, and it is heard again.
+/// Hears the datagram. If an allocation fails, the fault is N6, nothing has changed, and it is
+/// heard again.
 fn is_heard(net: &mut MixedNetwork, heard: &Heard<'_>) -> bool {
     let before = seen(net);
     match net.hear(heard) {
@@ -84,8 +87,9 @@ fn is_heard(net: &mut MixedNetwork, heard: &Heard<'_>) -> bool {
     }
 }
 
-/// Whether node 1 restarts: the selected route is gone, and what was heard is still there. If an allocation fails, the fault is
-/// N6, nothing has changed, and it restarts when that is asked again.
+/// Whether node 1 restarts: the selected route is gone, and what was heard is still there. If an
+/// allocation fails, the fault is N6, nothing has changed, and it restarts when that is asked
+/// again.
 fn restarts(net: &mut MixedNetwork) -> bool {
     let restart = Event::Restart { node: 1, now: 500 };
     let before = seen(net);
@@ -114,7 +118,8 @@ fn selects(net: &mut MixedNetwork) -> bool {
         && is_foreign(net)
 }
 
-/// Whether the network is made. If an allocation fails, the fault is that of a network of ours, and the network is made again.
+/// Whether the network is made. If an allocation fails, the fault is that of a network of ours, and
+/// the network is made again.
 fn is_made(alloc: Global) -> bool {
     match network(alloc).err() {
         None => true,
@@ -145,8 +150,8 @@ fn count_made(ran: Result<(), (usize, MixedFault)>) -> usize {
     }
 }
 
-/// Runs the events. If an allocation fails, the fault is N6 at an event, what is seen is what it is before that event, and the
-/// rest is run again.
+/// Runs the events. If an allocation fails, the fault is N6 at an event, what is seen is what it is
+/// before that event, and the rest is run again.
 fn are_run(net: &mut MixedNetwork) -> bool {
     let events = EVENTS;
     let count = count_made(net.run(&events));

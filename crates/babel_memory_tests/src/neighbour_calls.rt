@@ -1,5 +1,5 @@
-//! The calls of the neighbours take no memory but that of the table: `tests/refused-memory` counts the
-//! allocations, so this module's name is without that word. What the calls return is tested in
+//! The calls of the neighbours take no memory but that of the table: `tests/refused-memory` counts
+//! the allocations, so this module's name is without that word. What the calls return is tested in
 //! `tests/unproved/layers`, in `link_tests`.
 
 use arrayvec::ArrayVec;
@@ -15,8 +15,8 @@ fn peer(last: u8) -> Peer {
     }
 }
 
-/// Hellos of both kinds, of which one is late and two flush the neighbour, and an IHU: whether there is
-/// room for it.
+/// Hellos of both kinds, of which one is late and two flush the neighbour, and an IHU: whether
+/// there is room for it.
 fn hears(neighbours: &mut Neighbours, peer: Peer) -> bool {
     for (unicast, seqno, interval) in [
         (false, 7, 100),

@@ -1,5 +1,6 @@
-//! A call that is out of memory returns that and changes nothing, and succeeds when it is made again. If a network is not made, a
-//! test of its calls has nothing to test: `is_network_made` makes it again.
+//! A call that is out of memory returns that and changes nothing, and succeeds when it is made
+//! again. If a network is not made, a test of its calls has nothing to test: `is_network_made`
+//! makes it again.
 
 use crate::routers::{prefix, router};
 use babel_net::{Event, NetFault, Network, StepFault};
@@ -71,7 +72,8 @@ pub(crate) fn is_memory(fault: NetFault) -> bool {
     }
 }
 
-/// Whether the network is made. If an allocation fails, the fault is one of these, and the network is made again.
+/// Whether the network is made. If an allocation fails, the fault is one of these, and the network
+/// is made again.
 fn is_network_made(alloc: Global) -> bool {
     match network(alloc).err() {
         None => true,
@@ -105,7 +107,8 @@ fn sum_of(octets: &[u8]) -> u64 {
     sum
 }
 
-/// Whether the step is made. If an allocation fails, the fault is N6, nothing has changed, and the step is made again.
+/// Whether the step is made. If an allocation fails, the fault is N6, nothing has changed, and the
+/// step is made again.
 fn is_made(net: &mut Network, event: &Event) -> bool {
     let before = observe(net);
     match net.step(event) {
@@ -126,7 +129,8 @@ fn are_made(net: &mut Network, events: &[Event]) -> bool {
     true
 }
 
-/// Whether all steps are made, and five datagrams sent. The test of the runs compares what the network returns.
+/// Whether all steps are made, and five datagrams sent. The test of the runs compares what the
+/// network returns.
 fn all_are_made(net: &mut Network) -> bool {
     are_made(net, &EVENTS) && net.sent(4).is_some()
 }
@@ -147,7 +151,8 @@ fn count_made(ran: Result<(), (usize, StepFault)>) -> usize {
     }
 }
 
-/// Runs the events in one network, and makes their steps in the other: both return the same when the run stops, and at the end.
+/// Runs the events in one network, and makes their steps in the other: both return the same when
+/// the run stops, and at the end.
 fn run_as_steps(ran: &mut Network, stepped: &mut Network) -> bool {
     let events = EVENTS;
     let count = count_made(ran.run(&events));

@@ -4,7 +4,8 @@ use babel_state::{Config, Interface};
 use babel_value::{Addr, Family, Prefix};
 use std::alloc::{AllocError, Global};
 
-/// Router `number`, with cost 96 and a Hello every 400 centiseconds at its interface, 192.168.0.`number`/24.
+/// Router `number`, with cost 96 and a Hello every 400 centiseconds at its interface,
+/// 192.168.0.`number`/24.
 pub(crate) fn router(alloc: Global, number: u8) -> Result<Config, AllocError> {
     let interface = Interface {
         transport: Family::Ipv4,

@@ -1,4 +1,5 @@
-//! A call that is out of memory returns that and changes nothing, and succeeds when it is made again.
+//! A call that is out of memory returns that and changes nothing, and succeeds when it is made
+//! again.
 
 use crate::routers::{prefix, router};
 use arrayvec::ArrayVec;
@@ -20,7 +21,8 @@ const ROUTE: [u8; 49] = [
     0, 0, 0, 0, 0, 0, 0, 0, 0, 1, 8, 11, 1, 0, 8, 0, 6, 0x40, 0, 5, 0, 7, 10,
 ];
 
-/// Router 2 with seqno 0, no raise and one source: 10.0.0.0/8 of router 1, with seqno 0 and metric 96.
+/// Router 2 with seqno 0, no raise and one source: 10.0.0.0/8 of router 1, with seqno 0 and metric
+/// 96.
 const SNAPSHOT: &[u8] = &[
     0x42, 0x42, 0x53, 0x31, 0, 0, 0, 0, 0, 0, 0, 2, 0, 0, 0, 0, 0, 0, 0, 0, 0, 0, 0, 1, 1, 10, 0,
     0, 0, 0, 0, 0, 0, 0, 0, 0, 0, 0, 0, 0, 0, 8, 0, 0, 0, 0, 0, 0, 0, 1, 0, 0, 0, 0x60,
@@ -62,8 +64,8 @@ fn received(speaker: &mut Speaker, octets: &[u8]) -> Result<usize, RecvFault> {
     }
 }
 
-/// Whether the datagram is received with so many notes. If an allocation fails, the refusal is P6, nothing has changed, and the
-/// datagram is received again.
+/// Whether the datagram is received with so many notes. If an allocation fails, the refusal is P6,
+/// nothing has changed, and the datagram is received again.
 fn is_received(speaker: &mut Speaker, octets: &[u8], notes: usize) -> bool {
     match received(speaker, octets) {
         Ok(count) => count == notes,
@@ -85,7 +87,8 @@ fn selects(speaker: &mut Speaker) -> bool {
         }
 }
 
-/// A sum of the octets that the speaker sends after it has selected the route; 0 if it does not select it.
+/// A sum of the octets that the speaker sends after it has selected the route; 0 if it does not
+/// select it.
 fn sum_of_sent(speaker: &mut Speaker) -> u64 {
     if !selects(speaker) {
         return 0;
@@ -129,7 +132,8 @@ fn restored(alloc: Global) -> Result<Speaker, RestoreFault> {
     }
 }
 
-/// Whether the speaker is restored. If an allocation fails, the fault is C7, and the speaker is restored again.
+/// Whether the speaker is restored. If an allocation fails, the fault is C7, and the speaker is
+/// restored again.
 fn is_restored(alloc: Global) -> bool {
     match restored(alloc).err() {
         None => true,
@@ -154,7 +158,8 @@ fn is_saved(speaker: &Speaker) -> bool {
     false
 }
 
-/// Whether a speaker that is restored is saved. If none is, there is nothing to save: `is_restored` restores it again.
+/// Whether a speaker that is restored is saved. If none is, there is nothing to save: `is_restored`
+/// restores it again.
 fn saves(alloc: Global) -> bool {
     match restored(alloc) {
         Ok(speaker) => is_saved(&speaker),

@@ -1,5 +1,6 @@
-//! Tables whose allocation fails. `tests/refused-memory` lets each allocation of these tests fail in turn: a table whose
-//! allocation fails returns `Memory`, and is made when it is asked for again.
+//! Tables whose allocation fails. `tests/refused-memory` lets each allocation of these tests fail
+//! in turn: a table whose allocation fails returns `Memory`, and is made when it is asked for
+//! again.
 
 use babel_link::Neighbours;
 use babel_route::Routes;

@@ -1,7 +1,7 @@
 //! The layout of a datagram and of its TLVs (RFC 8966, section 4), which reader and builder share.
 //!
-//! Lengths and offsets are in octets. The offset of a TLV's field counts from the first octet of the
-//! payload. `LEN` of a TLV is the length of its fields before address, prefix and sub-TLVs.
+//! Lengths and offsets are in octets. The offset of a TLV's field counts from the first octet of
+//! the payload. `LEN` of a TLV is the length of its fields before address, prefix and sub-TLVs.
 //! `laws::layout_is_standard` ties each constant to the number of the definitions.
 
 /// The header of a datagram (RFC 8966, section 4.2).
@@ -46,7 +46,8 @@ pub mod kinds {
     pub const MANDATORY: u8 = 128;
 }
 
-/// The encodings of addresses (RFC 8966, section 4.1.4), and the lengths of addresses and router-ids.
+/// The encodings of addresses (RFC 8966, section 4.1.4), and the lengths of addresses and
+/// router-ids.
 pub mod addresses {
     /// The encoding of the wildcard: no address.
     pub const AE_WILDCARD: u8 = 0;

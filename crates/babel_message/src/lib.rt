@@ -1,8 +1,8 @@
 //! What a Babel datagram can mean (RFC 8966, section 4), as values and as texts.
 //!
-//! `messages` has the messages, `placements` the places of a datagram with the reasons why one is ignored, and
-//! `errors` why a whole datagram is refused. `texts` prints them. `layout` has the offsets, lengths and numbers
-//! of the wire format, which reader and builder share.
+//! `messages` has the messages, `placements` the places of a datagram with the reasons why one is
+//! ignored, and `errors` why a whole datagram is refused. `texts` prints them. `layout` has the
+//! offsets, lengths and numbers of the wire format, which reader and builder share.
 #![tactic(auto)]
 
 mod errors;

@@ -2,11 +2,12 @@
 
 use babel_value::{Addr, Metric, Prefix, RouterId, Seqno};
 
-/// A whole message: the fields that an Update takes from the parser state are filled in. Intervals are
-/// in centiseconds.
+/// A whole message: the fields that an Update takes from the parser state are filled in. Intervals
+/// are in centiseconds.
 #[derive(Clone, Copy, Debug, PartialEq, Eq)]
 pub enum Message {
-    /// A request for an `Ack` with the same opaque value within the interval (RFC 8966, section 4.6.3).
+    /// A request for an `Ack` with the same opaque value within the interval (RFC 8966, section
+    /// 4.6.3).
     AckRequest {
         /// The value that the `Ack` repeats.
         opaque: u16,
@@ -18,8 +19,8 @@ pub enum Message {
         /// The value of the `AckRequest`.
         opaque: u16,
     },
-    /// The sender is alive, and sends its next Hello of this kind within the interval (RFC 8966, section
-    /// 4.6.5).
+    /// The sender is alive, and sends its next Hello of this kind within the interval (RFC 8966,
+    /// section 4.6.5).
     Hello {
         /// Whether it is a unicast Hello.
         unicast: bool,

@@ -16,15 +16,15 @@ pub struct Placed {
 pub enum Content {
     /// A message.
     Message(Message),
-    /// A Router-Id or Next Hop, which sets the parser state for later TLVs (RFC 8966, sections 4.6.7
-    /// and 4.6.8).
+    /// A Router-Id or Next Hop, which sets the parser state for later TLVs (RFC 8966, sections
+    /// 4.6.7 and 4.6.8).
     State,
     /// Nothing, for this reason.
     Ignored(Reason),
 }
 
-/// Why a TLV is ignored, in the order in which the reasons are tested. The text is the code that the
-/// program prints.
+/// Why a TLV is ignored, in the order in which the reasons are tested. The text is the code that
+/// the program prints.
 #[derive(Clone, Copy, Debug, PartialEq, Eq)]
 pub enum Reason {
     /// I1: Pad1 or PadN (RFC 8966, sections 4.6.1 and 4.6.2).
@@ -35,11 +35,13 @@ pub enum Reason {
     Unreadable,
     /// I4: a sub-TLV runs past the end of the TLV.
     TailOverrun,
-    /// I5: a sub-TLV of this type, 128 or more, must be understood and isn't (RFC 8966, section 4.4).
+    /// I5: a sub-TLV of this type, 128 or more, must be understood and isn't (RFC 8966, section
+    /// 4.4).
     MandatorySubTlv(u8),
     /// I6: an address encoding that the TLV doesn't have (RFC 8966, section 4.1.4).
     UnknownEncoding,
-    /// I7: octets of the prefix are omitted, and no earlier Update has set them (RFC 8966, section 4.6.9).
+    /// I7: octets of the prefix are omitted, and no earlier Update has set them (RFC 8966, section
+    /// 4.6.9).
     NoDefaultPrefix,
     /// I8: the parser state has no router-id, or a reserved one (RFC 8966, sections 4.1.3 and 4.5).
     NoRouterId,

@@ -1,5 +1,5 @@
-//! Messages, reasons and places as the program prints them. Each is put together in a [`Line`], and is
-//! written by one call.
+//! Messages, reasons and places as the program prints them. Each is put together in a [`Line`], and
+//! is written by one call.
 
 ghost use Rattle.std.specs.Prelude.{◌≡◌, ◌+◌, ◌≤◌, ◌++◌, Some, codes, length};
 ghost use Rattle.std.specs.Fmt.{decimal};
@@ -193,7 +193,8 @@ fn push_receiver(line: &mut Line, to: &Option<Addr>)
     }
 }
 
-/// Appends a name, and a prefix with its router-id. It is compiled into its callers, where the name is a constant.
+/// Appends a name, and a prefix with its router-id. It is compiled into its callers, where the name
+/// is a constant.
 #[inline(always)]
 fn push_source(line: &mut Line, name: &str, prefix: &Prefix, router: RouterId)
     requires room { length line.old + length name.now + 69 ≤ line_room }

@@ -163,8 +163,8 @@ pub(crate) fn send(
     }
 }
 
-/// The speaker receives a recorded datagram over an interface. From an address that the interface takes no
-/// datagrams from, nothing is received.
+/// The speaker receives a recorded datagram over an interface. From an address that the interface
+/// takes no datagrams from, nothing is received.
 #[tactic(auto, unfolding(babel_state::specs::Addresses::source_fault))]
 pub(crate) fn receive(
     speaker: &mut NodeSpeaker,

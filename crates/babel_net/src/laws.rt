@@ -1,5 +1,5 @@
-//! Why every network keeps what loop freedom follows from, as laws over its definitions. Each law is the
-//! contract of a function that does nothing.
+//! Why every network keeps what loop freedom follows from, as laws over its definitions. Each law
+//! is the contract of a function that does nothing.
 
 ghost use Rattle.babel_net.specs.Laws.{FirstNetworksAreSound, EventsHappen, EventsKeepNetworks};
 

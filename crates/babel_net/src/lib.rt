@@ -1,5 +1,5 @@
-//! Networks of Babel speakers (RFC 8966), from octets to octets: after any events, the selected routes of
-//! their nodes form no loop.
+//! Networks of Babel speakers (RFC 8966), from octets to octets: after any events, the selected
+//! routes of their nodes form no loop.
 #![tactic(auto)]
 
 mod calls;

@@ -1,7 +1,7 @@
 //! The network, event by event.
 //!
-//! An event costs what its speaker's call costs. The owner of an address is looked up in an ordered map,
-//! which `Network::new` makes.
+//! An event costs what its speaker's call costs. The owner of an address is looked up in an ordered
+//! map, which `Network::new` makes.
 
 ghost use Rattle.std.specs.Prelude.{◌≡◌, ◌↔◌, None, length, slice_get, is_some, option_map, IfOk, IfErr, IfSome, IsOk, IsNone, OnOk, OnErr};
 ghost use Rattle.std.specs.BTreeMap.{get};
@@ -25,9 +25,9 @@ use babel_value::{Addr, Memory, Prefix, RouterId};
 use std::alloc::Global;
 use std::marker::Model;
 
-/// A network of speakers. What a node sends is recorded, and each recorded datagram may be delivered to any
-/// node, late, more than once, or never. A node that restarts keeps its source table and own seqno, and is otherwise
-/// as configured.
+/// A network of speakers. What a node sends is recorded, and each recorded datagram may be
+/// delivered to any node, late, more than once, or never. A node that restarts keeps its source
+/// table and own seqno, and is otherwise as configured.
 ///
 /// A clause sees the configurations, the states of the speakers, and the datagrams that were sent.
 #[derive(Drop)]
@@ -61,8 +61,8 @@ impl Network {
     ///
     /// # Errors
     ///
-    /// The first cause of M5, M7 with C1 to C6, M4, M1 and M2. If there is none and an allocation fails: M6, or
-    /// M7 with C7 if it was a speaker's.
+    /// The first cause of M5, M7 with C1 to C6, M4, M1 and M2. If there is none and an allocation
+    /// fails: M6, or M7 with C7 if it was a speaker's.
     #[tactic(auto, using(crate::proofs::MakingFaults::own_memory))]
     pub fn new(alloc: Global, configs: Vec<Config>) -> Result<Network, NetFault>
         ensures ok { IfOk result (λ network. network ≡ first_network configs.items) }
@@ -78,8 +78,8 @@ impl Network {
         Ok(Network { nodes, owners })
     }
 
-    /// Reserves the room for this many more datagrams of the usual length, so that recording them moves none of those
-    /// that were sent. It only matters for speed.
+    /// Reserves the room for this many more datagrams of the usual length, so that recording them
+    /// moves none of those that were sent. It only matters for speed.
     ///
     /// # Errors
     ///
@@ -136,8 +136,8 @@ impl Network {
         Ok(())
     }
 
-    /// Makes the step of the event `Emit`, or refuses it and changes nothing. Returns the number of the datagram that
-    /// it recorded, and where it goes: `None` if the node had nothing to send.
+    /// Makes the step of the event `Emit`, or refuses it and changes nothing. Returns the number of
+    /// the datagram that it recorded, and where it goes: `None` if the node had nothing to send.
     ///
     /// # Errors
     ///
@@ -198,7 +198,8 @@ impl Network {
         router_of(selected)
     }
 
-    /// The node's selection whose prefix has exactly `place` lesser ones among its selections' prefixes.
+    /// The node's selection whose prefix has exactly `place` lesser ones among its selections'
+    /// prefixes.
     pub fn selection_at(&self, node: usize, place: usize) -> Option<(Prefix, Selection)>
         ensures { result ≡ option_and_then (λ (s : State). slice_get s.routes.selections place) (slice_get self.now.speakers node) }
     {
@@ -212,17 +213,17 @@ impl Network {
         self.nodes.raises(node)
     }
 
-    /// A count of the node's speaker, which grows whenever a selected route of the node may be reported otherwise, as
-    /// [`Speaker::routes_version`](babel_speaker::Speaker::routes_version). A restart makes the speaker and its count again.
-    /// `None` if there is no such node.
+    /// A count of the node's speaker, which grows whenever a selected route of the node may be
+    /// reported otherwise, as [`Speaker::routes_version`](babel_speaker::Speaker::routes_version).
+    /// A restart makes the speaker and its count again. `None` if there is no such node.
     pub fn routes_version(&self, node: usize) -> Option<u64>
         ensures { is_some result ≡ is_some (slice_get self.now.speakers node) }
     {
         self.nodes.routes_version(node)
     }
 
-    /// The node, the source address and the octets of the datagram of this number, counted from 0. `None` if
-    /// no such datagram was sent.
+    /// The node, the source address and the octets of the datagram of this number, counted from 0.
+    /// `None` if no such datagram was sent.
     pub fn sent(&self, number: usize) -> Option<(usize, Addr, &[u8])>
         ensures none { IsNone result → slice_get self.now.sent number ≡ None }
         ensures some { IfSome result (λ d. slice_get self.now.sent number ≡ Some (record { node = d.0; source = d.1; octets = d.2.now })) }

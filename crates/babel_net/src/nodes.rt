@@ -37,7 +37,8 @@ pub struct Emitted {
     pub target: Target,
 }
 
-/// The speakers by their nodes' numbers, their configurations, and all that was ever sent, in order.
+/// The speakers by their nodes' numbers, their configurations, and all that was ever sent, in
+/// order.
 ///
 /// It makes the steps of a network, and promises nothing of its routes: a
 /// [`Network`](crate::Network) does, and so does a network of ours among routers of others
@@ -127,7 +128,8 @@ impl Nodes {
         }
     }
 
-    /// The node sends its next datagram, if there is one, which is recorded. Returns its number and where it goes.
+    /// The node sends its next datagram, if there is one, which is recorded. Returns its number and
+    /// where it goes.
     #[tactic(auto, unfolding(crate::specs::EventRefusals::step_fault))]
     pub(crate) fn send_next(&mut self, node: usize, now: u64) -> Result<Option<Emitted>, StepFault>
         requires { IsRunning self.old }
@@ -262,7 +264,8 @@ impl Nodes {
         }
     }
 
-    /// The node's selection whose prefix has exactly `place` lesser ones among its selections' prefixes.
+    /// The node's selection whose prefix has exactly `place` lesser ones among its selections'
+    /// prefixes.
     pub fn selection_at(&self, node: usize, place: usize) -> Option<(Prefix, Selection)>
         ensures { result ≡ option_and_then (λ (s : State). slice_get s.routes.selections place) (slice_get self.now.speakers node) }
     {
@@ -292,7 +295,8 @@ impl Nodes {
         }
     }
 
-    /// The sent datagram of the number, if there is one: its node, its source address and its octets.
+    /// The sent datagram of the number, if there is one: its node, its source address and its
+    /// octets.
     pub fn sent(&self, number: usize) -> Option<(usize, Addr, &[u8])>
         ensures none { IsNone result → slice_get self.now.sent number ≡ None }
         ensures some { IfSome result (λ d. slice_get self.now.sent number ≡ Some (record { node = d.0; source = d.1; octets = d.2.now })) }

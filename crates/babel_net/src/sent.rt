@@ -54,7 +54,8 @@ impl<'a> Sent<'a> {
     }
 }
 
-/// How many octets a datagram has that names a few prefixes. It only says how much room `Record::reserve` makes.
+/// How many octets a datagram has that names a few prefixes. It only says how much room
+/// `Record::reserve` makes.
 const USUAL_LEN: usize = 64;
 
 /// A recorded datagram: its node, its source address, and where its octets are.
@@ -66,13 +67,14 @@ pub(crate) struct Place {
     pub(crate) end: usize,
 }
 
-/// All datagrams that were sent, in order. Their octets are kept one after another, so that a short one takes
-/// little memory.
+/// All datagrams that were sent, in order. Their octets are kept one after another, so that a short
+/// one takes little memory.
 #[derive(Drop)]
 pub struct Record {
     places: Vec<Place>,
     octets: Vec<u8>,
-    // The datagram that was sent last. It only keeps its room, so that none is made for each datagram.
+    // The datagram that was sent last. It only keeps its room, so that none is made for each
+    // datagram.
     last: ArrayVec<u8, DATAGRAM_LEN>,
 }
 

@@ -1,4 +1,5 @@
-//! What is known of a run in the end. Moments and times are in centiseconds; nodes, links and prefixes are numbers from 0 on.
+//! What is known of a run in the end. Moments and times are in centiseconds; nodes, links and
+//! prefixes are numbers from 0 on.
 
 use babel_topology::NextHop;
 use babel_value::Prefix;
@@ -9,7 +10,8 @@ use std::alloc::Global;
 pub enum HopKind {
     /// The way over it doesn't come back.
     Onward,
-    /// The way over it comes back to a node that it passed. It can only be the way over a node that began again with nothing.
+    /// The way over it comes back to a node that it passed. It can only be the way over a node that
+    /// began again with nothing.
     Loop,
 }
 

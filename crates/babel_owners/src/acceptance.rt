@@ -15,7 +15,8 @@ use babel_value::{Addr, Family};
 /// The most nodes of a network.
 const MAX_NODES: usize = 64;
 
-/// Why no network can be made of the configurations: the first cause of M5, M7 with C1 to C6, M4, M1 and M2.
+/// Why no network can be made of the configurations: the first cause of M5, M7 with C1 to C6, M4,
+/// M1 and M2.
 pub fn net_fault(configs: &[Config]) -> Option<NetFault>
     ensures { result ≡ net_fault configs.now }
 {

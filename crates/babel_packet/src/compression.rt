@@ -11,9 +11,10 @@ ghost use Rattle.babel_packet.specs.Compressed.{compressed, state_with, max_mess
 
 use babel_tlv::laws::put_is_one_more;
 
-/// The compressed TLVs of a message mean that message to a reader of the body before them (RFC 8966,
-/// sections 4.5 and 4.6). They leave the body whole, and change what the reader keeps as `state_with`
-/// defines it, even if the message can't be encoded. They take a bounded number of octets.
+/// The compressed TLVs of a message mean that message to a reader of the body before them (RFC
+/// 8966, sections 4.5 and 4.6). They leave the body whole, and change what the reader keeps as
+/// `state_with` defines it, even if the message can't be encoded. They take a bounded number of
+/// octets.
 #[inline]
 pub fn compressed_is_read()
     ensures message { (source : Addr) (body : List ℕ) (decoded : List Message) (message : Message) → BodyMeans source body decoded

@@ -1,9 +1,9 @@
 //! The walk over a datagram (RFC 8966, section 4.2).
 //!
-//! `decode` is linear in the octets. It makes one list, sized by a twelfth of the body at first, and reads
-//! each octet a bounded number of times. Payloads are slices of the input. The readers are inlined into one
-//! function, but for that of a Next Hop: a value that goes through memory comes back wider than it was
-//! written, which stalls the processor (docs/PERFORMANCE.md).
+//! `decode` is linear in the octets. It makes one list, sized by a twelfth of the body at first,
+//! and reads each octet a bounded number of times. Payloads are slices of the input. The readers
+//! are inlined into one function, but for that of a Next Hop: a value that goes through memory
+//! comes back wider than it was written, which stalls the processor (docs/PERFORMANCE.md).
 
 ghost use Rattle.std.specs.Prelude.{◌≡◌, ◌<◌, ◌+◌, ◌^◌, length, IfOk, IfErr, OnOk, OnErr, MatchOption, IsTrue, [], vec_len, vec_capacity};
 ghost use Rattle.babel_tlv.specs.Split.{places_of, fault_of};
@@ -50,8 +50,8 @@ pub fn decode(alloc: Global, bytes: &[u8], source: Addr) -> Result<Vec<Placed>, 
     Ok(placed)
 }
 
-/// The same as [`decode`], into a list that the caller keeps. What was in the list before is gone; it is
-/// empty if the datagram is refused.
+/// The same as [`decode`], into a list that the caller keeps. What was in the list before is gone;
+/// it is empty if the datagram is refused.
 ///
 /// The list keeps its capacity, so that mostly no memory is allocated.
 #[tactic(auto, unfolding(crate::specs::Meaning::meaning))]

@@ -17,10 +17,10 @@ use babel_message::Message;
 use babel_tlv::laws::put_is_one_more;
 use babel_value::{Addr, Prefix, RouterId};
 
-/// The parser state at a TLV (RFC 8966, section 4.5). The default prefix of each encoding, the router-id
-/// and the next hop of each family are those of the latest earlier TLV that sets one. Before the first
-/// of them, there is no default prefix and no router-id, and the source address is the next hop of its
-/// own family.
+/// The parser state at a TLV (RFC 8966, section 4.5). The default prefix of each encoding, the
+/// router-id and the next hop of each family are those of the latest earlier TLV that sets one.
+/// Before the first of them, there is no default prefix and no router-id, and the source address is
+/// the next hop of its own family.
 pub fn looks_back()
     ensures default_prefix { DefaultIsLatest }
     ensures router_id { RouterIsLatest }
@@ -34,9 +34,9 @@ pub fn reasons_are_the_first_that_apply()
     ensures state { StatesAreOfTwoTypes }
 {}
 
-/// The messages of a body that grows by one TLV (RFC 8966, section 4.6). The TLV of a message adds the
-/// message, if the parser state has the router-id and next hop of an Update. A Router-Id and a Next Hop
-/// add no message, and set the parser state. A datagram means the messages of its body.
+/// The messages of a body that grows by one TLV (RFC 8966, section 4.6). The TLV of a message adds
+/// the message, if the parser state has the router-id and next hop of an Update. A Router-Id and a
+/// Next Hop add no message, and set the parser state. A datagram means the messages of its body.
 #[inline]
 pub fn one_more_message()
     ensures nothing { (source : Addr) → BodyMeans source [] [] }
@@ -56,15 +56,15 @@ pub fn one_more_message()
     put_is_one_more();
 }
 
-/// Every message of a datagram can be sent as it is: its fields are whole, its metric, costs, intervals
-/// and hop count are in range, and the next hop of an Update is of the prefix's family.
+/// Every message of a datagram can be sent as it is: its fields are whole, its metric, costs,
+/// intervals and hop count are in range, and the next hop of an Update is of the prefix's family.
 #[tactic(auto, using(crate::proofs::Sendable::decoded_are_sendable))]
 pub fn decoded_are_sendable()
     ensures { DecodedAreSendable }
 {}
 
-/// The octets of a message's fields are whole: each is below 256, a prefix has no bits past its length,
-/// and no router-id is reserved.
+/// The octets of a message's fields are whole: each is below 256, a prefix has no bits past its
+/// length, and no router-id is reserved.
 #[inline]
 pub fn fields_are_whole(message: &Message)
     ensures { IsMessage message.now }

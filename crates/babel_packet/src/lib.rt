@@ -1,9 +1,9 @@
 //! What a Babel datagram means (RFC 8966, section 4), as one call: [`decode`], or
 //! [`decode_into`] with a list that the caller keeps.
 //!
-//! Each module reads one kind of TLV and has its own definition in `specs/`. `decoding` walks over the
-//! datagram, and `parser_state` keeps what earlier TLVs set for later ones. The messages, the reasons and the
-//! layout of the wire format are those of `babel_message`.
+//! Each module reads one kind of TLV and has its own definition in `specs/`. `decoding` walks over
+//! the datagram, and `parser_state` keeps what earlier TLVs set for later ones. The messages, the
+//! reasons and the layout of the wire format are those of `babel_message`.
 #![tactic(auto)]
 
 mod acks;

@@ -18,8 +18,8 @@ use babel_message::layout::addresses::{
 use babel_message::layout::next_hop as fields;
 use babel_message::{Placed, Reason};
 
-/// It is a call, so that the parser state is in memory. As variables of the walk its parts would be moved
-/// at each TLV.
+/// It is a call, so that the parser state is in memory. As variables of the walk its parts would be
+/// moved at each TLV.
 #[inline(never)]
 #[tactic(auto, unfolding(crate::specs::NextHops::next_hop, crate::specs::NextHops::next_hop_of, crate::specs::RouterIds::named_router, crate::specs::NextHops::named_hop4, crate::specs::NextHops::named_hop6, crate::specs::LookBack::update_address))]
 pub(crate) fn read_next_hop(

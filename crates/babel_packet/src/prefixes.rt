@@ -22,8 +22,8 @@ pub(crate) fn octets_of(bits: u8) -> usize
     (bits as usize + 7) / 8
 }
 
-/// Whether the length isn't greater than an address of `size` octets is wide, and the octets that aren't
-/// omitted are in the payload from offset `at` on.
+/// Whether the length isn't greater than an address of `size` octets is wide, and the octets that
+/// aren't omitted are in the payload from offset `at` on.
 #[inline]
 #[tactic(auto, unfolding(crate::specs::Prefixes::is_whole))]
 pub(crate) fn is_whole(size: usize, omitted: u8, bits: u8, at: usize, payload: &[u8]) -> bool
@@ -37,10 +37,11 @@ pub(crate) fn is_whole(size: usize, omitted: u8, bits: u8, at: usize, payload: &
     bits as usize <= 8 * size && at + written <= payload.len()
 }
 
-/// The octets of the prefix's address: the omitted ones from `default`, the others from the payload.
+/// The octets of the prefix's address: the omitted ones from `default`, the others from the
+/// payload.
 ///
-/// Most prefixes have at most 64 bits: they are one number. The others, and those in a payload with too
-/// few octets before them, are copied.
+/// Most prefixes have at most 64 bits: they are one number. The others, and those in a payload with
+/// too few octets before them, are copied.
 #[inline(always)]
 #[tactic(auto, unfolding(crate::specs::Prefixes::prefix_octets))]
 pub(crate) fn prefix_octets<const N: usize>(
@@ -74,8 +75,8 @@ fn resized<const N: usize, const M: usize>(octets: [u8; N]) -> [u8; M]
     resized
 }
 
-/// The octets of a prefix of at most 64 bits, of which one at least is written. The eight octets that end
-/// with the written ones are read as one number, which is shifted to where they belong.
+/// The octets of a prefix of at most 64 bits, of which one at least is written. The eight octets
+/// that end with the written ones are read as one number, which is shifted to where they belong.
 #[inline(always)]
 fn first_octets(
     default: [u8; WORD_LEN],
@@ -154,7 +155,8 @@ fn spread<const N: usize>(
     octets
 }
 
-/// Writes the first `kept` octets of the default prefix, and then those that are written in the payload.
+/// Writes the first `kept` octets of the default prefix, and then those that are written in the
+/// payload.
 #[inline(always)]
 fn put(octets: &mut [u8], default: &[u8], kept: usize, written: &[u8])
     requires default { kept ≤ length default.now }
@@ -166,8 +168,8 @@ fn put(octets: &mut [u8], default: &[u8], kept: usize, written: &[u8])
     copy(&mut octets[kept..kept + written.len()], written);
 }
 
-/// Copies octets. Those of a whole IPv6 address are known to the compiler, so that it makes a move of them
-/// and no call.
+/// Copies octets. Those of a whole IPv6 address are known to the compiler, so that it makes a move
+/// of them and no call.
 #[inline(always)]
 fn copy(to: &mut [u8], from: &[u8])
     requires { length to.old ≡ length from.now }

@@ -40,8 +40,8 @@ fn sub_tlvs_reason(tail: &[u8]) -> Option<Reason>
     None
 }
 
-/// Whether a TLV with these octets after its fields is taken. If it isn't, its place is appended: that it is
-/// ignored, and why.
+/// Whether a TLV with these octets after its fields is taken. If it isn't, its place is appended:
+/// that it is ignored, and why.
 #[inline]
 #[tactic(auto, unfolding(crate::specs::Tails::tail_reason))]
 pub(crate) fn is_taken(tail: &[u8], offset: usize, placed: &mut Vec<Placed>) -> bool

@@ -12,7 +12,8 @@ use babel_tlv::walk;
 /// Where the length of the body is in a datagram.
 const BODY_LEN_AT: usize = 2;
 
-/// How many messages a datagram of the builder has. Router-Id and Next Hop only set state for Updates.
+/// How many messages a datagram of the builder has. Router-Id and Next Hop only set state for
+/// Updates.
 pub fn count_messages(datagram: &[u8]) -> usize
     ensures { CountsMessages datagram.now result }
 {

@@ -28,10 +28,12 @@ use babel_value::{Distance, Metric, Peer, Prefix, Source};
 use std::alloc::Global;
 use std::io::{BufRead, Write};
 
-/// Writes a line for each route of the prefix after the log, ascending by neighbour: what the neighbour
-/// advertised, the cost of the link to it, and whether the route is used, or why it isn't.
+/// Writes a line for each route of the prefix after the log, ascending by neighbour: what the
+/// neighbour advertised, the cost of the link to it, and whether the route is used, or why it
+/// isn't.
 ///
-/// After a fault other than L7 of a line, what was written are the routes after the lines before it.
+/// After a fault other than L7 of a line, what was written are the routes after the lines before
+/// it.
 pub fn explain<R: BufRead, W: Write>(
     alloc: Global,
     config: Config,
@@ -68,8 +70,8 @@ fn explain_log<R: BufRead, W: Write>(
     }
 }
 
-/// Takes all lines. `number` becomes the number of the line at which it stops, which is one more than
-/// the last at the end of the log.
+/// Takes all lines. `number` becomes the number of the line at which it stops, which is one more
+/// than the last at the end of the log.
 fn take_log<R: BufRead>(
     alloc: Global,
     speaker: &mut Speaker,
@@ -295,8 +297,8 @@ fn is_finite(advertised: &Distance) -> bool
     advertised.metric.is_finite()
 }
 
-/// Whether a route is feasible against the distance of its source, if there is one (RFC 8966, section
-/// 3.5.1).
+/// Whether a route is feasible against the distance of its source, if there is one (RFC 8966,
+/// section 3.5.1).
 fn is_feasible(advertised: &Distance, source: &Option<Distance>) -> bool
     ensures { result ≡ improves_on source.now advertised.now }
 {

@@ -3,8 +3,8 @@
 //! - [`replay`] writes what the speaker makes of each line, and the routes that it selects.
 //! - [`explain`] writes the routes of one prefix after the log, and why each is used or not.
 //!
-//! `reading` takes the log's lines, `replaying` and `explaining` are the two calls, and `lines` has the lines that they write.
-//! What a line of a log means is defined and read by `babel_text`.
+//! `reading` takes the log's lines, `replaying` and `explaining` are the two calls, and `lines` has
+//! the lines that they write. What a line of a log means is defined and read by `babel_text`.
 #![tactic(auto)]
 
 mod counting;

@@ -1,8 +1,9 @@
-//! The lines of the reports on a log, each put together in one `Line` with its line feed. Those that are written for the
-//! lines of a log take the place of what was in a `Line`, which is used again and again.
+//! The lines of the reports on a log, each put together in one `Line` with its line feed. Those
+//! that are written for the lines of a log take the place of what was in a `Line`, which is used
+//! again and again.
 //!
-//! `notes` has the lines of a datagram, `choices` those of the selected routes, and `routes` the line of
-//! one route.
+//! `notes` has the lines of a datagram, `choices` those of the selected routes, and `routes` the
+//! line of one route.
 
 pub mod choices;
 pub mod notes;

@@ -8,11 +8,11 @@ use babel_text::{LineFault, MAX_LINE_LEN};
 use memchr::memchr;
 use std::io::{BufRead, ErrorKind};
 
-/// Reads a line without its line feed, and returns whether there was one. The end of the log ends its
-/// last line.
+/// Reads a line without its line feed, and returns whether there was one. The end of the log ends
+/// its last line.
 ///
-/// A call that the system interrupts is made again. At most the longest line is kept, so the memory of `line`
-/// is bounded.
+/// A call that the system interrupts is made again. At most the longest line is kept, so the memory
+/// of `line` is bounded.
 pub(crate) fn read_line<R: BufRead>(log: &mut R, line: &mut Vec<u8>) -> Result<bool, LineFault>
     ensures line { IfOk result (λ more. ReadsLine (R.remaining log.old) (R.remaining log.new) more line.new.items) }
     ensures within { IfOk result (λ _. length line.new.items ≤ max_line_len) }

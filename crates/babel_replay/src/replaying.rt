@@ -35,8 +35,8 @@ use std::io::{BufRead, Write};
 
 /// Writes what a speaker of this configuration makes of a log. Each line's report follows the line
 /// before it: what became of each TLV, or a refusal; a `select` line for each seen prefix whose
-/// selected route changed; and an `out` line for each datagram that the speaker then sends. At the end
-/// there is a `table` line for each seen prefix.
+/// selected route changed; and an `out` line for each datagram that the speaker then sends. At the
+/// end there is a `table` line for each seen prefix.
 ///
 /// After a fault other than L7 of a line, what was written is the report of the lines before it.
 pub fn replay<R: BufRead, W: Write>(
@@ -145,8 +145,8 @@ impl Replayer {
         }
     }
 
-    /// Takes all lines, and writes the report of each. `number` becomes the number of the line at which it
-    /// stops, which is one more than the last at the end of the log.
+    /// Takes all lines, and writes the report of each. `number` becomes the number of the line at
+    /// which it stops, which is one more than the last at the end of the log.
     fn take_log<R: BufRead, W: Write>(
         &mut self,
         log: &mut R,
@@ -240,7 +240,8 @@ impl Replayer {
         }
     }
 
-    /// The same with what the line's datagram means, and with the datagram itself if it has one that can be read.
+    /// The same with what the line's datagram means, and with the datagram itself if it has one
+    /// that can be read.
     fn take_placed<W: Write>(
         &mut self,
         event: &Event<'_>,
@@ -263,8 +264,8 @@ impl Replayer {
         self.write_report(event.time, placed, &outcome, changed, out)
     }
 
-    /// Writes the report of a line after its step, and sends what the speaker has queued. `changed` is whether a
-    /// selected route may have changed by the step.
+    /// Writes the report of a line after its step, and sends what the speaker has queued. `changed`
+    /// is whether a selected route may have changed by the step.
     fn write_report<W: Write>(
         &mut self,
         time: u64,
@@ -284,8 +285,8 @@ impl Replayer {
         send_datagrams(&mut self.speaker, &mut self.drafts, time, out)
     }
 
-    /// Writes what became of a line, and adds the prefixes of the Updates that were stored. Returns whether one of them
-    /// is new.
+    /// Writes what became of a line, and adds the prefixes of the Updates that were stored. Returns
+    /// whether one of them is new.
     fn write_outcome<W: Write>(
         &mut self,
         time: u64,
@@ -319,8 +320,8 @@ impl Replayer {
         }
     }
 
-    /// Writes the `table` lines, unless writing failed already. The fault is that of the log, or L7 if writing
-    /// fails now.
+    /// Writes the `table` lines, unless writing failed already. The fault is that of the log, or L7
+    /// if writing fails now.
     fn end_report<W: Write>(
         &self,
         taken: Result<(), LineFault>,
@@ -386,7 +387,8 @@ impl Replayer {
         Ok(())
     }
 
-    /// The same for the seen prefix at the index, which is searched for near an index of the selections.
+    /// The same for the seen prefix at the index, which is searched for near an index of the
+    /// selections.
     fn write_selection<W: Write>(
         &mut self,
         index: usize,
@@ -412,7 +414,8 @@ impl Replayer {
         write_line(out, &self.drafts.line)
     }
 
-    /// What is printed of the prefix's selected route, which is searched for near an index of the selections.
+    /// What is printed of the prefix's selected route, which is searched for near an index of the
+    /// selections.
     #[inline]
     fn choice(&self, prefix: &Prefix, near: &mut usize) -> Option<Choice>
         ensures { result ≡ choice_at self.now.speaker.state prefix.now }
@@ -435,7 +438,8 @@ impl Replayer {
         }
     }
 
-    /// The line of the seen prefix at the index, which is searched for near an index of the selections.
+    /// The line of the seen prefix at the index, which is searched for near an index of the
+    /// selections.
     fn write_table_line<W: Write>(
         &self,
         index: usize,

@@ -1,5 +1,5 @@
-//! The prefixes that a replay has seen, in the order in which it saw them first, with the route that
-//! was last printed of each.
+//! The prefixes that a replay has seen, in the order in which it saw them first, with the route
+//! that was last printed of each.
 
 ghost use Rattle.std.specs.Prelude.{◌≡◌, ◌+◌, ◌≤◌, ◌<◌, [], length, zip, slice_get, OnOk, IsTrue, IsFalse};
 ghost use Rattle.std.specs.Map.Iter.{deref_pair};
@@ -49,7 +49,8 @@ fn is_same_route(a: &Choice, b: &Choice) -> bool
         && a.seqno == b.seqno
 }
 
-/// The seen prefixes. A clause sees them in the order in which each was seen first, with what was last printed of it.
+/// The seen prefixes. A clause sees them in the order in which each was seen first, with what was
+/// last printed of it.
 #[derive(Drop)]
 pub(crate) struct SeenPrefixes {
     table: IndexMap<Prefix, Option<Choice>>,
@@ -100,8 +101,9 @@ impl SeenPrefixes {
         self.len() > count
     }
 
-    /// Adds a prefix, for which there is room, unless it was seen. Updates mostly come in the order in which their
-    /// prefixes were seen first, so the one after the last is looked at before the table is searched.
+    /// Adds a prefix, for which there is room, unless it was seen. Updates mostly come in the order
+    /// in which their prefixes were seen first, so the one after the last is looked at before the
+    /// table is searched.
     fn see(&mut self, prefix: Prefix)
         requires { 0 < self.old.room }
         ensures seen { self.new.entries ≡ with_seen prefix self.old.entries }

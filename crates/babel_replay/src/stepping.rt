@@ -67,8 +67,8 @@ fn receive_decoded(
     speaker.receive_decoded(time, peer.iface, decoded)
 }
 
-/// Makes the speaker's step for the line. The only fault is memory, and then the speaker is unchanged. If the line's
-/// datagram is decoded already, it isn't decoded again.
+/// Makes the speaker's step for the line. The only fault is memory, and then the speaker is
+/// unchanged. If the line's datagram is decoded already, it isn't decoded again.
 #[tactic(auto, using(crate::proofs::Counted::nothing_counted))]
 pub(crate) fn make_step(
     speaker: &mut Speaker,
@@ -116,8 +116,8 @@ pub(crate) fn make_step(
     }
 }
 
-/// Whether the selected routes may be reported otherwise than when the speaker's count of their changes was this. At its
-/// greatest value the count can't grow.
+/// Whether the selected routes may be reported otherwise than when the speaker's count of their
+/// changes was this. At its greatest value the count can't grow.
 fn may_differ(speaker: &Speaker, version: u64) -> bool
     ensures same { IsFalse result → speaker.now.routes_version ≡ version }
     ensures below { IsFalse result → speaker.now.routes_version < greatest_version }
@@ -126,7 +126,8 @@ fn may_differ(speaker: &Speaker, version: u64) -> bool
     now != version || now == u64::MAX
 }
 
-/// Makes the speaker's step for the line, as `make_step`, and returns whether a selected route may have changed by it.
+/// Makes the speaker's step for the line, as `make_step`, and returns whether a selected route may
+/// have changed by it.
 pub(crate) fn step(
     speaker: &mut Speaker,
     event: &Event<'_>,

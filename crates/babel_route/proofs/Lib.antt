@@ -7,4 +7,4 @@ pub mod CurrencyLemmas
 pub mod RefreshLemmas
 pub mod PrefixWalkLemmas
 pub mod OneChangeLemmas
-pub mod OriginLemmas
+pub mod ChangeLemmas

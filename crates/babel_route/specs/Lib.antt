@@ -4,4 +4,4 @@ pub mod Currency
 pub mod Repeats
 pub mod RouteLaws
 pub mod PrefixWalks
-pub mod OriginChanges
+pub mod SelectionChanges

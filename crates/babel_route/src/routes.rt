@@ -13,8 +13,8 @@ ghost use Rattle.babel_choice.specs.PrefixBounds.{is_beyond};
 ghost use Rattle.babel_route.specs.Selections.{choice_at, reselected, selection_at, SelectsTheFirst, places_taken, prefix_after};
 ghost use Rattle.babel_table.specs.Firsts.{first_of, lesser_of};
 
+mod changes;
 mod current;
-mod origins;
 mod prefix_walk;
 mod refresh;
 mod room;
@@ -27,8 +27,8 @@ use babel_choice::{
 use babel_sources::{SourceEntry, SourcesOver};
 use babel_table::{Full, Memory, Table, find_in, find_near, places_below, revise_dues};
 use babel_value::{Addr, Distance, Peer, Prefix, RouterId, Source};
+pub use changes::{OriginChange, Report, SelectionChange};
 use current::replace_near;
-pub use origins::OriginChange;
 pub use prefix_walk::PrefixWalk;
 pub use refresh::{OnRepeat, Refreshed};
 use std::alloc::Global;
@@ -40,8 +40,8 @@ pub const ROUTE_PLACES: usize = 256;
 /// How many prefixes may have an entry or a selection.
 pub const PREFIX_PLACES: usize = 512;
 
-/// The route table with its selections, in tables of the types `E` and `S`. Clauses see both as lists
-/// in the order of their keys.
+/// The route table with its selections, in tables of the types `E` and `S`. Clauses see both as
+/// lists in the order of their keys.
 #[derive(Drop)]
 pub struct RoutesOver<E: Table<RouteKey, Entry>, S: Table<Prefix, Selection>> {
     entries: E,
@@ -80,11 +80,11 @@ impl<E: Table<RouteKey, Entry>, S: Table<Prefix, Selection>> RoutesOver<E, S> {
         })
     }
 
-    /// Takes a neighbour's finite update for a prefix, feasible or not (RFC 8966, section 3.5.3); the
-    /// metric in the distance is the advertised one, the interval in centiseconds. It replaces the
-    /// neighbour's route to the prefix. `Full` if and only if the neighbour has no route to the prefix and
-    /// all places are taken: one for each entry, and one for each prefix that has a selection but no
-    /// entry.
+    /// Takes a neighbour's finite update for a prefix, feasible or not (RFC 8966, section 3.5.3);
+    /// the metric in the distance is the advertised one, the interval in centiseconds. It replaces
+    /// the neighbour's route to the prefix. `Full` if and only if the neighbour has no route to the
+    /// prefix and all places are taken: one for each entry, and one for each prefix that has a
+    /// selection but no entry.
     pub fn update(
         &mut self,
         now: u64,
@@ -113,8 +113,8 @@ impl<E: Table<RouteKey, Entry>, S: Table<Prefix, Selection>> RoutesOver<E, S> {
         }
     }
 
-    /// Takes a neighbour's retraction of a prefix: the entry's metric becomes infinite, all else of it
-    /// stays, and its hold time begins again. False if there is no entry.
+    /// Takes a neighbour's retraction of a prefix: the entry's metric becomes infinite, all else of
+    /// it stays, and its hold time begins again. False if there is no entry.
     pub fn retract(&mut self, now: u64, prefix: &Prefix, peer: &Peer) -> bool
         ensures found { result ≡ is_some (find route_cmp (key_of prefix.now peer.now) self.old.entries) }
         ensures routes { self.new ≡ record self.old { entries = retracted now prefix.now peer.now self.old.entries } }
@@ -127,7 +127,8 @@ impl<E: Table<RouteKey, Entry>, S: Table<Prefix, Selection>> RoutesOver<E, S> {
         self.retract_near(now, &key, &mut cursor)
     }
 
-    /// The same of the key's prefix and neighbour. The search begins at the cursor, which goes to the route.
+    /// The same of the key's prefix and neighbour. The search begins at the cursor, which goes to
+    /// the route.
     #[inline(never)]
     pub fn retract_near(&mut self, now: u64, key: &RouteKey, cursor: &mut Cursor) -> bool
         ensures found { result ≡ is_some (find route_cmp key.now self.old.entries) }
@@ -147,8 +148,8 @@ impl<E: Table<RouteKey, Entry>, S: Table<Prefix, Selection>> RoutesOver<E, S> {
         }
     }
 
-    /// Takes a neighbour's retraction of all its routes (RFC 8966, section 4.6.9). False if it has no
-    /// entry.
+    /// Takes a neighbour's retraction of all its routes (RFC 8966, section 4.6.9). False if it has
+    /// no entry.
     pub fn retract_all(&mut self, now: u64, peer: &Peer) -> bool
         ensures found { result ≡ has_routes_from peer.now self.old.entries }
         ensures routes { self.new ≡ record self.old { entries = retracted_all now peer.now self.old.entries } }
@@ -182,7 +183,8 @@ impl<E: Table<RouteKey, Entry>, S: Table<Prefix, Selection>> RoutesOver<E, S> {
         let _count = self.len();
     }
 
-    /// The routes whose deadline is due, in the order of their keys. Before the first deadline it looks at no route.
+    /// The routes whose deadline is due, in the order of their keys. Before the first deadline it
+    /// looks at no route.
     pub fn due(&self, now: u64) -> DueRoutes<'_, E>
         ensures routes { result ≡ routes_due now self.now.entries }
         ensures few { length result ≤ ROUTE_PLACES }
@@ -195,9 +197,9 @@ impl<E: Table<RouteKey, Entry>, S: Table<Prefix, Selection>> RoutesOver<E, S> {
         }
     }
 
-    /// Takes the deadlines that are due, each once: a route with a finite metric is retracted and its
-    /// hold time begins again, one with an infinite metric goes (RFC 8966, section 3.5.4). Returns `false`
-    /// if no deadline is due; then it looks at no route.
+    /// Takes the deadlines that are due, each once: a route with a finite metric is retracted and
+    /// its hold time begins again, one with an infinite metric goes (RFC 8966, section 3.5.4).
+    /// Returns `false` if no deadline is due; then it looks at no route.
     pub fn expire(&mut self, now: u64) -> bool
         ensures routes { self.new ≡ record self.old { entries = expired now self.old.entries } }
         ensures quiet { IsFalse result → self.new ≡ self.old }
@@ -237,7 +239,8 @@ impl<E: Table<RouteKey, Entry>, S: Table<Prefix, Selection>> RoutesOver<E, S> {
             .map(|route| (route.0.prefix, route.0.peer, route.1))
     }
 
-    /// The prefix of the route that exactly `place` others come before, if the neighbour advertised it.
+    /// The prefix of the route that exactly `place` others come before, if the neighbour advertised
+    /// it.
     #[inline(always)]
     pub fn prefix_from(&self, place: usize, peer: &Peer) -> Option<Prefix>
         ensures { result ≡ option_and_then (λ route. if is_from peer.now route.0 then Some route.0.prefix else None) (slice_get self.now.entries place) }
@@ -306,7 +309,8 @@ impl<E: Table<RouteKey, Entry>, S: Table<Prefix, Selection>> RoutesOver<E, S> {
         PrefixRoutes::new(&self.entries, *prefix)
     }
 
-    /// The same. The search begins at the index, which goes to the route before the first one of the prefix.
+    /// The same. The search begins at the index, which goes to the route before the first one of
+    /// the prefix.
     pub fn routes_of_near(&self, prefix: &Prefix, near: &mut usize) -> PrefixRoutes<'_, E>
         ensures { result ≡ routes_of prefix.now self.now.entries }
     {
@@ -320,8 +324,8 @@ impl<E: Table<RouteKey, Entry>, S: Table<Prefix, Selection>> RoutesOver<E, S> {
         find_in(&self.selections, prefix).map(|selection| (selection.peer, selection.entry))
     }
 
-    /// The selection of the prefix, as the last reselection left it. The search begins at the cursor, which goes to
-    /// the next prefix: prefixes that rise are each found at once.
+    /// The selection of the prefix, as the last reselection left it. The search begins at the
+    /// cursor, which goes to the next prefix: prefixes that rise are each found at once.
     #[inline(always)]
     pub fn selected_near(&self, prefix: &Prefix, cursor: &mut Cursor) -> Option<Selection>
         ensures { result ≡ selection_at prefix.now self.now }
@@ -333,11 +337,11 @@ impl<E: Table<RouteKey, Entry>, S: Table<Prefix, Selection>> RoutesOver<E, S> {
         selection
     }
 
-    /// Selects the route of the prefix again (RFC 8966, section 3.6): the candidate of the least metric,
-    /// among equals the one selected before, then that of the least neighbour; none if the prefix is
-    /// the speaker's own. A candidate is feasible against the source table now, and its metric by the
-    /// neighbour's cost now is finite. The result is the selection that the last reselection of the
-    /// prefix left, and the one that this leaves.
+    /// Selects the route of the prefix again (RFC 8966, section 3.6): the candidate of the least
+    /// metric, among equals the one selected before, then that of the least neighbour; none if the
+    /// prefix is the speaker's own. A candidate is feasible against the source table now, and its
+    /// metric by the neighbour's cost now is finite. The result is the selection that the last
+    /// reselection of the prefix left, and the one that this leaves.
     pub fn select<T: Table<Source, SourceEntry>, C: Costs>(
         &mut self,
         prefix: &Prefix,
@@ -384,8 +388,8 @@ impl<E: Table<RouteKey, Entry>, S: Table<Prefix, Selection>> RoutesOver<E, S> {
         (copy_of(&before), copy_of(&after))
     }
 
-    /// The same. The result is the entry that the last reselection of the prefix selected, as it was
-    /// then, and the one that is selected now.
+    /// The same. The result is the entry that the last reselection of the prefix selected, as it
+    /// was then, and the one that is selected now.
     pub fn reselect<T: Table<Source, SourceEntry>, C: Costs>(
         &mut self,
         prefix: &Prefix,

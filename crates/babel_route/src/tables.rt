@@ -1,5 +1,6 @@
-//! The tables that routes and selections are kept in. They are types of their own, so that a proof about a call over
-//! any tables takes them by their names: as aliases of `SortedTable` each such call of a speaker takes seconds.
+//! The tables that routes and selections are kept in. They are types of their own, so that a proof
+//! about a call over any tables takes them by their names: as aliases of `SortedTable` each such
+//! call of a speaker takes seconds.
 
 ghost use Rattle.babel_table.specs.Digits.{binary_digits};
 ghost use Rattle.babel_table.specs.Gaps.{around};
@@ -98,8 +99,8 @@ impl Table<RouteKey, Entry> for RouteTable {
     }
 }
 
-/// The selections in the order of their prefixes. Prefixes that are lost, or found again, in this order move no
-/// other selection.
+/// The selections in the order of their prefixes. Prefixes that are lost, or found again, in this
+/// order move no other selection.
 #[derive(Drop)]
 pub struct SelectionTable {
     table: GapTable<Prefix, Selection>,

@@ -7,8 +7,8 @@ use babel_value::{Addr, Peer};
 /// For how many neighbours the place of their last update is known.
 const LANES: usize = 16;
 
-/// The places of an update in the tables, or how far they are from those of another, modulo 65,536. Each table has fewer
-/// places.
+/// The places of an update in the tables, or how far they are from those of another, modulo 65,536.
+/// Each table has fewer places.
 #[derive(Clone, Copy)]
 struct Places {
     entry: u16,
@@ -50,9 +50,9 @@ impl Places {
     }
 }
 
-/// In which order the updates of each neighbour came so far. It only matters for speed: a router sends its updates in the
-/// same order again and again, so the next one mostly is as far from this one as it was the last time. A datagram mostly
-/// goes on where the neighbour's last one ended.
+/// In which order the updates of each neighbour came so far. It only matters for speed: a router
+/// sends its updates in the same order again and again, so the next one mostly is as far from this
+/// one as it was the last time. A datagram mostly goes on where the neighbour's last one ended.
 #[derive(Drop)]
 pub struct Trail {
     /// Where the last update was.

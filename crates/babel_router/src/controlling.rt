@@ -79,8 +79,8 @@ impl Control {
         })
     }
 
-    /// Gives the lines of the log to the clients that are sent it, serves all of them once, and returns what one wants of the
-    /// speaker. Nothing changes in the speaker.
+    /// Gives the lines of the log to the clients that are sent it, serves all of them once, and
+    /// returns what one wants of the speaker. Nothing changes in the speaker.
     pub(crate) fn serve(
         &mut self,
         speaker: &Speaker,

@@ -1,5 +1,5 @@
-//! What the system reports of a device: its number, its link-local address, and whether anyone on this machine
-//! has joined the group of Babel routers on it.
+//! What the system reports of a device: its number, its link-local address, and whether anyone on
+//! this machine has joined the group of Babel routers on it.
 
 use crate::DeviceFault;
 use std::alloc::Global;
@@ -49,13 +49,13 @@ impl Lists {
         })
     }
 
-    /// The device of this name, if a speaker can send and receive over it. Of several link-local addresses it is the preferred
-    /// one, or else the first.
+    /// The device of this name, if a speaker can send and receive over it. Of several link-local
+    /// addresses it is the preferred one, or else the first.
     ///
     /// # Errors
     ///
-    /// The device has no link-local address, it isn't sure yet that the address is free, or nobody has joined the
-    /// group on it.
+    /// The device has no link-local address, it isn't sure yet that the address is free, or nobody
+    /// has joined the group on it.
     pub(crate) fn device(
         &self,
         name: &str,
@@ -96,8 +96,8 @@ fn read_list<F: Files>(alloc: Global, files: &F, path: &str) -> io::Result<Strin
     io::read_to_string(alloc, fs::open(files, path)?.take(MAX_LIST_LEN))
 }
 
-/// The device, and whether its address is tentative, if the line is of a link-local address of the device of this
-/// name.
+/// The device, and whether its address is tentative, if the line is of a link-local address of the
+/// device of this name.
 fn address_in(line: &str, name: &str) -> Option<(Device, bool)> {
     let mut fields = line.split_ascii_whitespace();
     // A field that is missing is empty, and so no number.

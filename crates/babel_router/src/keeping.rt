@@ -1,4 +1,5 @@
-//! A wire with the file in which the speaker's snapshot is kept, and the speaker that begins with it.
+//! A wire with the file in which the speaker's snapshot is kept, and the speaker that begins with
+//! it.
 
 ghost use Rattle.std.specs.Prelude.{◌≡◌};
 
@@ -15,7 +16,8 @@ use std::fs::Files;
 /// The moment at which a speaker is restored: the first one.
 const MOMENT: u64 = 0;
 
-/// A wire, and the file in which the snapshot is kept. Without a file nothing is kept over a restart.
+/// A wire, and the file in which the snapshot is kept. Without a file nothing is kept over a
+/// restart.
 #[derive(Drop)]
 pub(crate) struct KeptWire<'a, W: Wire + Drop, F: Files> {
     /// The wire.
@@ -98,8 +100,8 @@ impl From<StartFault> for RunFault {
     }
 }
 
-/// Locks the file, if there is to be one, and restores a speaker of the configuration from it. Without a file, or with a new one,
-/// the speaker is a new one too.
+/// Locks the file, if there is to be one, and restores a speaker of the configuration from it.
+/// Without a file, or with a new one, the speaker is a new one too.
 ///
 /// # Errors
 ///

@@ -1,5 +1,5 @@
-//! Speakers that run: a router on real links (RFC 8966, section 4), which is the command `run`, and a speaker over
-//! UDP and IPv4, the command `speak`.
+//! Speakers that run: a router on real links (RFC 8966, section 4), which is the command `run`, and
+//! a speaker over UDP and IPv4, the command `speak`.
 //!
 //! `speaking` is the command `speak`. Both have in common:
 //!

@@ -19,7 +19,8 @@ use std::time::{Clock, Duration, Instant};
 /// How many datagrams are taken before the other sources are looked at.
 const MAX_TAKEN: u32 = 64;
 
-/// How many events are looked at in one wait: two for each interface, the input, and those of other sources.
+/// How many events are looked at in one wait: two for each interface, the input, and those of other
+/// sources.
 const MAX_EVENTS: usize = 64;
 
 /// The token of the standard input. Those of sockets are twice their device's number, and one more.
@@ -156,12 +157,14 @@ impl<R: Clock, I: Read + AsRawFd> LinkWire<'_, R, I> {
         }
     }
 
-    /// Where other sources are registered, with tokens from `FIRST_OTHER` on. A turn ends its wait if one is ready.
+    /// Where other sources are registered, with tokens from `FIRST_OTHER` on. A turn ends its wait
+    /// if one is ready.
     pub(crate) fn registry(&self) -> &Registry {
         self.poll.registry()
     }
 
-    /// The other sources that were ready since this was asked last: bit `n` is that of the token `FIRST_OTHER + n`.
+    /// The other sources that were ready since this was asked last: bit `n` is that of the token
+    /// `FIRST_OTHER + n`.
     pub(crate) fn take_ready(&mut self) -> u64
         ensures { self.new.faults ≡ self.old.faults }
     {
@@ -170,7 +173,8 @@ impl<R: Clock, I: Read + AsRawFd> LinkWire<'_, R, I> {
         others
     }
 
-    /// Whether the devices have to be looked at: the input reports one, a socket failed, or it is time.
+    /// Whether the devices have to be looked at: the input reports one, a socket failed, or it is
+    /// time.
     pub(crate) fn has_to_look(&self) -> bool {
         self.is_disturbed || !self.heard.is_empty() || self.moment >= self.next_look
     }
@@ -185,7 +189,8 @@ impl<R: Clock, I: Read + AsRawFd> LinkWire<'_, R, I> {
         ensures { self.new.faults ≡ self.old.faults }
     {
         self.is_disturbed = false;
-        // A line that isn't whole yet is lost. The launcher writes each by one call, so there is none.
+        // A line that isn't whole yet is lost. The launcher writes each by one call, so there is
+        // none.
         self.heard.clear();
         let pause = if self.are_open() {
             LOOK_AGAIN
@@ -318,8 +323,8 @@ fn note_ready(links: &mut [Option<Sockets>], token: usize) {
     }
 }
 
-/// Takes a datagram that waits at a socket of one of the links. The one after the link that it came over is asked first
-/// the next time.
+/// Takes a datagram that waits at a socket of one of the links. The one after the link that it came
+/// over is asked first the next time.
 fn take(
     links: &mut [Option<Sockets>],
     first: &mut usize,
@@ -387,7 +392,8 @@ impl<R: Clock, I: Read + AsRawFd> Wire for LinkWire<'_, R, I> {
         }
     }
 
-    /// Sends to the group, or to one neighbour. Over a device that can't be used now nothing is sent.
+    /// Sends to the group, or to one neighbour. Over a device that can't be used now nothing is
+    /// sent.
     fn send(&mut self, target: &Target, octets: &[u8]) -> Result<(), WireFault> {
         if self.send_over(target, octets) {
             return Ok(());

@@ -53,8 +53,8 @@ pub(crate) struct Pace {
     came: u64,
     /// How many were taken in since the last turn.
     taken: u32,
-    /// What [`babel_speaker::Speaker::next_due`] returned when nothing was pending the last time. No
-    /// Hello is due earlier.
+    /// What [`babel_speaker::Speaker::next_due`] returned when nothing was pending the last time.
+    /// No Hello is due earlier.
     due: u64,
 }
 
@@ -64,8 +64,8 @@ impl Pace {
         matches!(&self.phase, Phase::Waiting | Phase::Pausing(_))
     }
 
-    /// The next step. `due` is what the speaker's `next_due` returns now: 0 if something is pending,
-    /// or if it doesn't matter.
+    /// The next step. `due` is what the speaker's `next_due` returns now: 0 if something is
+    /// pending, or if it doesn't matter.
     pub(crate) fn next(&mut self, due: u64, place: Place) -> Step {
         if due > 0 {
             self.due = due;

@@ -1,4 +1,5 @@
-//! What a speaker that runs prints: changes of selected routes, commands for `ip`, keeps that fail, and what was counted.
+//! What a speaker that runs prints: changes of selected routes, commands for `ip`, keeps that fail,
+//! and what was counted.
 
 use crate::DeviceFault;
 use crate::controlling::Control;
@@ -116,15 +117,16 @@ impl<'s, 'a, W: Write, E: Write> Printer<'s, 'a, W, E> {
         }
     }
 
-    /// A device may have another number. `ip` keeps the numbers that it has seen; this command lets it read them again.
+    /// A device may have another number. `ip` keeps the numbers that it has seen; this command lets
+    /// it read them again.
     fn list_devices(&mut self) {
         if self.commands.is_some() && self.written.is_ok() {
             self.written = writeln!(self.out, "link show").map_err(LineFault::of_writing);
         }
     }
 
-    /// Says what became of the device of this number. If it was opened again, `ip` lists the devices, and the kernel is
-    /// given the routes over it again.
+    /// Says what became of the device of this number. If it was opened again, `ip` lists the
+    /// devices, and the kernel is given the routes over it again.
     pub(crate) fn note_device(&mut self, number: usize, name: &str, note: Note) {
         self.note(name, note);
         if let Note::Opened = note {
@@ -157,7 +159,8 @@ impl<'s, 'a, W: Write, E: Write> Printer<'s, 'a, W, E> {
         write_if_some(&mut self.routes, speaker, moment, self.err)
     }
 
-    /// After the last turn: the kernel gets no route any more, and the table and the counts are written.
+    /// After the last turn: the kernel gets no route any more, and the table and the counts are
+    /// written.
     ///
     /// # Errors
     ///
@@ -255,8 +258,8 @@ fn write_table<W: Write>(
     }
 }
 
-/// Takes all routes of Babel away from the kernel. The first line is for IPv4 alone, in each table the second is for both
-/// families.
+/// Takes all routes of Babel away from the kernel. The first line is for IPv4 alone, in each table
+/// the second is for both families.
 fn flush_routes<W: Write>(out: &mut W) -> io::Result<()> {
     write!(
         out,

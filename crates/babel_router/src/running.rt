@@ -52,7 +52,8 @@ pub struct RunOptions<'a> {
     pub port: u16,
     /// After how many turns it ends.
     pub turns: u64,
-    /// Where the snapshot is kept before anything is sent. Without it nothing is kept over a restart.
+    /// Where the snapshot is kept before anything is sent. Without it nothing is kept over a
+    /// restart.
     pub keep: Option<Kept<'a>>,
     /// Where the control socket is. Without it nobody can ask the speaker anything.
     pub control: Option<ControlPlace<'a>>,
@@ -62,18 +63,20 @@ pub struct RunOptions<'a> {
     pub commands: Printed,
 }
 
-/// Runs a speaker on the devices until the input ends, and writes what was counted. With commands for `ip` the
-/// output has these alone, and all else is written to the standard error.
+/// Runs a speaker on the devices until the input ends, and writes what was counted. With commands
+/// for `ip` the output has these alone, and all else is written to the standard error.
 ///
-/// In each turn the snapshot is kept if it has changed, then changes of routes are written, and then datagrams are
-/// sent. If the snapshot can't be kept in the first turn the run ends, and nothing was sent. Later nothing is sent until
-/// it can be kept again; that is written to the standard error once. For a short time after datagrams were sent a turn
-/// only takes in what comes, unless something is due.
+/// In each turn the snapshot is kept if it has changed, then changes of routes are written, and
+/// then datagrams are sent. If the snapshot can't be kept in the first turn the run ends, and
+/// nothing was sent. Later nothing is sent until it can be kept again; that is written to the
+/// standard error once. For a short time after datagrams were sent a turn only takes in what comes,
+/// unless something is due.
 ///
 /// # Errors
 ///
-/// W6, W3, W4 or W5 for the first device that can't be used, C1 to C7, K10, K8, K9, K1 to K7, W2 and W7, before anything
-/// is sent. Then K9, L7 and L8, and C1 to C7 if a device gets another address.
+/// W6, W3, W4 or W5 for the first device that can't be used, C1 to C7, K10, K8, K9, K1 to K7, W2
+/// and W7, before anything is sent. Then K9, L7 and L8, and C1 to C7 if a device gets another
+/// address.
 pub fn run<R: AllocGlobal + Net + Clock + Files, I: Read + AsRawFd, W: Write, E: Write>(
     rt: &R,
     options: RunOptions<'_>,

@@ -30,7 +30,8 @@ pub(crate) const NUMBERED: RouteLines<'static> = RouteLines {
     names: &["0", "1", "2", "3", "4", "5", "6", "7"],
 };
 
-/// The metric of all routes that are given to the kernel: the kernel's own routes of a device are preferred to them.
+/// The metric of all routes that are given to the kernel: the kernel's own routes of a device are
+/// preferred to them.
 const KERNEL_METRIC: u16 = 1024;
 
 /// The name of an interface.
@@ -71,8 +72,8 @@ fn write_command<W: Write>(
     };
     let name = name_of(names, route.peer.iface);
     let next_hop = route.next_hop;
-    // An IPv4 prefix over a next hop of IPv6 needs the family named (RFC 9229); the others take it too.
-    // A neighbour's IPv4 address may be outside of the device's networks, as on links where
+    // An IPv4 prefix over a next hop of IPv6 needs the family named (RFC 9229); the others take it
+    // too. A neighbour's IPv4 address may be outside of the device's networks, as on links where
     // each address is a /32. The kernel refuses it without `onlink`.
     let (family, link) = match next_hop {
         Addr::V4(_) => ("inet", " onlink"),
@@ -136,7 +137,8 @@ struct PrintedRoute {
 pub(crate) struct Selections<'a> {
     lines: RouteLines<'a>,
     printed: Vec<PrintedRoute>,
-    /// The count of the speaker's routes when they were looked at last. They are looked at again only if it is another.
+    /// The count of the speaker's routes when they were looked at last. They are looked at again
+    /// only if it is another.
     version: Option<u64>,
 }
 
@@ -158,8 +160,8 @@ impl<'a> Selections<'a> {
         })
     }
 
-    /// Writes a line for each prefix whose selected route is another than the one that was printed last, in the order
-    /// of the prefixes, and flushes if there was one.
+    /// Writes a line for each prefix whose selected route is another than the one that was printed
+    /// last, in the order of the prefixes, and flushes if there was one.
     ///
     /// # Errors
     ///
@@ -215,7 +217,8 @@ impl<'a> Selections<'a> {
         Ok(())
     }
 
-    /// Writes the selected route of each prefix to which the speaker has a route, selected or not, for people.
+    /// Writes the selected route of each prefix to which the speaker has a route, selected or not,
+    /// for people.
     ///
     /// # Errors
     ///
@@ -278,8 +281,8 @@ fn insert_near(
     Ok(())
 }
 
-/// Writes a line for each of the prefixes whose selected route is another one, or that is doubtful, and flushes if there was
-/// one.
+/// Writes a line for each of the prefixes whose selected route is another one, or that is doubtful,
+/// and flushes if there was one.
 fn write_changed<W: Write>(
     lines: &RouteLines<'_>,
     printed: &mut [PrintedRoute],

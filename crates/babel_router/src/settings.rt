@@ -23,7 +23,8 @@ pub struct DeviceSettings<'a> {
 /// What is the same for all devices.
 #[derive(Clone, Copy)]
 pub struct Settings<'a> {
-    /// The router-id (RFC 8966, section 4.1.3). Without one it is the end of the first device's address.
+    /// The router-id (RFC 8966, section 4.1.3). Without one it is the end of the first device's
+    /// address.
     pub router_id: Option<[u8; 8]>,
     /// The prefixes that the speaker announces.
     pub prefixes: &'a [Prefix],
@@ -48,7 +49,8 @@ fn interface_id(address: [u8; 16]) -> [u8; 8] {
     [a, b, c, d, e, f, g, h]
 }
 
-/// The speaker's configuration. Each device sends over IPv6 to all routers of its link, so it has no peers.
+/// The speaker's configuration. Each device sends over IPv6 to all routers of its link, so it has
+/// no peers.
 pub(crate) fn config_of(
     alloc: Global,
     settings: Settings<'_>,

@@ -17,7 +17,8 @@ const GROUP: [u16; 8] = [0xff02, 0, 0, 0, 0, 0, 1, 6];
 #[derive(Drop)]
 pub(crate) struct Sockets {
     scope: u32,
-    /// Bound to the device's own address: all is sent from it, and datagrams for this router alone come to it.
+    /// Bound to the device's own address: all is sent from it, and datagrams for this router alone
+    /// come to it.
     pub(crate) own: Watched,
     /// Bound to the group, so that no datagram comes twice.
     pub(crate) group: Watched,
@@ -60,7 +61,8 @@ pub(crate) fn group_address() -> Ipv6Addr {
 }
 
 impl Sockets {
-    /// Opens the sockets of a device. `token` is that of its own socket, and the next one that of the group's.
+    /// Opens the sockets of a device. `token` is that of its own socket, and the next one that of
+    /// the group's.
     pub(crate) fn open<R: Net>(
         rt: &R,
         poll: &Poll,
@@ -115,7 +117,8 @@ fn bind<R: Net>(rt: &R, address: SocketAddrV6) -> io::Result<UdpSocket> {
     Ok(socket)
 }
 
-/// Takes a datagram that waits at the socket. One from another port is dropped (RFC 8966, section 4).
+/// Takes a datagram that waits at the socket. One from another port is dropped (RFC 8966, section
+/// 4).
 fn take_from(watched: &mut Watched, port: u16, buf: &mut [u8]) -> io::Result<Option<(Addr, usize)>>
     ensures { IfOk result (λ came. IfSome came (λ it. it.1 ≤ length buf.new)) }
 {

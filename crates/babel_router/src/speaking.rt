@@ -39,16 +39,16 @@ pub struct SpeakOptions<'a> {
     pub save: Option<&'a str>,
 }
 
-/// Runs a speaker of the configuration over UDP, one socket for each interface. With the file of a snapshot
-/// the speaker is restored from it. At the end a line with the counts is written.
+/// Runs a speaker of the configuration over UDP, one socket for each interface. With the file of a
+/// snapshot the speaker is restored from it. At the end a line with the counts is written.
 ///
-/// The speaker is saved after its last turn, also if writing to `out` failed and it was the last one for
-/// that reason. So nothing is sent after the save.
+/// The speaker is saved after its last turn, also if writing to `out` failed and it was the last
+/// one for that reason. So nothing is sent after the save.
 ///
 /// # Errors
 ///
-/// C1 to C6, W1, K8, K1 to K7, C7, W2, by the first cause in this order, before anything is sent. Then
-/// K9, L7 and L8.
+/// C1 to C6, W1, K8, K1 to K7, C7, W2, by the first cause in this order, before anything is sent.
+/// Then K9, L7 and L8.
 pub fn speak<R: AllocGlobal + Net + Clock + Files, S: Read + Drop, W: Write>(
     rt: &R,
     config: Config,
@@ -134,8 +134,8 @@ fn take_turns<R: Net + Clock, W: Write>(
     Ok(drive(speaker, wire, &mut buf, options.turns))
 }
 
-/// Drives the speaker turn by turn. After each one the changes of the selected routes are written, and at
-/// the end all of them.
+/// Drives the speaker turn by turn. After each one the changes of the selected routes are written,
+/// and at the end all of them.
 fn speak_with_routes<R: Net + Clock, W: Write>(
     alloc: Global,
     speaker: &mut Speaker,

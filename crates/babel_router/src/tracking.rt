@@ -89,7 +89,8 @@ impl<'a> Tracked<'a> {
         step
     }
 
-    /// Its sockets could not be opened; that is tried at the next look. Returns whether it is the first time.
+    /// Its sockets could not be opened; that is tried at the next look. Returns whether it is the
+    /// first time.
     pub(crate) fn fail(&mut self) -> bool {
         let is_first = !self.has_failed;
         self.state = Err(DeviceFault::Socket);
@@ -102,8 +103,8 @@ impl<'a> Tracked<'a> {
         self.has_failed = false;
     }
 
-    /// Takes the addresses that it has now for the speaker's configuration. Returns whether one is another. Those of a device that
-    /// can't be used stay as they are.
+    /// Takes the addresses that it has now for the speaker's configuration. Returns whether one is
+    /// another. Those of a device that can't be used stay as they are.
     pub(crate) fn take_addresses(&mut self) -> bool {
         let Ok(device) = self.state else {
             return false;
@@ -128,7 +129,8 @@ impl<'a> Tracked<'a> {
     }
 }
 
-/// Takes what the launcher reports: lines `NAME down`, `NAME up` and `NAME up ADDRESS/LENGTH`. Other lines are passed over.
+/// Takes what the launcher reports: lines `NAME down`, `NAME up` and `NAME up ADDRESS/LENGTH`.
+/// Other lines are passed over.
 pub(crate) fn hear(devices: &mut [Tracked<'_>], heard: &[u8]) {
     let Ok(text) = str::from_utf8(heard) else {
         return;

@@ -101,7 +101,8 @@ impl Router<'_, '_> {
         Ok(())
     }
 
-    /// Takes a turn, or only takes in what comes, and returns what was counted. `None`: the wire has failed too often.
+    /// Takes a turn, or only takes in what comes, and returns what was counted. `None`: the wire
+    /// has failed too often.
     fn take_step<'r, R: Net + Clock + Files, I: Read + AsRawFd, W: Write, E: Write>(
         &mut self,
         wire: &mut KeptWire<'r, LinkWire<'r, R, I>, R>,
@@ -184,7 +185,8 @@ impl Router<'_, '_> {
         control.serve(self.speaker, wire.wire.registry(), service)
     }
 
-    /// Opens and closes the sockets of devices that have changed. If an address is another one, the speaker starts again.
+    /// Opens and closes the sockets of devices that have changed. If an address is another one, the
+    /// speaker starts again.
     fn look_at_devices<R: Net + Clock + Files, I: Read + AsRawFd, W: Write, E: Write>(
         &mut self,
         wire: &mut LinkWire<'_, R, I>,

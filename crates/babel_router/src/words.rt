@@ -32,7 +32,8 @@ pub struct RunWords<'a> {
     pub router_id: Option<&'a str>,
     /// The prefixes that the speaker announces, besides those of the file.
     pub announce: &'a [&'a str],
-    /// The IPv4 addresses of devices, each as `eth0=192.168.0.1/24`. One of the file comes before them.
+    /// The IPv4 addresses of devices, each as `eth0=192.168.0.1/24`. One of the file comes before
+    /// them.
     pub ipv4: &'a [&'a str],
     /// The nominal cost of receiving over a device that has none in the file.
     pub cost: Option<u16>,

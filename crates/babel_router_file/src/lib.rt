@@ -1,7 +1,7 @@
 //! The file of `run --config`: what a router is, and its settings by device.
 //!
-//! `keys` has the keys of the file's tables and what their values are, `problems` the first fault of a file, and `reading` what is
-//! read of a file without one.
+//! `keys` has the keys of the file's tables and what their values are, `problems` the first fault
+//! of a file, and `reading` what is read of a file without one.
 #![tactic(auto)]
 
 mod keys;

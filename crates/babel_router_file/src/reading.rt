@@ -60,8 +60,9 @@ impl RouterFile {
 ///
 /// # Errors
 ///
-/// F5 if there are more than 1,048,576 octets, F1 if they are no TOML, F2 for a key or a value of the wrong kind, F3 for a
-/// text that can't be read, by the first problem in the order of the keys, F4 if an allocation fails.
+/// F5 if there are more than 1,048,576 octets, F1 if they are no TOML, F2 for a key or a value of
+/// the wrong kind, F3 for a text that can't be read, by the first problem in the order of the keys,
+/// F4 if an allocation fails.
 pub fn read_router_file(alloc: Global, octets: &[u8]) -> Result<RouterFile, FileFault> {
     if octets.len() > MAX_FILE_LEN {
         return Err(FileFault::Unreadable);

@@ -8,8 +8,8 @@ use std::alloc::{AllocError, Global};
 /// The nominal cost of the interface of a node without links.
 const UNUSED_COST: u16 = 96;
 
-/// The IPv6 address of an interface of a speaker: fe80::X:Y, where X is the number of the speaker, and Y that of the interface
-/// from 1 on.
+/// The IPv6 address of an interface of a speaker: fe80::X:Y, where X is the number of the speaker,
+/// and Y that of the interface from 1 on.
 pub fn address_of(speaker: usize, iface: usize) -> Addr {
     Addr::V6(ipv6_of(speaker, iface))
 }
@@ -69,11 +69,12 @@ fn add_prefix(prefixes: &mut Vec<Prefix>, prefix: Prefix) -> Result<(), AllocErr
     Ok(())
 }
 
-/// Adds the node that each speaker of the network runs: a speaker for each node, and one for each time that a node begins again with
-/// nothing.
+/// Adds the node that each speaker of the network runs: a speaker for each node, and one for each
+/// time that a node begins again with nothing.
 ///
-/// A node that begins again with nothing isn't the router that it was: it has another router-id and other addresses, as RFC 8966,
-/// section 3.2.2, advises routers that keep no seqno. So it is another speaker of the network, which has run nothing until then.
+/// A node that begins again with nothing isn't the router that it was: it has another router-id and
+/// other addresses, as RFC 8966, section 3.2.2, advises routers that keep no seqno. So it is
+/// another speaker of the network, which has run nothing until then.
 pub(crate) fn add_speakers(
     topology: &Topology,
     speakers: &mut Vec<usize>,
@@ -160,7 +161,8 @@ fn prefixes_at(
     Ok(prefixes)
 }
 
-/// The node's router-id. A later speaker of the node has another one, which no node has by its number.
+/// The node's router-id. A later speaker of the node has another one, which no node has by its
+/// number.
 fn router_id_of(node: &Node, speaker: usize, number: usize) -> [u8; 8] {
     let mut router_id = node.router_id;
     if speaker != number {

@@ -1,8 +1,10 @@
-//! Simulated networks: a topology with its plan is run as a [`Network`](babel_net::Network), event by event.
+//! Simulated networks: a topology with its plan is run as a [`Network`](babel_net::Network), event
+//! by event.
 //!
-//! The engine makes the events: it ticks each node when it is due, takes what the node sends, and delivers it over the links that
-//! are there. So each run is one of the runs that the theorem of loop freedom is about. The same seed gives the same run. What is
-//! known of a run in the end, and its texts, are in `babel_outcome`.
+//! The engine makes the events: it ticks each node when it is due, takes what the node sends, and
+//! delivers it over the links that are there. So each run is one of the runs that the theorem of
+//! loop freedom is about. The same seed gives the same run. What is known of a run in the end, and
+//! its texts, are in `babel_outcome`.
 //!
 //! - `options` has what a run may be asked for, and `errors` why it ends early.
 //! - `building` makes the speakers of a topology and their configurations.

@@ -98,7 +98,8 @@ impl Moment {
         HopKind::Loop
     }
 
-    /// The cost of a shortest way from each node to one that announces the prefix. Without a way it is 65535.
+    /// The cost of a shortest way from each node to one that announces the prefix. Without a way it
+    /// is 65535.
     pub(crate) fn distances(&self, alloc: Global, prefix: usize) -> Result<Vec<u64>, AllocError> {
         let origins = self.origins(alloc, prefix)?;
         let edges = self.edges(alloc)?;

@@ -32,7 +32,8 @@ pub(crate) enum Search {
     Done,
 }
 
-/// The cost of a shortest way from each node to an origin. It is 65535 if there is no way that costs less.
+/// The cost of a shortest way from each node to an origin. It is 65535 if there is no way that
+/// costs less.
 pub fn shortest_ways(
     alloc: Global,
     origins: &[bool],
@@ -97,7 +98,8 @@ fn relax(distances: &mut [u64], edge: &Edge) -> bool
     lower(distances, edge.b, edge.a, edge.cost)
 }
 
-/// Lowers the distance of a node to that over its neighbour, if this is less. Returns whether it is.
+/// Lowers the distance of a node to that over its neighbour, if this is less. Returns whether it
+/// is.
 fn lower(distances: &mut [u64], node: usize, next: usize, cost: u16) -> bool
     ensures shorter { IsTrue result → IsShorter distances.old node next cost }
     ensures lowered { IsTrue result → distances.new ≡ slice_set distances.old node (slice_index distances.old next + cost) }

@@ -47,7 +47,8 @@ pub struct Simulation<'a> {
 }
 
 impl<'a> Simulation<'a> {
-    /// A network of the topology. Each node begins within its first Hello interval, at a moment from the seed.
+    /// A network of the topology. Each node begins within its first Hello interval, at a moment
+    /// from the seed.
     ///
     /// # Errors
     ///
@@ -90,7 +91,8 @@ impl<'a> Simulation<'a> {
         self.add_nodes()
     }
 
-    /// What the topology plans and expects happens at its moments: at one moment first the expectations, and then the steps.
+    /// What the topology plans and expects happens at its moments: at one moment first the
+    /// expectations, and then the steps.
     fn add_plan(&mut self) -> Result<(), AllocError> {
         let topology = self.topology;
         for (number, expectation) in topology.expectations.iter().enumerate() {
@@ -153,8 +155,8 @@ impl<'a> Simulation<'a> {
     ///
     /// # Errors
     ///
-    /// `Limit` if what is recorded takes more memory than it may, `Step` if the network refuses an event, `Memory` if an
-    /// allocation fails.
+    /// `Limit` if what is recorded takes more memory than it may, `Step` if the network refuses an
+    /// event, `Memory` if an allocation fails.
     pub fn advance(&mut self) -> Result<Progress, SimulationFault> {
         let Some((at, entry)) = self.agenda.pop() else {
             return Ok(Progress::Ended);
@@ -175,8 +177,9 @@ impl<'a> Simulation<'a> {
         Ok(Progress::At(at))
     }
 
-    /// How many octets of memory the record of the datagrams and what else grows with the run take, at most. The network
-    /// records each datagram, since the theorem speaks of all that were ever sent. A list that grows has twice its room.
+    /// How many octets of memory the record of the datagrams and what else grows with the run take,
+    /// at most. The network records each datagram, since the theorem speaks of all that were ever
+    /// sent. A list that grows has twice its room.
     fn memory(&self) -> u64 {
         let recorded = self
             .sent

@@ -185,8 +185,8 @@ impl Simulation<'_> {
         Ok(())
     }
 
-    /// A speaker that begins announces the prefixes of its configuration, and its interfaces have the costs that are there. Those
-    /// that the plan has changed are changed again.
+    /// A speaker that begins announces the prefixes of its configuration, and its interfaces have
+    /// the costs that are there. Those that the plan has changed are changed again.
     pub(crate) fn restore_settings(&mut self, node: usize) -> Result<(), SimulationFault> {
         let speaker = self.speaker_of(node);
         for index in 0..self.outcome.prefixes.len() {

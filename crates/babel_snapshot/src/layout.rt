@@ -1,5 +1,5 @@
-//! The layout of a snapshot. Lengths and offsets are in octets, and numbers have the most significant octet
-//! first.
+//! The layout of a snapshot. Lengths and offsets are in octets, and numbers have the most
+//! significant octet first.
 
 /// The first octets of each snapshot, "BBS1".
 pub(crate) const BEGINNING: [u8; 4] = [0x42, 0x42, 0x53, 0x31];

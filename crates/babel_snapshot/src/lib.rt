@@ -1,5 +1,5 @@
-//! What a speaker keeps over a restart, as octets: its router-id, its own seqno, how often that grew, and
-//! its source table (RFC 8966, sections 3.2.2 and 3.2.5).
+//! What a speaker keeps over a restart, as octets: its router-id, its own seqno, how often that
+//! grew, and its source table (RFC 8966, sections 3.2.2 and 3.2.5).
 //!
 //! - `layout`: the lengths and offsets, which reader and writer share.
 //! - `records`: one source and its distance.

@@ -155,7 +155,8 @@ impl<'a> SavedState<'a> {
         BigEndian::read_u64(&self.octets[RAISES..])
     }
 
-    /// The number of sources. They are in order and find room in a source table, and all numbers fit.
+    /// The number of sources. They are in order and find room in a source table, and all numbers
+    /// fit.
     #[tactic(auto, using(crate::proofs::SnapshotsRead::sources_len, crate::proofs::SnapshotsRead::read_snapshot), unfolding(crate::specs::Reading::snapshot_in))]
     pub fn len(&self) -> usize
         ensures len { result ≡ length self.now.sources }

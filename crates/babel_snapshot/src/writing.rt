@@ -109,8 +109,8 @@ fn write_head(
     out.extend_from_slice(&two(count))
 }
 
-/// The snapshot of a speaker with this router-id, own seqno, count of raises and source table. There is one
-/// allocation, of the snapshot's length.
+/// The snapshot of a speaker with this router-id, own seqno, count of raises and source table.
+/// There is one allocation, of the snapshot's length.
 #[tactic(auto, unfolding(crate::specs::Octets::snapshot_octets))]
 pub fn save(
     alloc: Global,

@@ -3,8 +3,8 @@
 use babel_state::RestoreFault;
 use std::fmt;
 
-/// The code of a fault as text: `K1` to `K7`, with the number of the record after `K6` and `K7`, or `C1`
-/// to `C7`.
+/// The code of a fault as text: `K1` to `K7`, with the number of the record after `K6` and `K7`, or
+/// `C1` to `C7`.
 #[derive(Clone, Copy)]
 pub struct RestoreCode {
     /// The fault.

@@ -27,8 +27,9 @@ impl LockFile for File {
     }
 }
 
-/// Takes the lock of the snapshot's file: the file with `.lock` at the end of its name, which is made if it isn't
-/// there, and never renamed or removed. The lock is held as long as what is returned.
+/// Takes the lock of the snapshot's file: the file with `.lock` at the end of its name, which is
+/// made if it isn't there, and never renamed or removed. The lock is held as long as what is
+/// returned.
 ///
 /// # Errors
 ///

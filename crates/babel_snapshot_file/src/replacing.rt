@@ -11,13 +11,14 @@ const TEMPORARY_END: &str = ".tmp";
 
 /// Makes a file of the octets, in place of the one that may be there.
 ///
-/// They are written to a temporary file next to it, whose name has `.tmp` at its end, and synced. Then
-/// that file gets the name. So whenever a crash comes, the file has its old octets or all of the new ones.
+/// They are written to a temporary file next to it, whose name has `.tmp` at its end, and synced.
+/// Then that file gets the name. So whenever a crash comes, the file has its old octets or all of
+/// the new ones.
 ///
 /// # Errors
 ///
-/// K9 if something other than a file has the name, or if a step fails; L8 if an allocation fails. Then
-/// the file is as it was.
+/// K9 if something other than a file has the name, or if a step fails; L8 if an allocation fails.
+/// Then the file is as it was.
 pub fn replace_file<F: Files>(
     alloc: Global,
     files: &F,
@@ -25,7 +26,8 @@ pub fn replace_file<F: Files>(
     octets: &[u8],
 ) -> Result<(), SnapshotFileFault> {
     replace(alloc, files, path, octets)?;
-    // Some file systems can't sync a folder. After a crash the file is whole then too, the old or the new.
+    // Some file systems can't sync a folder. After a crash the file is whole then too, the old or
+    // the new.
     let _ = sync_folder(files, path);
     Ok(())
 }
@@ -34,8 +36,8 @@ pub fn replace_file<F: Files>(
 ///
 /// # Errors
 ///
-/// Those of [`replace_file`], and K9 if the folder can't be synced: then the file has the new octets, but after a
-/// crash it may have the old ones.
+/// Those of [`replace_file`], and K9 if the folder can't be synced: then the file has the new
+/// octets, but after a crash it may have the old ones.
 pub(crate) fn keep_file<F: Files>(
     alloc: Global,
     files: &F,

@@ -42,8 +42,8 @@ where
     ///
     /// # Errors
     ///
-    /// K10 if another process keeps the file. K8 if it is to be there and can't be read, K9 if it isn't and is, or if the
-    /// lock can't be made. L8 if an allocation fails.
+    /// K10 if another process keeps the file. K8 if it is to be there and can't be read, K9 if it
+    /// isn't and is, or if the lock can't be made. L8 if an allocation fails.
     pub fn open(
         alloc: Global,
         files: &'a F,
@@ -76,8 +76,8 @@ where
     ///
     /// # Errors
     ///
-    /// K9 if a step fails, also the sync of the folder: then the file has the old octets or the new ones. L8 if an
-    /// allocation fails.
+    /// K9 if a step fails, also the sync of the folder: then the file has the old octets or the new
+    /// ones. L8 if an allocation fails.
     pub fn keep(&self, octets: &[u8]) -> Result<(), SnapshotFileFault> {
         keep_file(self.alloc, self.files, self.path, octets)
     }

@@ -1,5 +1,6 @@
-//! The table that the source table is kept in. It is a type of its own, so that a proof about a call over any
-//! table takes it by its name: as an alias of `SortedTable` each such call of a speaker takes seconds.
+//! The table that the source table is kept in. It is a type of its own, so that a proof about a
+//! call over any table takes it by its name: as an alias of `SortedTable` each such call of a
+//! speaker takes seconds.
 
 ghost use Rattle.babel_table.specs.Digits.{binary_digits};
 

@@ -98,8 +98,8 @@ impl<T: Table<Source, SourceEntry>> SourcesOver<T> {
         find_in(&self.table, source).map(|source_entry| source_entry.distance)
     }
 
-    /// The same. The search begins near an index, which becomes that of the source, or the one at which it would
-    /// be inserted.
+    /// The same. The search begins near an index, which becomes that of the source, or the one at
+    /// which it would be inserted.
     #[inline(always)]
     pub fn pair_near(&self, source: &Source, near: &mut usize) -> Option<Distance>
         ensures { result ≡ pair_of source.now self.now }
@@ -167,8 +167,8 @@ impl<T: Table<Source, SourceEntry>> SourcesOver<T> {
         }
     }
 
-    /// The same, and it returns the pair that the source had before. The search begins near an index, which becomes one
-    /// near that of the source.
+    /// The same, and it returns the pair that the source had before. The search begins near an
+    /// index, which becomes one near that of the source.
     pub fn lower_near(
         &mut self,
         now: u64,
@@ -193,8 +193,8 @@ impl<T: Table<Source, SourceEntry>> SourcesOver<T> {
         }
     }
 
-    /// Removes each entry whose time of collection has come (RFC 8966, section 3.2.5). Returns whether there
-    /// was one. Before the first such moment it looks at no entry.
+    /// Removes each entry whose time of collection has come (RFC 8966, section 3.2.5). Returns
+    /// whether there was one. Before the first such moment it looks at no entry.
     pub fn collect(&mut self, now: u64) -> bool
         ensures sources { self.new ≡ collected now self.old }
         ensures removed { IsTrue result → length self.new < length self.old }
@@ -210,8 +210,8 @@ impl<T: Table<Source, SourceEntry>> SourcesOver<T> {
 }
 
 impl SourcesOver<SourceTable> {
-    /// The pair of a source, usually given as a `&Source`. The look-up takes at most as many steps as
-    /// the number of entries has binary digits.
+    /// The pair of a source, usually given as a `&Source`. The look-up takes at most as many steps
+    /// as the number of entries has binary digits.
     pub fn get<L: Ledger, S: Sought<L, Source>>(
         &self,
         source: &S,

@@ -27,6 +27,7 @@ pub mod TickLists
 pub mod QuietTicks
 pub mod Settling
 pub mod LinkChanges
+pub mod SelectionChanges
 pub mod StaleReselections
 pub mod RoutesKept
 pub mod Expiries

@@ -1,15 +1,18 @@
 -- What leaves the selected routes as they are.
-use Rattle.std.specs.Prelude.{◌≡◌, ℕ, Bool, true, false, not, IsTrue, IsFalse, List, [], Option}
-use Rattle.std.proofs.Common.{refl, sym, ◌∙◌, ap, true≢false}
+use Rattle.std.specs.Prelude.{◌≡◌, ℕ, Bool, true, false, not, IsTrue, IsFalse, List, []}
+use Rattle.std.proofs.Common.{refl, ◌∙◌, ap, true≢false}
 use Rattle.babel_value.specs.declared.keys.Peer.{Peer}
 use Rattle.babel_value.specs.Prefixes.{PrefixValue}
 use Rattle.babel_link.specs.Neighbours.{Links, cost_of}
-use Rattle.babel_choice.specs.declared.entries.Selection.{Selection}
+use Rattle.babel_route.specs.declared.routes.changes.Report.TheVariants.{Alike}
+use Rattle.babel_route.specs.declared.routes.changes.SelectionChange.{SelectionChange}
+use Rattle.babel_route.specs.SelectionChanges.{selection_change}
 use Rattle.babel_choice.specs.Routes.{RouteEntries}
 use Rattle.babel_state.specs.State.{State, PrefixSet, prefixes_in, nominal_cost, cost_at, selected_at, with_entries}
 use Rattle.babel_state.specs.Reselection.{select, reselect_each}
 use Rattle.babel_state.specs.Ticks.{forget_each, requests_ticked, interfaces_ticked, sources_ticked}
-use Rattle.babel_state.specs.KeptRoutes.{KeepsRoutes, are_alike}
+use Rattle.babel_state.specs.KeptRoutes.{KeepsRoutes}
+use Rattle.babel_speaker.proofs.SelectionChanges.{alike_of}
 use Rattle.babel_state.proofs.KeptRoutes.{parts_routes, routes_through, selected_routes, timers_routes}
 
 -- If it is false that the flag isn't set, it is set.
@@ -21,11 +24,13 @@ so false is = absurd (true≢false is)
 pub none_reselected : (now : ℕ) (s t : State) (set : PrefixSet) → t ≡ reselect_each now (prefixes_in set) s → set ≡ [] → t ≡ s
 none_reselected now s t set is none = is ∙ ap (λ (ps : PrefixSet). reselect_each now (prefixes_in ps) s) none
 
--- An update was stored, and its prefix selected again. The new selection is like the old one; what follows changes no route.
-pub stored_routes : (prefix : PrefixValue) (entries : RouteEntries) (s t u : State) (old new : Option Selection) (alike : Bool) → t ≡ select prefix (with_entries entries s) →
-    old ≡ selected_at prefix s → new ≡ selected_at prefix t → alike ≡ are_alike old new → IsFalse (not alike) → KeepsRoutes t u → KeepsRoutes s u
-stored_routes prefix entries s t u old new alike is before after same unchanged kept =
-    routes_through s t u (selected_routes prefix entries s t old new is before after (sym same ∙ so alike unchanged)) kept
+-- An update was stored, and its prefix selected again. The same is reported of the new selection; what follows changes no route.
+pub stored_routes : (prefix : PrefixValue) (entries : RouteEntries) (s t u : State) (change : SelectionChange) → t ≡ select prefix (with_entries entries s) →
+    change ≡ selection_change (selected_at prefix s) (selected_at prefix t) → change.report ≡ Alike → KeepsRoutes t u → KeepsRoutes s u
+stored_routes prefix entries s t u change is changed alike kept =
+    let old = selected_at prefix s in
+    let new = selected_at prefix t in
+    routes_through s t u (selected_routes prefix entries s t old new is refl refl (alike_of old new change changed alike)) kept
 
 -- A tick flushes no neighbour and changes no cost.
 pub ticked_routes : (s t : State) (links : Links) (gone : List Peer) → t ≡ forget_each gone (record s { neighbours = links }) →

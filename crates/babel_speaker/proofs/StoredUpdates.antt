@@ -12,7 +12,7 @@ use Rattle.babel_state.specs.State.{State, selected_at}
 use Rattle.babel_state.specs.Reselection.{UnfeasibleUpdate, select, follow_up, reselect}
 use Rattle.babel_state.specs.Updates.{satisfy_request, handle_feasible, handle_unfeasible, judge}
 
-reselected_stored : (now : ℕ) (cause : Option UnfeasibleUpdate) (prefix : PrefixValue) (s t u : State) (old new : Option Selection) →
+pub reselected_stored : (now : ℕ) (cause : Option UnfeasibleUpdate) (prefix : PrefixValue) (s t u : State) (old new : Option Selection) →
     t ≡ select prefix s → old ≡ selected_at prefix s → new ≡ selected_at prefix t → u ≡ follow_up now cause prefix old new t → u ≡ reselect now cause prefix s
 unfolding reselect
 reselected_stored now cause prefix s t u old new is before after followed =

@@ -38,8 +38,9 @@ pub(crate) fn decoded_are_encodable(octets: &[u8], source: &Addr)
     decoded_are_sendable();
 }
 
-/// A datagram that is decoded: its source address, and what its octets mean. A caller that needs the messages itself
-/// decodes the datagram once, and passes it to [`Speaker::receive_decoded`](crate::Speaker::receive_decoded).
+/// A datagram that is decoded: its source address, and what its octets mean. A caller that needs
+/// the messages itself decodes the datagram once, and passes it to
+/// [`Speaker::receive_decoded`](crate::Speaker::receive_decoded).
 #[derive(Drop)]
 pub struct Decoded {
     source: Addr,

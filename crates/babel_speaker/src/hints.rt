@@ -15,7 +15,8 @@ use std::mem;
 /// The most TLVs for which a kept list has room: 8 KiB.
 const MOST_KEPT: usize = 128;
 
-/// What speeds calls up, and what they note of their changes. The state that a call leaves doesn't depend on it.
+/// What speeds calls up, and what they note of their changes. The state that a call leaves doesn't
+/// depend on it.
 #[derive(Drop)]
 pub struct Hints {
     /// The speaker is settled: each of its selections is known to be current.
@@ -30,7 +31,8 @@ pub struct Hints {
     pub gone: ArrayVec<Peer, MAX_NEIGHBOURS>,
     /// The order in which neighbours send their updates.
     pub trail: Trail,
-    /// What the last datagram meant. The list is kept, so that the next datagram mostly allocates none.
+    /// What the last datagram meant. The list is kept, so that the next datagram mostly allocates
+    /// none.
     pub placed: Vec<Placed>,
     /// Where the searches of an update, or of the items of a datagram, begin.
     pub cursor: Cursor,

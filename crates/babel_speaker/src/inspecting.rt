@@ -40,7 +40,8 @@ impl Speaker {
         self.core.seqno
     }
 
-    /// The interface of the number, with its cost, its addresses and its timers (RFC 8966, section 3.2.3).
+    /// The interface of the number, with its cost, its addresses and its timers (RFC 8966, section
+    /// 3.2.3).
     pub fn interface(&self, iface: u8) -> Option<InterfaceEntry>
         ensures { result ≡ interface_at iface self.now.state }
     {
@@ -85,8 +86,8 @@ impl Speaker {
         self.core.announced.prefixes()
     }
 
-    /// The pending request for a seqno whose source exactly `place` others come before (RFC 8966, section
-    /// 3.2.7).
+    /// The pending request for a seqno whose source exactly `place` others come before (RFC 8966,
+    /// section 3.2.7).
     pub fn request(&self, place: usize) -> Option<(Source, PendingRequest)>
         ensures { result ≡ slice_get self.now.state.requests place }
     {

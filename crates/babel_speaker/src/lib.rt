@@ -1,7 +1,8 @@
-//! A speaker of the Babel routing protocol (RFC 8966). The definitions of its state and of its steps are those of
-//! `babel_state`.
+//! A speaker of the Babel routing protocol (RFC 8966). The definitions of its state and of its
+//! steps are those of `babel_state`.
 //!
-//! - `speaker`: the calls, over the state and the `hints`, which only speed it up; `inspecting` is what the calls report.
+//! - `speaker`: the calls, over the state and the `hints`, which only speed it up; `inspecting` is
+//!   what the calls report.
 //! - `input`: datagrams, their messages, and the steps that each message makes.
 //! - `ticks`: what is due at a moment, and when the next thing is.
 //! - `output`: pending items, the messages that they mean, and the next datagram.

@@ -1,5 +1,5 @@
-//! The speaker: its calls, from moments and octets to octets. Each call's meaning is its definition in
-//! `babel_state`.
+//! The speaker: its calls, from moments and octets to octets. Each call's meaning is its definition
+//! in `babel_state`.
 
 ghost use Rattle.std.specs.Prelude.{◌≡◌, ◌≢◌, ◌≤◌, ◌<◌, ◌↔◌, ℕ, [], true, false, Ok, Some, length, slice_get, IsOk, IsErr, IsNone, IfOk, IfErr, IfSome, OnOk, OnErr, option_map};
 ghost use Rattle.babel_packet.specs.Meaning.{meaning};
@@ -57,12 +57,14 @@ use std::marker::Model;
 /// A speaker of the Babel routing protocol (RFC 8966). Moments are centiseconds that the caller
 /// passes.
 ///
-/// It counts how often its selected routes and its snapshot may have changed. A caller that reports the routes, or writes
-/// the snapshot to a disk, does so again only if the count is another, or `u64::MAX`.
+/// It counts how often its selected routes and its snapshot may have changed. A caller that reports
+/// the routes, or writes the snapshot to a disk, does so again only if the count is another, or
+/// `u64::MAX`.
 ///
-/// Its state is well formed: tables are in order and within their room, costs are positive, and each
-/// selected route is an entry of the route table and a candidate. If it is settled, each of its selections is current:
-/// Hellos and IHUs that change no cost, and ticks in which no deadline is due, then select no route again.
+/// Its state is well formed: tables are in order and within their room, costs are positive, and
+/// each selected route is an entry of the route table and a candidate. If it is settled, each of
+/// its selections is current: Hellos and IHUs that change no cost, and ticks in which no deadline
+/// is due, then select no route again.
 #[derive(Drop)]
 pub struct Speaker {
     alloc: Global,
@@ -133,8 +135,8 @@ impl Speaker {
         }
     }
 
-    /// The speaker's router-id, its own seqno, how often that grew, and its source table, as octets that
-    /// [`Speaker::restore`] reads.
+    /// The speaker's router-id, its own seqno, how often that grew, and its source table, as octets
+    /// that [`Speaker::restore`] reads.
     ///
     /// # Errors
     ///
@@ -147,14 +149,14 @@ impl Speaker {
         Ok(octets)
     }
 
-    /// A speaker of the configuration with the seqno, the count of raises and the source table that were
-    /// saved. Each source counts as sent at the moment `now`. Routes, neighbours, requests and pending
-    /// items aren't kept.
+    /// A speaker of the configuration with the seqno, the count of raises and the source table that
+    /// were saved. Each source counts as sent at the moment `now`. Routes, neighbours, requests and
+    /// pending items aren't kept.
     ///
     /// # Errors
     ///
-    /// The first of C1 to C6 that the configuration has, then the first of K1 to K7 that the octets have.
-    /// C7 if there is none and an allocation fails.
+    /// The first of C1 to C6 that the configuration has, then the first of K1 to K7 that the octets
+    /// have. C7 if there is none and an allocation fails.
     pub fn restore(
         alloc: Global,
         config: Config,
@@ -221,9 +223,9 @@ impl Speaker {
         }
     }
 
-    /// Takes a datagram that came over the interface from the source address at the moment `now`. There
-    /// is a note for each TLV. The refusals S1 to S3 come before those of the datagram itself, and the
-    /// memory is allocated before anything changes.
+    /// Takes a datagram that came over the interface from the source address at the moment `now`.
+    /// There is a note for each TLV. The refusals S1 to S3 come before those of the datagram
+    /// itself, and the memory is allocated before anything changes.
     pub fn receive(
         &mut self,
         now: u64,
@@ -244,10 +246,10 @@ impl Speaker {
         let alloc = self.alloc;
         let addr = source;
         let peer = Peer { iface, addr };
-        let arrival = Arrival { now, peer };
+        let arrival = Arrival { time: now, peer };
         let (seqno, raises) = own_seqno(&self.core);
         self.hints.changed = false;
-        let notes = match receive(&mut self.core, alloc, arrival, octets, &mut self.hints) {
+        let notes = match receive(&mut self.core, alloc, &arrival, octets, &mut self.hints) {
             Ok(notes) => notes,
             Err(fault) => return Err(fault),
         };
@@ -279,11 +281,17 @@ impl Speaker {
             iface,
             addr: source,
         };
-        let arrival = Arrival { now, peer };
+        let arrival = Arrival { time: now, peer };
         let placed = decoded.placed();
         let (seqno, raises) = own_seqno(&self.core);
         self.hints.changed = false;
-        let notes = match receive_decoded(&mut self.core, alloc, arrival, placed, &mut self.hints) {
+        let notes = match receive_decoded(
+            &mut self.core,
+            alloc,
+            &arrival,
+            placed,
+            &mut self.hints,
+        ) {
             Ok(notes) => notes,
             Err(fault) => return Err(fault),
         };
@@ -309,14 +317,16 @@ impl Speaker {
         self.snapshot = counted(self.snapshot, !settled);
     }
 
-    /// The moment before which a tick changes nothing: until then a caller need only wait for datagrams.
+    /// The moment before which a tick changes nothing: until then a caller need only wait for
+    /// datagrams.
     ///
-    /// It is 0 if an item is pending, since it may be sent at once, and if a selection isn't current, since a tick
-    /// selects again. Else it is the least deadline of the interfaces, neighbours, routes and pending requests, and
-    /// of the sources if they are collected. If there is none, it is `u64::MAX`.
+    /// It is 0 if an item is pending, since it may be sent at once, and if a selection isn't
+    /// current, since a tick selects again. Else it is the least deadline of the interfaces,
+    /// neighbours, routes and pending requests, and of the sources if they are collected. If there
+    /// is none, it is `u64::MAX`.
     ///
-    /// It is one walk over these tables, and takes no memory. If the speaker isn't known to be settled, which is
-    /// rare after a tick, it also tests the selection of each prefix.
+    /// It is one walk over these tables, and takes no memory. If the speaker isn't known to be
+    /// settled, which is rare after a tick, it also tests the selection of each prefix.
     pub fn next_due(&self) -> u64
         ensures idle { (now : ℕ) → now < result → ticked now self.now.state ≡ self.now.state }
         ensures pending { self.now.state.pending.items ≢ [] → result ≡ 0 }
@@ -341,7 +351,8 @@ impl Speaker {
         self.snapshot = counted(self.snapshot, true);
     }
 
-    /// Sets the nominal cost of an interface (RFC 8966, appendix A.2.1): E1 or E2 is the first cause.
+    /// Sets the nominal cost of an interface (RFC 8966, appendix A.2.1): E1 or E2 is the first
+    /// cause.
     pub fn set_cost(&mut self, iface: u8, cost: u16) -> Result<(), SetCostFault>
         ensures refused { IsOk result ↔ IsNone (set_cost_fault iface cost self.old.state) }
         ensures cause { IfErr result (λ fault. set_cost_fault iface cost self.old.state ≡ Some fault) }
@@ -455,9 +466,9 @@ impl Speaker {
         crate::state::settings::selected_route(&self.core, prefix)
     }
 
-    /// The same as `selected`, in fewer steps if the prefixes that are asked for rise. The search begins at the index
-    /// `near` of the selections, 0 at first, and leaves there where the next greater prefix is searched for. Any index
-    /// gives the same route.
+    /// The same as `selected`, in fewer steps if the prefixes that are asked for rise. The search
+    /// begins at the index `near` of the selections, 0 at first, and leaves there where the next
+    /// greater prefix is searched for. Any index gives the same route.
     #[inline]
     pub fn selected_near(&self, prefix: &Prefix, near: &mut usize) -> Option<Selected>
         ensures { result ≡ selected_route prefix.now self.now.state }
@@ -472,15 +483,16 @@ impl Speaker {
         self.core.routes.selection_at(place)
     }
 
-    /// The cost of the link to a neighbour, as of now: infinite if it is none (RFC 8966, section 3.4.3).
+    /// The cost of the link to a neighbour, as of now: infinite if it is none (RFC 8966, section
+    /// 3.4.3).
     pub fn cost(&self, peer: &Peer) -> Metric
         ensures { result ≡ cost_at self.now.state peer.now }
     {
         self.core.cost(peer)
     }
 
-    /// The least prefix greater than the one given that has an entry in the route table, or a selected
-    /// route. With none given, the least of all.
+    /// The least prefix greater than the one given that has an entry in the route table, or a
+    /// selected route. With none given, the least of all.
     pub fn next_prefix(&self, after: Option<&Prefix>) -> Option<Prefix>
         ensures { result ≡ prefix_after (option_map (λ prefix. prefix.now) after.entry) self.now.state.routes }
     {
@@ -494,8 +506,8 @@ impl Speaker {
         self.core.pair(source)
     }
 
-    /// The entry of the prefix that exactly `index` others come before, with its neighbour and the cost
-    /// of the link to that.
+    /// The entry of the prefix that exactly `index` others come before, with its neighbour and the
+    /// cost of the link to that.
     pub fn entry(&self, prefix: &Prefix, index: usize) -> Option<(Peer, Entry, Metric)>
         ensures { result ≡ slice_get (reported_entries prefix.now self.now.state) index }
     {
@@ -516,18 +528,19 @@ impl Speaker {
         crate::output::items::transport(&self.core, iface)
     }
 
-    /// A count that grows whenever a selected route may be reported otherwise. As long as it is the same, and below
-    /// `u64::MAX`, [`Speaker::selected`] returns of each prefix what it returned. At `u64::MAX` it can't grow, so the routes
-    /// may have changed. A new speaker's is 0.
+    /// A count that grows whenever a selected route may be reported otherwise. As long as it is the
+    /// same, and below `u64::MAX`, [`Speaker::selected`] returns of each prefix what it returned.
+    /// At `u64::MAX` it can't grow, so the routes may have changed. A new speaker's is 0.
     pub fn routes_version(&self) -> u64
         ensures { result ≡ self.now.routes_version }
     {
         self.routes
     }
 
-    /// A count that grows whenever what [`Speaker::save`] keeps may have changed. As long as it is the same, and below
-    /// `u64::MAX`, the snapshot is the same. At `u64::MAX` it can't grow, so the snapshot may have changed. A new
-    /// speaker's is 0, and so is that of one that was restored.
+    /// A count that grows whenever what [`Speaker::save`] keeps may have changed. As long as it is
+    /// the same, and below `u64::MAX`, the snapshot is the same. At `u64::MAX` it can't grow, so
+    /// the snapshot may have changed. A new speaker's is 0, and so is that of one that was
+    /// restored.
     pub fn snapshot_version(&self) -> u64
         ensures { result ≡ self.now.snapshot_version }
     {

@@ -6,8 +6,8 @@ ghost use Rattle.babel_speaker.specs.Versions.{greatest_version};
 use crate::state::Core;
 use babel_value::Seqno;
 
-/// The count of what may have changed, one greater if there may be a change. It stops at the greatest number of 64 bits, and
-/// from there on it shows no change.
+/// The count of what may have changed, one greater if there may be a change. It stops at the
+/// greatest number of 64 bits, and from there on it shows no change.
 pub(crate) fn counted(count: u64, changed: bool) -> u64
     ensures grows { count ≤ result }
     ensures counted { result ≡ count → result < greatest_version → IsFalse changed }

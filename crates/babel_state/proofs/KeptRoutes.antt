@@ -34,7 +34,8 @@ use Rattle.babel_state.specs.Calls.{reported_selected, selected_route}
 use Rattle.babel_state.specs.Sameness.{is_same_addr, is_same_peer, is_same_router}
 use Rattle.babel_state.specs.StepLaws.{kept_of}
 use Rattle.babel_state.specs.SettledLaws.{with_ihu}
-use Rattle.babel_state.specs.KeptRoutes.{KeepsRoutes, is_alike, are_alike}
+use Rattle.babel_route.specs.SelectionChanges.{is_alike, are_alike}
+use Rattle.babel_state.specs.KeptRoutes.{KeepsRoutes}
 use Rattle.babel_state.proofs.CurrentLaws.{cost_fired}
 use Rattle.babel_state.proofs.Reselecting.{if_kept, queue_kept, requests_kept, follows_kept}
 use Rattle.babel_state.proofs.Selecting.{selected_after, same_prefix}

@@ -1,5 +1,5 @@
-//! Why calls of a speaker are refused. Each error prints a phrase, and `code` returns the code that the
-//! program prints.
+//! Why calls of a speaker are refused. Each error prints a phrase, and `code` returns the code that
+//! the program prints.
 
 ghost use Rattle.std.specs.Prelude.{◌≡◌, codes};
 ghost use Rattle.babel_state.specs.Codes.{config_code, restore_code, set_cost_code, recv_code};
@@ -25,8 +25,9 @@ pub enum ConfigFault {
     /// C5: there are more than 64 prefixes, or one is listed twice.
     #[error("there are more than 64 prefixes, or one is listed twice")]
     Prefixes,
-    /// C6: an interface has no address of its transport's family, an IPv6 address outside fe80::/10, an
-    /// IPv4 length above 32, more than 16 peers, or a peer of another family than its transport.
+    /// C6: an interface has no address of its transport's family, an IPv6 address outside
+    /// fe80::/10, an IPv4 length above 32, more than 16 peers, or a peer of another family than its
+    /// transport.
     #[error("the addresses or peers of an interface can't be used")]
     InterfaceAddresses,
     /// C7: an allocation failed.

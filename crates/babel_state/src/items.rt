@@ -12,8 +12,8 @@ pub struct Target {
     pub to: Option<Addr>,
 }
 
-/// Something that is queued. An item determines which message is sent, and has nothing that can change
-/// until it is: an Update's router-id, seqno and metric are read when the message is built.
+/// Something that is queued. An item determines which message is sent, and has nothing that can
+/// change until it is: an Update's router-id, seqno and metric are read when the message is built.
 #[derive(Clone, Copy)]
 pub enum Item {
     /// A Hello to all on the interface (RFC 8966, section 3.4.1).

@@ -12,15 +12,15 @@ ghost use Rattle.babel_state.specs.SeenLaws.{DatagramsSend, NoDatagramChangesNot
 ghost use Rattle.babel_state.specs.CurrentSelections.{MessagesKeepCurrent, PlacesKeepCurrent, AnnouncingKeepsCurrent, WithdrawingKeepsCurrent, RaisingKeepsCurrent, NewSpeakersAreCurrent, ReselectionsMakeCurrent, TicksMakeCurrent};
 ghost use Rattle.babel_state.specs.StepLaws.{ReselectionKeepsBase, ReselectionOfAllKeepsBase, MessagesKeepOwn, TicksKeepOwn, SendingKeepsKnown, SendingLowersSources, MessagesKeepSettings, TicksKeepSettings, SendingKeepsSettings, AnnouncingKeepsSettings, WithdrawingKeepsSettings, RaisingKeepsSettings, CostsSetOneCost};
 
-/// Items that are queued one after the other leave what they leave all at once: the last 4,096 of the
-/// old items followed by the new ones, and a count of what was cut.
+/// Items that are queued one after the other leave what they leave all at once: the last 4,096 of
+/// the old items followed by the new ones, and a count of what was cut.
 pub fn queueing_keeps_the_last()
     ensures all { (xs : List Item) (old : Pending) → length old.items ≤ most_pending → old.dropped < 2 ^ 64 → queued xs old ≡ queued_at_once xs old }
     ensures append { QueueingAppends }
 {}
 
-/// A message leaves the speaker's own router-id, prefixes and source table as they were, and its seqno
-/// grows at most once.
+/// A message leaves the speaker's own router-id, prefixes and source table as they were, and its
+/// seqno grows at most once.
 pub fn messages_keep_what_is_own()
     ensures { MessagesKeepOwn }
 {}
@@ -30,8 +30,8 @@ pub fn ticks_keep_what_is_own()
     ensures { TicksKeepOwn }
 {}
 
-/// Sending changes nothing that the speaker knows, no selection above all, and lowers each source by
-/// exactly the updates that are sent for it.
+/// Sending changes nothing that the speaker knows, no selection above all, and lowers each source
+/// by exactly the updates that are sent for it.
 pub fn sending_lowers_sources()
     ensures known { SendingKeepsKnown }
     ensures sources { SendingLowersSources }
@@ -43,8 +43,8 @@ pub fn reselections_keep_the_rest()
     ensures all { ReselectionOfAllKeepsBase }
 {}
 
-/// In a new speaker, after a reselection of all, and after a tick with collection off, the selection of
-/// every prefix is that of the definition.
+/// In a new speaker, after a reselection of all, and after a tick with collection off, the
+/// selection of every prefix is that of the definition.
 #[inline]
 pub fn selections_are_current()
     ensures new { NewSpeakersAreCurrent }
@@ -52,23 +52,24 @@ pub fn selections_are_current()
     ensures tick { TicksMakeCurrent }
 {}
 
-/// If all selections are current, each is a feasible and finite route of the table, with a metric above the
-/// advertised one; and a new speaker has neither routes nor sources.
+/// If all selections are current, each is a feasible and finite route of the table, with a metric
+/// above the advertised one; and a new speaker has neither routes nor sources.
 #[inline]
 pub fn selected_routes_are_good()
     ensures new { NewSpeakersAreNew }
     ensures current { CurrentIsSelecting }
 {}
 
-/// A message and a tick leave the routes in order, and each finite route that is there after them was
-/// there before, or is what the message advertised, of its sender.
+/// A message and a tick leave the routes in order, and each finite route that is there after them
+/// was there before, or is what the message advertised, of its sender.
 pub fn routes_come_from_updates()
     ensures messages { MessagesAreHeard }
     ensures ticks { TicksHearNothing }
 {}
 
-/// A new speaker's state is well formed, and each step keeps it well formed: its tables are in order and
-/// within their room, every cost is positive, and every selected route is an entry and a candidate.
+/// A new speaker's state is well formed, and each step keeps it well formed: its tables are in
+/// order and within their room, every cost is positive, and every selected route is an entry and a
+/// candidate.
 #[inline]
 pub fn states_are_well_formed()
     ensures new { NewSpeakersAreWellFormed }
@@ -81,8 +82,8 @@ pub fn states_are_well_formed()
     ensures raise { RaisingKeepsWellFormed }
 {}
 
-/// What a network sees of each call but `next_datagram`: the updates that were heard, how often the own
-/// seqno grew, which prefixes are announced, and that the selected routes are good.
+/// What a network sees of each call but `next_datagram`: the updates that were heard, how often the
+/// own seqno grew, which prefixes are announced, and that the selected routes are good.
 #[inline]
 pub fn calls_move()
     ensures datagrams { PlacesMove }
@@ -93,18 +94,19 @@ pub fn calls_move()
     ensures raise { RaisingMoves }
 {}
 
-/// What a network sees of the next datagram: what its updates advertise, the own address that each names
-/// as next hop, and the sources that they lower. If there is none, nothing that is seen changed.
+/// What a network sees of the next datagram: what its updates advertise, the own address that each
+/// names as next hop, and the sources that they lower. If there is none, nothing that is seen
+/// changed.
 #[inline]
 pub fn datagrams_send()
     ensures sent { DatagramsSend }
     ensures none { NoDatagramChangesNothing }
 {}
 
-/// Messages, new costs, own prefixes and raises keep each selection that is current.
-/// The next datagram changes no selection, and leaves each selected route a candidate. It keeps a current
-/// selection, unless an unfeasible route of the prefix becomes feasible. That can't be while the seqnos of
-/// the prefix lie in one half of the circle.
+/// Messages, new costs, own prefixes and raises keep each selection that is current. The next
+/// datagram changes no selection, and leaves each selected route a candidate. It keeps a current
+/// selection, unless an unfeasible route of the prefix becomes feasible. That can't be while the
+/// seqnos of the prefix lie in one half of the circle.
 #[inline]
 pub fn selections_stay_current()
     ensures messages { MessagesKeepCurrent }
@@ -118,9 +120,9 @@ pub fn selections_stay_current()
     ensures half { SendingKeepsCurrentInHalf }
 {}
 
-/// An item that means nothing leaves the queue and changes nothing else. There is no datagram if and only
-/// if no pending item means a message. Every message of an item, and of a datagram, can be encoded, and
-/// goes over an interface that exists.
+/// An item that means nothing leaves the queue and changes nothing else. There is no datagram if
+/// and only if no pending item means a message. Every message of an item, and of a datagram, can be
+/// encoded, and goes over an interface that exists.
 #[inline]
 pub fn items_mean_messages()
     ensures skipped { NothingIsSkipped }
@@ -130,8 +132,8 @@ pub fn items_mean_messages()
     ensures interfaces { ItemsHaveInterfaces }
 {}
 
-/// Each call keeps the addresses, the cost and the Hello interval of each interface. `set_cost` alone
-/// changes a cost, and only that of its interface.
+/// Each call keeps the addresses, the cost and the Hello interval of each interface. `set_cost`
+/// alone changes a cost, and only that of its interface.
 pub fn settings_stay()
     ensures messages { MessagesKeepSettings }
     ensures tick { TicksKeepSettings }
@@ -142,8 +144,8 @@ pub fn settings_stay()
     ensures set_cost { CostsSetOneCost }
 {}
 
-/// If all selections are current, reselecting all of them changes nothing. Hellos and IHUs that change no
-/// cost of the link to their sender, repeated requests and timers keep all current.
+/// If all selections are current, reselecting all of them changes nothing. Hellos and IHUs that
+/// change no cost of the link to their sender, repeated requests and timers keep all current.
 pub fn settled_speakers_reselect_nothing()
     ensures settled { SettledReselectsNothing }
     ensures hello { HellosKeepCurrent }
@@ -151,8 +153,9 @@ pub fn settled_speakers_reselect_nothing()
     ensures timers { TimersKeepCurrent }
 {}
 
-/// What a network sees of a restart: the sources, the own seqno and the count of raises stay, and there is
-/// no route. What is restored of a snapshot is well formed, and its selections are current.
+/// What a network sees of a restart: the sources, the own seqno and the count of raises stay, and
+/// there is no route. What is restored of a snapshot is well formed, and its selections are
+/// current.
 #[inline]
 pub fn restarts_are_seen()
     ensures restarted { RestartsAreSeen }

@@ -1,5 +1,5 @@
-//! A speaker of the Babel routing protocol (RFC 8966): its configuration, and the definitions of its
-//! state and steps.
+//! A speaker of the Babel routing protocol (RFC 8966): its configuration, and the definitions of
+//! its state and steps.
 #![tactic(auto)]
 
 mod configs;

@@ -6,8 +6,8 @@ use babel_value::{Peer, Seqno};
 /// What a pending request does when its wait is over.
 #[derive(Clone, Copy, Debug, PartialEq, Eq)]
 pub enum Resend {
-    /// The route was lost: all neighbours are asked again that have a finite and unfeasible route to
-    /// the prefix.
+    /// The route was lost: all neighbours are asked again that have a finite and unfeasible route
+    /// to the prefix.
     Unfeasible,
     /// The neighbour sent an unfeasible update of the selected route: it is asked again.
     Neighbour(Peer),

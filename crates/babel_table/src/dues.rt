@@ -15,8 +15,8 @@ pub trait Due: Copy {
         ensures { result ≡ due_of self.now };
 }
 
-/// A moment before which no value of the table is due: the least of them, or the greatest moment if the
-/// table is empty.
+/// A moment before which no value of the table is due: the least of them, or the greatest moment if
+/// the table is empty.
 pub fn least_due<K: Key, V: Due, T: Table<K, V>>(table: &T) -> u64
     ensures { AreDueFrom V.due_of result (T.entries table.now) }
 {
@@ -29,7 +29,8 @@ pub fn least_due<K: Key, V: Due, T: Table<K, V>>(table: &T) -> u64
     least
 }
 
-/// Revises all entries of the table. Returns a moment before which no value that it then has is due.
+/// Revises all entries of the table. Returns a moment before which no value that it then has is
+/// due.
 pub fn revise_dues<K: Key, V: Due, T: Table<K, V>, R: Revision<K, V>>(
     table: &mut T,
     revision: &R,

@@ -7,9 +7,9 @@ use crate::Memory;
 use crate::sequences::Sequence;
 use std::alloc::Global;
 
-/// A vector with a gap (a gap buffer). To remove the first item after the gap widens it, and to insert
-/// an item in it narrows it: neither moves another item. The gap goes to other indices first, which
-/// moves the items between. It has no slots until an item is removed.
+/// A vector with a gap (a gap buffer). To remove the first item after the gap widens it, and to
+/// insert an item in it narrows it: neither moves another item. The gap goes to other indices
+/// first, which moves the items between. It has no slots until an item is removed.
 #[derive(Drop)]
 pub struct GapVec<T: Copy> {
     /// The items, and in the gap old ones that mean nothing.

@@ -1,5 +1,5 @@
-//! Searches that begin near the index at which the last one ended. If the sought keys rise, and each is near
-//! the last one, they are one walk over the table.
+//! Searches that begin near the index at which the last one ended. If the sought keys rise, and
+//! each is near the last one, they are one walk over the table.
 
 ghost use Rattle.std.specs.Prelude.{◌≡◌, true, ◌+◌, ◌≤◌, ◌<◌, take, drop, not, length, IsSome, IsNone, IsTrue, IsFalse};
 ghost use Rattle.std.specs.List.{list_all};
@@ -14,7 +14,7 @@ use std::marker::Brand;
 use std::sync::ledger::{Blank, Ledger};
 
 /// How many entries a walk passes, on or back, before it gives up and searches.
-pub(crate) const FAR: usize = 8;
+pub(crate) const FAR: usize = 4;
 
 /// The keys that are lesser than this one.
 #[derive(Drop)]
@@ -32,13 +32,16 @@ impl<K: Key> Bound<K> for Lesser<K> {
     }
 }
 
-/// The order of two keys. The step isn't counted.
+/// The order of two keys. The step isn't counted. It is compiled into each caller: as a call it had
+/// a copy made of each entry whose key it looked at.
+#[inline(always)]
 fn order_of<K: Key>(key: &K, other: &K) -> Ordering
     ensures { result ≡ K.order key.now other.now }
 {
     order_on::<Brand, K>(key, other, Blank::new(1))
 }
 
+#[inline(always)]
 fn order_on<L: Ledger, K: Key>(key: &K, other: &K, blank: Blank) -> Ordering
     requires name { blank.name ≡ L.name }
     requires parts { blank.parts ≡ L.parts }
@@ -49,8 +52,8 @@ fn order_on<L: Ledger, K: Key>(key: &K, other: &K, blank: Blank) -> Ordering
     key.compare(other, &mut steps)
 }
 
-/// How many entries have a key below the bound, as `places_below`. It walks a few entries on from the index
-/// `near` if the entry there is below, and back otherwise.
+/// How many entries have a key below the bound, as `places_below`. It walks a few entries on from
+/// the index `near` if the entry there is below, and back otherwise.
 #[inline(always)]
 pub fn places_below_near<K: Key, V: Copy, T: Table<K, V>, B: Bound<K>>(
     table: &T,
@@ -122,7 +125,8 @@ fn places_below_from<K: Key, V: Copy, T: Table<K, V>, B: Bound<K>>(
     len
 }
 
-/// The value at the key. `near` becomes the index of the key, or the one at which it would be inserted.
+/// The value at the key. `near` becomes the index of the key, or the one at which it would be
+/// inserted.
 #[inline(always)]
 pub fn find_near<K: Key, V: Copy, T: Table<K, V>>(table: &T, near: &mut usize, key: &K) -> Option<V>
     ensures value { result ≡ find K.order key.now (T.entries table.now) }
@@ -136,7 +140,8 @@ pub fn find_near<K: Key, V: Copy, T: Table<K, V>>(table: &T, near: &mut usize, k
     Some(entry.1)
 }
 
-/// Whether the table has the key. `near` becomes the index of the key, or the one at which it would be inserted.
+/// Whether the table has the key. `near` becomes the index of the key, or the one at which it would
+/// be inserted.
 #[inline(always)]
 pub fn seek_near<K: Key, V: Copy, T: Table<K, V>>(table: &T, near: &mut usize, key: &K) -> bool
     ensures at { IsTrue result → IsAt key.now (T.entries table.now) near.new }
@@ -152,7 +157,9 @@ pub fn seek_near<K: Key, V: Copy, T: Table<K, V>>(table: &T, near: &mut usize, k
     }
 }
 
-/// The same by a search.
+/// The same by a search. It and both walks are calls: few look-ups come to them, and those that
+/// don't need the registers.
+#[inline(never)]
 fn search_for<K: Key, V: Copy, T: Table<K, V>>(table: &T, near: &mut usize, key: &K) -> bool
     ensures at { IsTrue result → IsAt key.now (T.entries table.now) near.new }
     ensures gap { IsFalse result → IsGap K.order key.now (T.entries table.now) near.new }
@@ -166,6 +173,7 @@ fn search_for<K: Key, V: Copy, T: Table<K, V>>(table: &T, near: &mut usize, key:
 }
 
 /// The same by a walk from an index on whose key is lesser.
+#[inline(never)]
 fn walk_for<K: Key, V: Copy, T: Table<K, V>>(table: &T, near: &mut usize, key: &K) -> bool
     requires within { near.old < length (T.entries table.now) }
     requires lesser { are_lesser K.order key.now (take (near.old + 1) (T.entries table.now)) ≡ true }
@@ -193,6 +201,7 @@ fn walk_for<K: Key, V: Copy, T: Table<K, V>>(table: &T, near: &mut usize, key: &
 }
 
 /// The same by a walk back from an index whose key is greater.
+#[inline(never)]
 fn walk_back_for<K: Key, V: Copy, T: Table<K, V>>(table: &T, near: &mut usize, key: &K) -> bool
     requires within { near.old < length (T.entries table.now) }
     requires greater { are_greater K.order key.now (drop near.old (T.entries table.now)) ≡ true }

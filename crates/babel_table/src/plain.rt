@@ -12,8 +12,8 @@ use std::alloc::Global;
 use std::marker::Brand;
 use std::sync::ledger::{Blank, Ledger};
 
-/// A table kept in the order in which its keys were first stored. A look-up compares the key with one
-/// after the other.
+/// A table kept in the order in which its keys were first stored. A look-up compares the key with
+/// one after the other.
 #[derive(Drop)]
 pub struct PlainTable<K: Key, V: Copy> {
     entries: Vec<(K, V)>,

@@ -35,8 +35,8 @@ pub trait Change<V: Copy> {
         ensures { result ≡ changed self.now value };
 }
 
-/// Revises the entries in one pass. Each is moved at most once, and one that is kept where it is isn't
-/// written.
+/// Revises the entries in one pass. Each is moved at most once, and one that is kept where it is
+/// isn't written.
 pub(crate) fn compact<K: Key, V: Copy, Q: Sequence<K, V>, R: Revision<K, V>>(
     entries: &mut Q,
     revision: &R,

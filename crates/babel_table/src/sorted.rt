@@ -15,7 +15,8 @@ use std::cmp::Ordering;
 use std::marker::{Brand, PhantomData};
 use std::sync::ledger::{Blank, Ledger};
 
-/// A table kept in the order of its keys, in a sequence of the type `Q`. A look-up is a binary search.
+/// A table kept in the order of its keys, in a sequence of the type `Q`. A look-up is a binary
+/// search.
 #[derive(Drop)]
 pub struct SortedTable<K: Key, V: Copy, Q: Sequence<K, V> = Vec<(K, V)>> {
     entries: Q,
@@ -146,8 +147,8 @@ fn value_at<K: Key, V: Copy, Q: Sequence<K, V>>(
     }
 }
 
-/// Stores the value at the index at which a search found the key, or found it missing, and returns the
-/// index. `Full` if and only if the key is missing and the table is full.
+/// Stores the value at the index at which a search found the key, or found it missing, and returns
+/// the index. `Full` if and only if the key is missing and the table is full.
 fn store<K: Key, V: Copy, Q: Sequence<K, V>>(
     table: &mut SortedTable<K, V, Q>,
     found: Result<usize, usize>,
@@ -225,7 +226,8 @@ fn place_on<L: Ledger, K: Key, V: Copy, Q: Sequence<K, V>>(
     search(table, key, &mut steps)
 }
 
-/// The same. It walks a few entries on from the index `near` if the key there is lesser, and searches otherwise.
+/// The same. It walks a few entries on from the index `near` if the key there is lesser, and
+/// searches otherwise.
 fn place_near<K: Key, V: Copy, Q: Sequence<K, V>>(
     table: &SortedTable<K, V, Q>,
     near: usize,

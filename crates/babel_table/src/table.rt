@@ -48,8 +48,9 @@ pub trait Table<K: Key, V: Copy>: Drop {
         ensures err { OnErr result (entries self.new ≡ entries self.old) }
         ensures room { room self.new ≡ room self.old };
 
-    /// The same as `put`, and it returns an index near that of the key. The look-up begins at the index `near`,
-    /// which only matters for speed: keys that rise, each near the last one, are stored in one pass.
+    /// The same as `put`, and it returns an index near that of the key. The look-up begins at the
+    /// index `near`, which only matters for speed: keys that rise, each near the last one, are
+    /// stored in one pass.
     fn put_near(&mut self, near: usize, key: K, value: V) -> Result<usize, Full>
         ensures full { IsErr result ↔ (IsNone (find K.order key (entries self.old)) × (length (entries self.old) ≡ room self.old)) }
         ensures ok { OnOk result (entries self.new ≡ put K.order key value (entries self.old)) }
@@ -62,15 +63,17 @@ pub trait Table<K: Key, V: Copy>: Drop {
         ensures entries { entries self.new ≡ put K.order key value (entries self.old) }
         ensures room { room self.new ≡ room self.old };
 
-    /// Stores the value at the key, which the table lacks and would have at the index. There is no look-up.
+    /// Stores the value at the key, which the table lacks and would have at the index. There is no
+    /// look-up.
     fn insert(&mut self, place: usize, key: K, value: V)
         requires gap { IsGap K.order key (entries self.old) place }
         requires room { length (entries self.old) < room self.old }
         ensures entries { entries self.new ≡ put K.order key value (entries self.old) }
         ensures room { room self.new ≡ room self.old };
 
-    /// Stores what the change makes of the value at the key, with one look-up, and returns what it takes the
-    /// place of. The look-up begins near an index, as that of `put_near`. `Full` as of `put`.
+    /// Stores what the change makes of the value at the key, with one look-up, and returns what it
+    /// takes the place of. The look-up begins near an index, as that of `put_near`. `Full` as of
+    /// `put`.
     fn change_near<C: Change<V>>(
         &mut self,
         near: usize,

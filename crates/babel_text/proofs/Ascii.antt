@@ -24,7 +24,8 @@ use Rattle.babel_text.specs.declared.log_lines.Action.{Action}
 use Rattle.babel_text.specs.declared.log_lines.Action.TheVariants.{Receive, Tick, SetCost}
 use Rattle.babel_text.specs.Numbers.{IsNumberText}
 use Rattle.babel_text.specs.Octets.{hex_octets, octets_or_none}
-use Rattle.babel_text.specs.LogLines.{HasBlank, before_blank, after_blank, IsWord, IsActionText}
+use Rattle.babel_text.specs.LogLines.{IsWord, IsActionText}
+use Rattle.babel_text.specs.Fields.{HasBlank, before_blank, after_blank}
 use Rattle.babel_text.proofs.Blanks.{was_ok}
 
 -- ---- numbers and words

@@ -11,7 +11,7 @@ use Rattle.hex.specs.Hex.{decode_sized, is_hex_digit}
 use Rattle.hex.specs.declared.error.FromHexError.{FromHexError}
 use Rattle.hex.proofs.HexLemmas.{IsOk-decode_sized}
 use Rattle.babel_text.specs.Octets.{hex_octets, octets_or_none}
-use Rattle.babel_text.specs.LogLines.{HasBlank}
+use Rattle.babel_text.specs.Fields.{HasBlank}
 
 -- A digit isn't a blank.
 not_blank : (octet : ℕ) → is_hex_digit octet ≡ true → (octet == 32) ≡ false

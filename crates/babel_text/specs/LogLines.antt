@@ -1,11 +1,11 @@
 -- The lines of a log (profile): `<time> in <iface> <source> <hex>`, `<time> tick` or `<time> cost <iface> <n>`. One blank separates two fields.
 use Rattle.std.specs.Prelude.{◌≡◌, ◌<◌, ◌==◌, ◌||◌, ◌⊎◌, ℕ, Bool, true, List, length, slice_index, Some, None, codes, nat_eq, IsUtf8}
 use Rattle.std.specs.Cmp.Lexicographic.{pointwise}
-use Rattle.std.specs.List.{position_or_len, before_first, after_first}
 use Rattle.babel_value.specs.declared.addresses.Addr.{Addr}
 use Rattle.babel_value.specs.Texts.{IsAddrText}
 use Rattle.babel_text.specs.Numbers.{IsNumberText}
 use Rattle.babel_text.specs.Octets.{hex_octets}
+use Rattle.babel_text.specs.Fields.{HasBlank, before_blank, after_blank}
 use Rattle.babel_text.specs.declared.errors.LineFault.{LineFault}
 use Rattle.babel_text.specs.declared.errors.LineFault.TheVariants as faults
 use Rattle.babel_text.specs.declared.log_lines.Action.{Action}
@@ -16,16 +16,6 @@ abbrev pub is_skipped_line : List ℕ → Bool
 is_skipped_line line = length line == 0 || slice_index line 0 == 35
 
 -- ---- the fields of a line
-
--- The text has a blank; what is before the first one; and what is after it.
-abbrev pub HasBlank : List ℕ → Type 0
-HasBlank text = position_or_len (λ octet. octet == 32) text < length text
-
-abbrev pub before_blank : List ℕ → List ℕ
-before_blank text = before_first (λ octet. octet == 32) text
-
-abbrev pub after_blank : List ℕ → List ℕ
-after_blank text = after_first (λ octet. octet == 32) text
 
 abbrev pub IsWord : List ℕ → List ℕ → Type 0
 IsWord text word = pointwise nat_eq text word ≡ true

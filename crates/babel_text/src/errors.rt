@@ -14,7 +14,8 @@ use thiserror::Error;
 /// datagram in hexadecimal.
 pub const MAX_LINE_LEN: usize = 131_200;
 
-/// Why a line of input isn't taken, or a line of output isn't written. `code` is what the program prints.
+/// Why a line of input isn't taken, or a line of output isn't written. `code` is what the program
+/// prints.
 #[derive(Clone, Copy, Debug, PartialEq, Eq, Error)]
 pub enum LineFault {
     /// L1: the line has none of the forms, or isn't UTF-8.

@@ -1,14 +1,14 @@
 //! The lines of a log: what happened to the speaker, and when.
 
-ghost use Rattle.std.specs.Prelude.{◌≡◌, ◌⊎◌, None, Some, length, MatchOption, IsOk, IfOk, IfErr, IsUtf8};
+ghost use Rattle.std.specs.Prelude.{◌≡◌, ◌⊎◌, None, Some, length, IsOk, IfOk, IfErr, IsUtf8};
 ghost use Rattle.babel_value.specs.Texts.{IsAddrText};
 ghost use Rattle.babel_text.specs.Numbers.{IsNumberText};
 ghost use Rattle.babel_text.specs.Octets.{hex_octets};
-ghost use Rattle.babel_text.specs.LogLines.{is_skipped_line, HasBlank, before_blank, after_blank, HasTwoFields, IsReceived, IsReceiveText, IsCostText, IsActionText, IsLine};
+ghost use Rattle.babel_text.specs.LogLines.{is_skipped_line, HasTwoFields, IsReceived, IsReceiveText, IsCostText, IsActionText, IsLine};
+ghost use Rattle.babel_text.specs.Fields.{HasBlank, before_blank, after_blank};
 ghost use Rattle.babel_text.specs.LogLines.{Unless, IsNumber, IsAddress, IsTickFault, IsFieldFault, IsReceiveFault, IsCostFault, IsActionFault, IsLineFault};
 
-use crate::numbers::{u16_of, u64_of};
-use crate::{LineFault, parse_octets};
+use crate::{LineFault, parse_octets, split_field, u16_of, u64_of};
 use babel_value::Addr;
 
 /// A line of a log.
@@ -63,11 +63,11 @@ pub fn is_skipped(line: &[u8]) -> bool
 }
 
 /// Reads a line that isn't skipped: `<time> in <iface> <source> <hex>`, `<time> tick` or
-/// `<time> cost <iface> <n>`. The datagram's octets are written to the front of `octets`, and are L4 if there is
-/// no room for them.
+/// `<time> cost <iface> <n>`. The datagram's octets are written to the front of `octets`, and are
+/// L4 if there is no room for them.
 ///
-/// L1 comes before the fields, which are read from the left: L2, L3 or L4 is that of the first that can't
-/// be read.
+/// L1 comes before the fields, which are read from the left: L2, L3 or L4 is that of the first that
+/// can't be read.
 pub fn parse_line<'a>(line: &[u8], octets: &'a mut [u8]) -> Result<Event<'a>, LineFault>
     ensures ok { IfOk result (λ event. IsLine (length octets.old) line.now event.time event.action) }
     ensures refused { IfErr result (IsLineFault (length octets.old) line.now) }
@@ -78,8 +78,8 @@ pub fn parse_line<'a>(line: &[u8], octets: &'a mut [u8]) -> Result<Event<'a>, Li
     }
 }
 
-/// The first fault of a line: L1 if it isn't UTF-8, else the fault given. A line that is read is ASCII, so only a refused
-/// line is tested.
+/// The first fault of a line: L1 if it isn't UTF-8, else the fault given. A line that is read is
+/// ASCII, so only a refused line is tested.
 fn utf8_first(line: &[u8], fault: LineFault) -> LineFault
     ensures { ((¬ (IsUtf8 line.now)) × (result ≡ LineFault.Form)) ⊎ (IsUtf8 line.now × (result ≡ fault)) }
 {
@@ -113,19 +113,6 @@ fn parse_fields<'a>(line: &[u8], octets: &'a mut [u8]) -> Result<Event<'a>, Line
         return parse_cost(time, fields);
     }
     Err(LineFault::Form)
-}
-
-/// The text before the first blank and the text after it. All fields that are split off are short, so a loop takes less
-/// than a search by words of octets.
-fn split_field(text: &[u8]) -> Option<(&[u8], &[u8])>
-    ensures { MatchOption result (¬ (HasBlank text.now)) (λ f. HasBlank text.now × (f.0.now ≡ before_blank text.now) × (f.1.now ≡ after_blank text.now)) }
-{
-    for index in 0..text.len() {
-        if text[index] == b' ' {
-            return Some((&text[..index], &text[index + 1..]));
-        }
-    }
-    None
 }
 
 /// A tick at the time.
@@ -182,8 +169,9 @@ fn read_receive<'a>(
     Ok(Event { time, action })
 }
 
-/// The first fault of a line whose last field is `hex`: L1 if that field has a further blank, else the fault given.
-/// A field that is read as octets has no blank, so only a refused line is searched for one.
+/// The first fault of a line whose last field is `hex`: L1 if that field has a further blank, else
+/// the fault given. A field that is read as octets has no blank, so only a refused line is searched
+/// for one.
 fn form_first(hex: &[u8], fault: LineFault) -> LineFault
     ensures further { HasBlank hex.now → result ≡ LineFault.Form }
     ensures last { (¬ (HasBlank hex.now)) → result ≡ fault }
@@ -259,8 +247,8 @@ fn parse_address(text: &[u8]) -> Result<Addr, LineFault>
     }
 }
 
-/// Reads the octets into the front of `octets`, and returns that front. `-` stands for no octets, and
-/// an empty text isn't hexadecimal.
+/// Reads the octets into the front of `octets`, and returns that front. `-` stands for no octets,
+/// and an empty text isn't hexadecimal.
 fn parse_hex<'a>(hex: &[u8], octets: &'a mut [u8]) -> Result<&'a [u8], LineFault>
     ensures ok { IfOk result (λ read. hex_octets (length octets.old) hex.now ≡ Some read.now) }
     ensures refused { IfErr result (λ fault. (fault ≡ LineFault.Hex) × (hex_octets (length octets.old) hex.now ≡ None)) }

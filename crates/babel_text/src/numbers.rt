@@ -27,12 +27,19 @@ pub fn parse_u16(text: &str) -> Option<u16>
 pub fn parse_u8(text: &str) -> Option<u8>
     ensures { Reads (IsNumberText 8) text.now result }
 {
-    let number = parse_u64(text)?;
+    u8_of(text.as_bytes())
+}
+
+/// The number that these octets of text spell, `None` exactly if they spell no number up to 255.
+pub fn u8_of(text: &[u8]) -> Option<u8>
+    ensures { Reads (IsNumberText 8) text.now result }
+{
+    let number = u64_of(text)?;
     u8::try_from(number).ok()
 }
 
 /// The number that these octets of text spell, `None` exactly if they spell no number up to 65535.
-pub(crate) fn u16_of(text: &[u8]) -> Option<u16>
+pub fn u16_of(text: &[u8]) -> Option<u16>
     ensures { Reads (IsNumberText 16) text.now result }
 {
     let number = u64_of(text)?;
@@ -40,7 +47,7 @@ pub(crate) fn u16_of(text: &[u8]) -> Option<u16>
 }
 
 /// The number that these octets of text spell, `None` exactly if they spell no number below 2^64.
-pub(crate) fn u64_of(text: &[u8]) -> Option<u64>
+pub fn u64_of(text: &[u8]) -> Option<u64>
     ensures { Reads (IsNumberText 64) text.now result }
 {
     if has_leading_zero(text) {
@@ -60,8 +67,8 @@ fn has_leading_zero(text: &[u8]) -> bool
     text[0] == b'0' && text.len() > 1
 }
 
-/// The number that digits write, `None` exactly if there is no digit, if another octet is among them, or if the
-/// number isn't below 2^64.
+/// The number that digits write, `None` exactly if there is no digit, if another octet is among
+/// them, or if the number isn't below 2^64.
 #[inline]
 #[tactic(auto, using(crate::proofs::Decimals::none_goes, crate::proofs::Decimals::value_goes, crate::proofs::Decimals::in_range_goes, crate::proofs::Decimals::all_are_digits))]
 fn value_of(digits: &[u8]) -> Option<u64>

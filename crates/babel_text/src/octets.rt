@@ -10,7 +10,8 @@ const X: u16 = 256;
 /// The same for the high digit.
 const Y: u16 = 4096;
 
-/// The value of each digit. A look-up doesn't branch on the kind of the digit, which no processor foresees.
+/// The value of each digit. A look-up doesn't branch on the kind of the digit, which no processor
+/// foresees.
 const VALUES: [u16; 256] = [
     X, X, X, X, X, X, X, X, X, X, X, X, X, X, X, X, X, X, X, X, X, X, X, X, X, X, X, X, X, X, X, X,
     X, X, X, X, X, X, X, X, X, X, X, X, X, X, X, X, 0, 1, 2, 3, 4, 5, 6, 7, 8, 9, X, X, X, X, X, X,
@@ -36,8 +37,8 @@ const HIGH_VALUES: [u16; 256] = [
     Y, Y, Y, Y, Y, Y, Y, Y, Y, Y, Y, Y,
 ];
 
-/// Reads the octets into the front of `octets`, and returns that front. `-` stands for no octets, and
-/// an empty text isn't hexadecimal. There is none if there is no room for them.
+/// Reads the octets into the front of `octets`, and returns that front. `-` stands for no octets,
+/// and an empty text isn't hexadecimal. There is none if there is no room for them.
 pub fn parse_octets<'a>(text: &[u8], octets: &'a mut [u8]) -> Option<&'a [u8]>
     ensures { MatchOption result (hex_octets (length octets.old) text.now ≡ None) (λ read. hex_octets (length octets.old) text.now ≡ Some read.now) }
 {
@@ -55,8 +56,8 @@ pub fn parse_octets<'a>(text: &[u8], octets: &'a mut [u8]) -> Option<&'a [u8]>
     Some(front)
 }
 
-/// Whether the text is hexadecimal, whose octets are then written. It is a call of its own: within a larger function its
-/// loop has too few registers.
+/// Whether the text is hexadecimal, whose octets are then written. It is a call of its own: within
+/// a larger function its loop has too few registers.
 #[inline(never)]
 fn decode(text: &[u8], octets: &mut [u8]) -> bool
     requires { length text.now ≡ 2 * length octets.old }

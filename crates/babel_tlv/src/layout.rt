@@ -8,7 +8,8 @@ pub const PAD1: u8 = 0;
 /// 4.3).
 pub const TLV_HEADER_LEN: usize = 2;
 
-/// The most octets of a payload: the greatest length that one octet can hold (RFC 8966, section 4.3).
+/// The most octets of a payload: the greatest length that one octet can hold (RFC 8966, section
+/// 4.3).
 pub const MAX_PAYLOAD_LEN: usize = 255;
 
 /// The most octets of a datagram that is built.

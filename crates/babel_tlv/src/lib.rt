@@ -1,8 +1,8 @@
 //! TLVs as octets: the one spelling that the TLVs of a Babel packet and the sub-TLVs of a TLV share
 //! (RFC 8966, sections 4.3 and 4.4).
 //!
-//! [`split`] reads all of them or none, [`walk`] reads them in one pass up to the fault, and [`put`]
-//! writes one.
+//! [`split`] reads all of them or none, [`walk`] reads them in one pass up to the fault, and
+//! [`put`] writes one.
 #![tactic(auto)]
 
 mod errors;

@@ -42,8 +42,8 @@ impl<'a> Iterator for Tlvs<'a> {
     }
 }
 
-/// The TLVs that spell the octets, the body of a packet or the sub-TLVs of a TLV, each payload a slice of
-/// them; or the offset of the first TLV that runs past their end.
+/// The TLVs that spell the octets, the body of a packet or the sub-TLVs of a TLV, each payload a
+/// slice of them; or the offset of the first TLV that runs past their end.
 pub fn split(bytes: &[u8]) -> Result<Tlvs<'_>, TlvFault>
     // The list that is returned spells the octets.
     ensures found { IfOk result (λ tlvs. Spells tlvs bytes.now) }

@@ -1,6 +1,7 @@
 //! A TLV among octets.
 
-/// A TLV or sub-TLV at its offset among the octets that were split (RFC 8966, sections 4.3 and 4.4).
+/// A TLV or sub-TLV at its offset among the octets that were split (RFC 8966, sections 4.3 and
+/// 4.4).
 #[derive(Clone, Copy, Debug, PartialEq, Eq)]
 pub struct Tlv<'a> {
     /// How many octets precede its type.

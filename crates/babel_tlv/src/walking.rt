@@ -7,8 +7,8 @@ ghost use Rattle.babel_tlv.specs.Split.{places_of, fault_of, first_of};
 use crate::{PAD1, TLV_HEADER_LEN, Tlv, TlvFault};
 use std::marker::Model;
 
-/// An iterator over TLVs that stops at the end of the octets, or at the first TLV that runs past it.
-/// [`Walker::fault`] returns that TLV.
+/// An iterator over TLVs that stops at the end of the octets, or at the first TLV that runs past
+/// it. [`Walker::fault`] returns that TLV.
 ///
 /// A clause sees the places that are ahead, the fault after them, and the end of the octets.
 #[derive(Drop)]
@@ -57,8 +57,8 @@ impl<'a> Iterator for Walker<'a> {
 }
 
 impl Walker<'_> {
-    /// The fault that ended the walk: the TLV that runs past the end of the octets. `None` if the walk
-    /// ended without a fault, or a TLV is still ahead.
+    /// The fault that ended the walk: the TLV that runs past the end of the octets. `None` if the
+    /// walk ended without a fault, or a TLV is still ahead.
     pub fn fault(&self) -> Option<TlvFault>
         ensures value { option_map (λ fault. fault.offset) result ≡ fault_reached self.now }
         ensures within { IfSome result (λ fault. fault.offset < self.now.end) }

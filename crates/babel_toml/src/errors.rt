@@ -6,8 +6,8 @@ use std::alloc::{AllocError, AllocFailed};
 use std::{fmt, io};
 use thiserror::Error;
 
-/// Why a file of a configuration or of a scenario is refused. The text is a phrase; [`FileFault::code`]
-/// has the code that the program prints.
+/// Why a file of a configuration or of a scenario is refused. The text is a phrase;
+/// [`FileFault::code`] has the code that the program prints.
 #[derive(Clone, Copy, Debug, PartialEq, Eq, Drop, Error)]
 pub enum FileFault {
     /// F1: the octets are no TOML document.

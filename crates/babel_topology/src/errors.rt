@@ -8,8 +8,8 @@ use std::alloc::{AllocError, AllocFailed};
 use std::fmt;
 use thiserror::Error;
 
-/// Why a file of a topology is refused. Numbers count from 0 in the order of the file. The text is a phrase;
-/// [`TopologyFault::code`] has the code that the program prints.
+/// Why a file of a topology is refused. Numbers count from 0 in the order of the file. The text is
+/// a phrase; [`TopologyFault::code`] has the code that the program prints.
 #[derive(Clone, Copy, Debug, Drop, Error)]
 pub enum TopologyFault {
     /// T1: the octets are no TOML document.
@@ -109,7 +109,8 @@ impl TopologyFault {
     }
 }
 
-/// The code of a fault as text: `T1` to `T19`, with the number of the node, link, step or expectation after it.
+/// The code of a fault as text: `T1` to `T19`, with the number of the node, link, step or
+/// expectation after it.
 #[derive(Clone, Copy)]
 pub struct TopologyFaultCode {
     /// The fault.

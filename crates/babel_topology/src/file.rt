@@ -1,7 +1,8 @@
 //! The file of a topology: named nodes and links, and a plan of what happens in them.
 //!
-//! `keys` has the keys of the file's tables and what their values are, `problems` the first fault of a file, `tables`
-//! what is at a key of a table without one, and `nodes`, `links`, `interfaces`, `plans` and `reading` what is read.
+//! `keys` has the keys of the file's tables and what their values are, `problems` the first fault
+//! of a file, `tables` what is at a key of a table without one, and `nodes`, `links`, `interfaces`,
+//! `plans` and `reading` what is read.
 
 mod interfaces;
 mod keys;

@@ -2,8 +2,8 @@
 //!
 //! - `topology` has the types, and `errors` why a file of a topology is refused.
 //! - `plans` adds steps to a plan in the order of their moments.
-//! - `words`, `times`, `verbs`, `names` and `actions` read texts: times, what happens to which node or link, and what
-//!   is expected.
+//! - `words`, `times`, `verbs`, `names` and `actions` read texts: times, what happens to which node
+//!   or link, and what is expected.
 //! - `file` reads the file of a topology, and `shapes` writes files of regular and random ones.
 #![tactic(auto)]
 

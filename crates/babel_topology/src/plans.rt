@@ -11,7 +11,8 @@ use crate::topology::Step;
 ///
 /// # Errors
 ///
-/// T15 if the step is earlier than the last one of the plan, T16 if it is later than the end, T4 if an allocation fails.
+/// T15 if the step is earlier than the last one of the plan, T16 if it is later than the end, T4 if
+/// an allocation fails.
 pub fn push_step(
     steps: &mut Vec<Step>,
     step: Step,

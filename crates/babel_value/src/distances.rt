@@ -1,4 +1,5 @@
-//! Distances, which a source table keeps and feasibility compares (RFC 8966, sections 2.4 and 3.5.1).
+//! Distances, which a source table keeps and feasibility compares (RFC 8966, sections 2.4 and
+//! 3.5.1).
 
 ghost use Rattle.std.specs.Prelude.{◌≡◌};
 ghost use Rattle.babel_value.specs.Distances.{is_better};

@@ -20,8 +20,9 @@ pub fn limits_are_those_of_the_code()
     ensures half { HALF_CIRCLE ≡ half_circle }
 {}
 
-/// Two sequence numbers that are at most 32,767 ahead of a common first one are ordered as the whole
-/// numbers that they represent. A count of at most 65,535 from any number is lifted to the count.
+/// Two sequence numbers that are at most 32,767 ahead of a common first one are ordered as the
+/// whole numbers that they represent. A count of at most 65,535 from any number is lifted to the
+/// count.
 pub fn seqnos_agree_on_lifts()
     ensures order { AgreesOnLifts }
     ensures back { LiftsBack }

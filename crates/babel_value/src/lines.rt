@@ -17,8 +17,8 @@ pub const LINE_ROOM: usize = 256;
 /// The hexadecimal digits, in lower case.
 const HEX_DIGITS: [u8; 16] = *b"0123456789abcdef";
 
-/// A line of text of at most `LINE_ROOM` octets. What is printed often is put together here and written by
-/// one call.
+/// A line of text of at most `LINE_ROOM` octets. What is printed often is put together here and
+/// written by one call.
 #[derive(Drop)]
 pub struct Line {
     octets: [u8; LINE_ROOM],
@@ -77,7 +77,8 @@ impl Line {
         self.len += 1;
     }
 
-    /// Appends an octet unless the number is 0. It is written in any case, so that nothing branches on it.
+    /// Appends an octet unless the number is 0. It is written in any case, so that nothing branches
+    /// on it.
     #[inline(always)]
     fn push_unless_zero(&mut self, number: u16, octet: u8)
         requires room { length self.old + 1 ≤ line_room }

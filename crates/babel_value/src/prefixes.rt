@@ -32,8 +32,8 @@ impl Model for Prefix {
 }
 
 impl Prefix {
-    /// The prefix of this address and length, with the bits past the length cleared. `None` exactly if
-    /// the length is greater than the address is wide: 32 or 128.
+    /// The prefix of this address and length, with the bits past the length cleared. `None` exactly
+    /// if the length is greater than the address is wide: 32 or 128.
     pub fn new(addr: Addr, length: u8) -> Option<Prefix>
         ensures { result ≡ prefix_of addr length }
     {

@@ -13,10 +13,10 @@ use babel_tlv::DATAGRAM_LEN;
 /// How many datagrams are sent in a turn at most.
 pub(crate) const MAX_SENDS: usize = 64;
 
-/// Drives a speaker over a wire for some turns. A turn takes the datagram that came, if there is one, then
-/// the speaker's tick, then sends at most 64 datagrams. The moment is asked once in a turn, after
-/// receiving. A failure of the wire is counted, and the turn goes on: a datagram that could not be sent is
-/// lost.
+/// Drives a speaker over a wire for some turns. A turn takes the datagram that came, if there is
+/// one, then the speaker's tick, then sends at most 64 datagrams. The moment is asked once in a
+/// turn, after receiving. A failure of the wire is counted, and the turn goes on: a datagram that
+/// could not be sent is lost.
 ///
 /// `buf` takes the datagrams that come.
 pub fn drive<W: Wire>(speaker: &mut Speaker, wire: &mut W, buf: &mut [u8], turns: u32) -> Report
@@ -68,7 +68,8 @@ fn run_turn<W: Wire>(
     }
 }
 
-/// Passes to the speaker what [`Wire::recv`] returned, with the buffer that it wrote to, and counts it.
+/// Passes to the speaker what [`Wire::recv`] returned, with the buffer that it wrote to, and counts
+/// it.
 pub fn receive(
     speaker: &mut Speaker,
     now: u64,

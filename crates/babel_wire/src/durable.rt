@@ -1,4 +1,5 @@
-//! Turns of a speaker that may be killed at any moment: its snapshot is kept before a datagram is sent.
+//! Turns of a speaker that may be killed at any moment: its snapshot is kept before a datagram is
+//! sent.
 
 mod driving;
 mod intake;

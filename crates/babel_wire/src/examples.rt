@@ -1,5 +1,5 @@
-//! Examples worked by hand, on which the definitions are computed: each is the contract of a function that
-//! does nothing.
+//! Examples worked by hand, on which the definitions are computed: each is the contract of a
+//! function that does nothing.
 
 ghost use Rattle.std.specs.Prelude.{◌≡◌, true, false, [], ◌∷◌, Some, None};
 ghost use Rattle.babel_wire.specs.Calls.{Recv, Now, Send, Keep, Nothing};
@@ -7,8 +7,8 @@ ghost use Rattle.babel_wire.specs.Keeping.{Unchanged, NotMade, calls_of_turn};
 ghost use Rattle.babel_wire.specs.Cuts.{IsCutOf, on_disk, sent_in};
 ghost use Rattle.babel_wire.specs.ExampleCuts.{sending, turn_at, kept_turn, failed_turn, both_turns, in_first_keep, after_first_keep, in_second_datagram, in_second_keep, old_file};
 
-/// The store is called before the wire is given a datagram. If the keep fails, or there are no octets, the
-/// wire is given none. A snapshot that is kept already isn't kept again.
+/// The store is called before the wire is given a datagram. If the keep fails, or there are no
+/// octets, the wire is given none. A snapshot that is kept already isn't kept again.
 pub fn keep_comes_first()
     ensures kept { calls_of_turn kept_turn ≡ Recv Nothing ∷ Now 5 ∷ Keep (1 ∷ []) true ∷ Send (sending 7 true) ∷ Send (sending 8 true) ∷ [] }
     ensures failed { calls_of_turn failed_turn ≡ Recv Nothing ∷ Now 6 ∷ Keep (2 ∷ []) false ∷ [] }

@@ -1,9 +1,10 @@
-//! A speaker of the Babel routing protocol (RFC 8966) over a wire: [`drive`] receives, ticks and sends in
-//! turns. A wire is anything that has a clock and passes datagrams on, as a set of sockets does.
+//! A speaker of the Babel routing protocol (RFC 8966) over a wire: [`drive`] receives, ticks and
+//! sends in turns. A wire is anything that has a clock and passes datagrams on, as a set of sockets
+//! does.
 //!
-//! A speaker that may be killed at any moment is driven by [`drive_durable`], which keeps its snapshot before
-//! the datagrams of a turn are sent, and [`take_in`], which takes in datagrams between turns. What is on disk
-//! when the process is killed is the subject of [`laws`].
+//! A speaker that may be killed at any moment is driven by [`drive_durable`], which keeps its
+//! snapshot before the datagrams of a turn are sent, and [`take_in`], which takes in datagrams
+//! between turns. What is on disk when the process is killed is the subject of [`laws`].
 //!
 //! - `wire`: what a speaker is driven over. `driving`: turns over a wire.
 //! - `durable`: turns over a wire and a store. `laws` and `examples` are about these.

@@ -7,7 +7,8 @@ use crate::WireFault;
 use babel_state::Target;
 use babel_value::Addr;
 
-/// A datagram that came. Its octets are at the start of the buffer that was passed to [`Wire::recv`].
+/// A datagram that came. Its octets are at the start of the buffer that was passed to
+/// [`Wire::recv`].
 #[derive(Clone, Copy, Debug, PartialEq, Eq)]
 pub struct Arrival {
     /// The number of the interface over which it came.
@@ -20,8 +21,8 @@ pub struct Arrival {
 
 /// A clock, and datagrams that come and go.
 pub trait Wire {
-    /// The calls of `recv`, `now` and `send` so far, with what they returned, if the wire knows them. Of a
-    /// real network nothing is known.
+    /// The calls of `recv`, `now` and `send` so far, with what they returned, if the wire knows
+    /// them. Of a real network nothing is known.
     ghost history: { Self → Option (List Call) } = { λ _. None };
 
     /// How many calls failed.

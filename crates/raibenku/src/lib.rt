@@ -4,13 +4,13 @@
 //!
 //! - `Config` and `Interface` are the configuration, `read_config` reads it from TOML;
 //! - `Speaker` is the speaker: datagrams and moments in, datagrams and selected routes out;
-//! - `drive` gives it its turns over a `Wire`, and `drive_durable` keeps its snapshot as well; `take_in` takes in a
-//!   datagram between turns;
+//! - `drive` gives it its turns over a `Wire`, and `drive_durable` keeps its snapshot as well;
+//!   `take_in` takes in a datagram between turns;
 //! - `UdpWire` is a wire over UDP sockets;
 //! - `Addr`, `Prefix`, `Metric` and the others are the values that the calls take and return.
 //!
-//! Of its own it has `UdpWire`: `links` is what the sockets need of a configuration, `sockets` the wire over them and IPv4, and
-//! `errors` why a speaker can't speak over it.
+//! Of its own it has `UdpWire`: `links` is what the sockets need of a configuration, `sockets` the
+//! wire over them and IPv4, and `errors` why a speaker can't speak over it.
 #![tactic(auto)]
 
 mod errors;

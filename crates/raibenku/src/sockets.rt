@@ -24,9 +24,11 @@ struct Port {
     peers: Vec<Addr>,
 }
 
-/// The sockets of a speaker, and its clock, which begins at 0. There is a socket for each interface, over UDP and IPv4.
+/// The sockets of a speaker, and its clock, which begins at 0. There is a socket for each
+/// interface, over UDP and IPv4.
 ///
-/// It counts the calls that failed, up to 2^63: a speaker is driven over it as long as there were fewer.
+/// It counts the calls that failed, up to 2^63: a speaker is driven over it as long as there were
+/// fewer.
 #[derive(Drop)]
 pub struct UdpWire<'a, R: Clock> {
     clock: &'a R,
@@ -177,8 +179,8 @@ impl<R: Clock> UdpWire<'_, R> {
         }
     }
 
-    /// Sends a datagram to its target: a copy to each peer if it is for all. Each copy is tried, and the
-    /// datagram is sent if each of them was.
+    /// Sends a datagram to its target: a copy to each peer if it is for all. Each copy is tried,
+    /// and the datagram is sent if each of them was.
     fn send_over(&self, target: &Target, octets: &[u8]) -> bool {
         let Some(port) = self.ports.get(usize::from(target.iface)) else {
             return false;
@@ -206,7 +208,8 @@ impl<R: Clock> Wire for UdpWire<'_, R> {
         self.moment
     }
 
-    /// Waits at most 10 ms on each socket. The socket after the one that received last is asked first.
+    /// Waits at most 10 ms on each socket. The socket after the one that received last is asked
+    /// first.
     fn recv(&mut self, buf: &mut [u8]) -> Result<Option<Arrival>, WireFault> {
         for iface in self.order() {
             match self.recv_over(iface, buf) {

@@ -14,9 +14,9 @@ use std::io::{Read, Write};
 /// The moment at which a speaker is restored.
 const MOMENT: u64 = 0;
 
-/// Writes `ok` if a speaker can be made of the configuration in the file. With the file of a snapshot, the
-/// speaker is restored from it, and what it restored is written too: `ok <n> sources seqno <n> raises <n>`.
-/// Else the code is written to `err`.
+/// Writes `ok` if a speaker can be made of the configuration in the file. With the file of a
+/// snapshot, the speaker is restored from it, and what it restored is written too:
+/// `ok <n> sources seqno <n> raises <n>`. Else the code is written to `err`.
 pub fn check<C: Read + Drop, S: Read + Drop, W: Write, E: Write>(
     alloc: Global,
     config: C,

@@ -54,8 +54,8 @@ pub(crate) struct Hops {
 }
 
 impl Hops {
-    /// No next hop for the distinct prefixes of the configurations, in the order in which they are listed
-    /// first.
+    /// No next hop for the distinct prefixes of the configurations, in the order in which they are
+    /// listed first.
     pub(crate) fn new(alloc: Global, configs: &[Config]) -> Result<Hops, AllocError> {
         let prefixes = prefixes_of(alloc, configs)?;
         let ascending = ascending_of(alloc, prefixes.as_slice())?;
@@ -70,8 +70,8 @@ impl Hops {
         })
     }
 
-    /// Writes each next hop of the node of the event of this number that changed in the event. It is called after each event
-    /// that may have changed a selected route.
+    /// Writes each next hop of the node of the event of this number that changed in the event. It
+    /// is called after each event that may have changed a selected route.
     pub(crate) fn write_changes<N: Runs, W: Write>(
         &mut self,
         number: usize,
@@ -158,8 +158,8 @@ fn see_routes<N: Runs>(
     has_changed
 }
 
-/// Whether both are the same. The orders of neighbours and router-ids compare octets as numbers, which is faster
-/// than `==`.
+/// Whether both are the same. The orders of neighbours and router-ids compare octets as numbers,
+/// which is faster than `==`.
 fn is_same(one: &Option<Route>, other: &Option<Route>) -> bool {
     match (one, other) {
         (None, None) => true,
@@ -172,8 +172,8 @@ fn is_same(one: &Option<Route>, other: &Option<Route>) -> bool {
     }
 }
 
-/// The node's selected route to the prefix, if `place` is no greater than its place among the selections. The next
-/// greater prefix is then at `place` or after it.
+/// The node's selected route to the prefix, if `place` is no greater than its place among the
+/// selections. The next greater prefix is then at `place` or after it.
 fn next_route<N: Runs>(
     network: &N,
     node: usize,

@@ -44,7 +44,8 @@ pub(crate) enum Hop {
 
 /// A network that runs the events of a scenario.
 pub(crate) trait Runs {
-    /// Makes the step of the event, or refuses it and changes nothing. Returns what it sent, if the network reports it.
+    /// Makes the step of the event, or refuses it and changes nothing. Returns what it sent, if the
+    /// network reports it.
     fn step(&mut self, event: &ScenarioEvent) -> Result<Option<Emitted>, EventFault>;
 
     /// Reserves the room for so many more datagrams.

@@ -13,9 +13,9 @@ use babel_text::LineFault;
 use std::alloc::Global;
 use std::io::{Read, Write};
 
-/// Runs the network of the scenario in the file. After each event it writes the next hops that changed, and
-/// at the end how many events and datagrams there were. A refused event is the last line. Else a code is
-/// written to `err`.
+/// Runs the network of the scenario in the file. After each event it writes the next hops that
+/// changed, and at the end how many events and datagrams there were. A refused event is the last
+/// line. Else a code is written to `err`.
 pub fn net<R: Read + Drop, W: Write, E: Write>(
     alloc: Global,
     scenario: R,
@@ -25,7 +25,8 @@ pub fn net<R: Read + Drop, W: Write, E: Write>(
     end(try_net(alloc, scenario, EventLines::Hidden, out), err)
 }
 
-/// The same, and the fault is returned. If it is asked for, there is a line for each event that says what it did.
+/// The same, and the fault is returned. If it is asked for, there is a line for each event that
+/// says what it did.
 pub fn try_net<R: Read + Drop, W: Write>(
     alloc: Global,
     scenario: R,
@@ -139,8 +140,8 @@ fn write_events<N: Runs, W: Write>(
     Ok(Outcome::AllRun)
 }
 
-/// Whether the selected routes of the event's node may be others than when its count of their changes was this. A restart
-/// makes the count again, and at its greatest value it can't grow.
+/// Whether the selected routes of the event's node may be others than when its count of their
+/// changes was this. A restart makes the count again, and at its greatest value it can't grow.
 fn may_differ<N: Runs>(event: &ScenarioEvent, version: Option<u64>, network: &N) -> bool {
     if let ScenarioEvent::Ours(Event::Restart { .. }) = event {
         return true;

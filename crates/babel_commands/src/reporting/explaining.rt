@@ -8,8 +8,8 @@ use babel_text::{LineFault, parse_prefix};
 use std::alloc::Global;
 use std::io::{BufReader, Read, Write};
 
-/// Writes the routes of the prefix after the log, and why each is used or not. A fault of the prefix, the
-/// configuration or the log is written to `err`.
+/// Writes the routes of the prefix after the log, and why each is used or not. A fault of the
+/// prefix, the configuration or the log is written to `err`.
 pub fn explain<C: Read + Drop, L: Read + Drop, W: Write, E: Write>(
     alloc: Global,
     config: C,

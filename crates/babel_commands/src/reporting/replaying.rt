@@ -56,8 +56,8 @@ pub struct SelectedLog<'a, L: Drop> {
     pub details: Details,
 }
 
-/// The same for some lines of the report. With sentences, that of each code comes once, after the line
-/// that has it first. The memory doesn't grow with the log.
+/// The same for some lines of the report. With sentences, that of each code comes once, after the
+/// line that has it first. The memory doesn't grow with the log.
 pub fn try_replay_selected<C: Read + Drop, L: Read + Drop, W: Write, E: Write>(
     alloc: Global,
     config: C,

@@ -35,8 +35,8 @@ impl<'a, W: Write, E: Write> ExplainedReport<'a, W, E> {
         }
     }
 
-    /// Writes the sentences of the text's codes. The report is flushed before, so that its line comes
-    /// first.
+    /// Writes the sentences of the text's codes. The report is flushed before, so that its line
+    /// comes first.
     fn explain(&mut self, text: &[u8]) -> io::Result<()> {
         for word in text.split(|octet| matches!(*octet, b' ' | b'\n')) {
             let Some(code) = ReportCode::from_name(word) else {

@@ -235,7 +235,8 @@ impl Shower {
         }
     }
 
-    /// Writes a line for each place of the datagram, and the sentence of each of their codes, if it is wanted and new.
+    /// Writes a line for each place of the datagram, and the sentence of each of their codes, if it
+    /// is wanted and new.
     fn show_places<W: Write, E: Write>(
         &mut self,
         out: &mut W,
@@ -249,7 +250,8 @@ impl Shower {
         explain_places(self.placed.as_slice(), origin, &mut self.seen, out, err)
     }
 
-    /// Writes the line of a refused datagram, and the sentence of its code, if it is wanted and new.
+    /// Writes the line of a refused datagram, and the sentence of its code, if it is wanted and
+    /// new.
     fn show_refusal<W: Write, E: Write>(
         &mut self,
         refusal: Refusal,

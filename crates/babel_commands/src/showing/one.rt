@@ -112,8 +112,8 @@ fn write_meaning<W: Write>(
     }
 }
 
-/// Writes a line for each place. Each is put together in `line` and written as octets, since a text would be tested
-/// for UTF-8.
+/// Writes a line for each place. Each is put together in `line` and written as octets, since a text
+/// would be tested for UTF-8.
 pub(crate) fn write_places<W: Write>(
     placed: &[Placed],
     line: &mut Line,

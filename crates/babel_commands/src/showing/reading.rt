@@ -66,7 +66,8 @@ enum Part {
     Last,
 }
 
-/// Appends what the input has in its buffer of the line. The end is searched by words, not octet by octet.
+/// Appends what the input has in its buffer of the line. The end is searched by words, not octet by
+/// octet.
 ///
 /// A call that the system interrupts is made again.
 fn read_part<R: BufRead>(input: &mut R, line: &mut Vec<u8>) -> Result<Part, LineFault> {

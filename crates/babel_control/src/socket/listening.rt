@@ -75,7 +75,8 @@ pub fn local_address(port: u16) -> SocketAddr {
     SocketAddr::V6(SocketAddrV6::new(loopback, port, 0, 0))
 }
 
-/// Makes a socket at the path. One that a process left there, which doesn't listen any more, is replaced. Another file isn't.
+/// Makes a socket at the path. One that a process left there, which doesn't listen any more, is
+/// replaced. Another file isn't.
 ///
 /// # Errors
 ///

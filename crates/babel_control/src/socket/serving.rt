@@ -53,8 +53,8 @@ impl ControlSocket {
         })
     }
 
-    /// Serves the clients. Bit 0 of `ready` is set if the listener was ready, and bit `n + 1` if the client with number `n` was.
-    /// Returns what a client wants of the speaker.
+    /// Serves the clients. Bit 0 of `ready` is set if the listener was ready, and bit `n + 1` if
+    /// the client with number `n` was. Returns what a client wants of the speaker.
     pub fn serve<T: Tables>(
         &mut self,
         ready: u64,
@@ -85,8 +85,8 @@ impl ControlSocket {
         false
     }
 
-    /// Adds lines of the log for each client that is sent it. `None`: there was no room for them, and no client can go on with
-    /// the log: the connections of those that are sent it end.
+    /// Adds lines of the log for each client that is sent it. `None`: there was no room for them,
+    /// and no client can go on with the log: the connections of those that are sent it end.
     pub fn push_log(&mut self, lines: Option<&str>) {
         for slot in self.clients.iter_mut() {
             if let Some(connection) = slot {
@@ -190,7 +190,8 @@ fn wants_tables(asked: &[Asked]) -> bool {
     false
 }
 
-/// Adds the changes for each client that monitors. If they could not be written its connection is closed.
+/// Adds the changes for each client that monitors. If they could not be written its connection is
+/// closed.
 fn push_changes(
     clients: &mut [Option<Connection>],
     written: Result<(), AllocError>,

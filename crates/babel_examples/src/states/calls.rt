@@ -17,8 +17,8 @@ ghost use Rattle.babel_examples.specs.LostRoutes.{selected_peer, updated_5};
 ghost use Rattle.babel_examples.specs.FullTables.{full_of_neighbours, full_of_routes, full_of_sources, at_greatest};
 ghost use Rattle.babel_examples.specs.CallExamples.{announced_ten, withdrawn_ten, flushed};
 
-/// An announced prefix has no selection, and is advertised with the own router-id; when it is withdrawn the
-/// route is selected again. Both are advertised to all once.
+/// An announced prefix has no selection, and is advertised with the own router-id; when it is
+/// withdrawn the route is selected again. Both are advertised to all once.
 pub fn announced_and_withdrawn()
     ensures announced { announced_ten.announced ≡ (ten, tt) ∷ [] }
     ensures no_selection { selected_peer announced_ten ≡ None }

@@ -28,8 +28,8 @@ pub fn first_datagram()
     ensures next_datagram { (datagram 0 state_1).target ≡ None }
 {}
 
-/// With the second Hello and an IHU the link costs 96, and the update of 10.0.0.0/8 with metric 0 is
-/// selected. It is advertised to all.
+/// With the second Hello and an IHU the link costs 96, and the update of 10.0.0.0/8 with metric 0
+/// is selected. It is advertised to all.
 pub fn second_datagram()
     ensures notes { notes_of 400 (peer 1) second state_1 ≡ note 4 verdicts.Taken ∷ note 12 verdicts.Taken ∷ note 24 verdicts.State ∷ note 36 verdicts.Taken ∷ [] }
     ensures selection { selected_at ten state_2 ≡ Some (record { peer = peer 1; entry = entry_2 }) }
@@ -41,8 +41,8 @@ pub fn second_datagram()
     ensures left { queued_items built_2.state ≡ [] }
 {}
 
-/// What was sent is no better than what neighbour 3 advertises: it isn't feasible, and nothing changes but
-/// the table.
+/// What was sent is no better than what neighbour 3 advertises: it isn't feasible, and nothing
+/// changes but the table.
 pub fn third_datagram()
     ensures notes { notes_of 500 (peer 3) third built_2.state ≡ note 4 verdicts.Taken ∷ note 12 verdicts.State ∷ note 24 (verdicts.Unfeasible (pair 0 96)) ∷ [] }
     ensures selection { selected_at ten state_3 ≡ Some (record { peer = peer 1; entry = entry_2 }) }

@@ -23,7 +23,8 @@ pub fn unfeasible_with_another_route()
     ensures pending { changed.requests ≡ (ten_of 1, record { seqno = 6; resend = Neighbour (peer 1); wait = 200; due = 220 }) ∷ [] }
 {}
 
-/// If there is no other route, it is lost. That is advertised to all, and then the neighbour is asked.
+/// If there is no other route, it is lost. That is advertised to all, and then the neighbour is
+/// asked.
 pub fn unfeasible_without_another_route()
     ensures verdict { verdict 20 1 (update 1 1 5 96) updated_5 ≡ verdicts.Unfeasible (pair 5 96) }
     ensures selected { selected_peer lost ≡ None }
@@ -42,8 +43,8 @@ pub fn two_unfeasible_routes()
     ensures repeated { queued_items (requests_ticked 220 (with_pending [] both_lost)) ≡ items.Request (peer 1) (ten_of 1) 6 64 ∷ items.Request (peer 3) (ten_of 1) 6 64 ∷ [] }
 {}
 
-/// Of two routes that are as good the selected one stays. Where it goes, and the other is of another
-/// router, that is advertised to all, and nobody is asked.
+/// Of two routes that are as good the selected one stays. Where it goes, and the other is of
+/// another router, that is advertised to all, and nobody is asked.
 pub fn route_of_another_router()
     ensures stays { selected_peer tied ≡ Some (peer 1) }
     ensures not_advertised { queued_items tied ≡ [] }
@@ -75,8 +76,8 @@ pub fn nobody_to_ask()
     ensures pending { (requests_ticked 220 (after 30 1 (messages.Retraction ten 1600) waiting)).requests ≡ (ten_of 1, record { seqno = 6; resend = Unfeasible; wait = 400; due = 620 }) ∷ [] }
 {}
 
-/// The new route is selected, removes the request, and is advertised to all: once as a new route, once as an
-/// reply.
+/// The new route is selected, removes the request, and is advertised to all: once as a new route,
+/// once as an reply.
 pub fn answered_request()
     ensures verdict { verdict 50 1 (update 1 1 6 0) waiting ≡ verdicts.Taken }
     ensures selected { selected_peer (after 50 1 (update 1 1 6 0) waiting) ≡ Some (peer 1) }

@@ -19,8 +19,8 @@ pub fn route_spreads()
     ensures stays { selected_peer b_5 ≡ Some (peer 1) }
 {}
 
-/// When node 0 isn't heard any more, node 1 doesn't select the route that node 2 had from it, however
-/// late that comes. It asks for a greater seqno.
+/// When node 0 isn't heard any more, node 1 doesn't select the route that node 2 had from it,
+/// however late that comes. It asks for a greater seqno.
 pub fn no_loop_after_a_loss()
     ensures one_missed { selected_peer b_6 ≡ Some (peer 1) }
     ensures lost { selected_peer b_7 ≡ None }

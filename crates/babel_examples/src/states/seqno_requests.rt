@@ -23,7 +23,8 @@ pub fn own_prefix()
     ensures other_router_stays { (after 0 1 (seqno_request 9 100 64) own).seqno ≡ 0 }
 {}
 
-/// A request for a greater seqno than the selected route's goes to its neighbour, with one hop less.
+/// A request for a greater seqno than the selected route's goes to its neighbour, with one hop
+/// less.
 pub fn forwarded_request()
     ensures verdict { verdict 100 3 (seqno_request 1 7 64) updated_5 ≡ verdicts.Taken }
     ensures queued { queued_items forwarded ≡ items.Request (peer 1) (ten_of 1) 7 63 ∷ [] }

@@ -53,8 +53,8 @@ pub fn message_that_does_not_fit()
     ensures left { items.Hello 0 ∷ queued_items built_of_one.state ≡ queued_items first_tick }
 {}
 
-/// A route that isn't advertised again is retracted at its deadline, which is advertised to all, and goes at the
-/// next one. No request follows: nobody has a route.
+/// A route that isn't advertised again is retracted at its deadline, which is advertised to all,
+/// and goes at the next one. No request follows: nobody has a route.
 pub fn route_deadline()
     ensures early { selected_peer (routes_selected 5599 routing) ≡ Some (peer 1) }
     ensures due { selected_peer (routes_selected 5600 routing) ≡ None }

@@ -12,8 +12,8 @@ pub enum Step<'a> {
 /// The most steps of a path: a node, an interface, a key and an element.
 pub(crate) const MAX_STEPS: usize = 6;
 
-/// The steps from the table of a document to a value. A step for which there is no room is left out;
-/// no path has so many.
+/// The steps from the table of a document to a value. A step for which there is no room is left
+/// out; no path has so many.
 #[derive(Clone, Copy)]
 pub struct Path<'a> {
     steps: [Step<'a>; MAX_STEPS],

@@ -11,7 +11,8 @@ use std::alloc::Global;
 use std::io::{self, Write};
 use toml::Table;
 
-/// Writes why the file is refused: T1 to T19. If the cause isn't found, the sentence is that of the code.
+/// Writes why the file is refused: T1 to T19. If the cause isn't found, the sentence is that of the
+/// code.
 pub fn explain_topology<W: Write>(
     alloc: Global,
     file: FileText<'_>,

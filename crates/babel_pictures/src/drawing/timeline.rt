@@ -296,8 +296,8 @@ const SHOWN: &str = "shown above";
 /// Half of its width, in pixels.
 const HALF_SHOWN: i64 = 40;
 
-/// Writes the moment that the network is drawn at. At the right end, which is drawn if no other is named, the text ends at
-/// the moment: around it, it would leave the picture.
+/// Writes the moment that the network is drawn at. At the right end, which is drawn if no other is
+/// named, the text ends at the moment: around it, it would leave the picture.
 fn write_moment<W: Write>(
     moment: u64,
     scale: &Scale,

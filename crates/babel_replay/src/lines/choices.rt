@@ -20,8 +20,8 @@ pub struct Choice {
     pub seqno: Seqno,
 }
 
-/// The line becomes that of a prefix whose selected route is another than the one that was last printed. `None`: it has
-/// no route.
+/// The line becomes that of a prefix whose selected route is another than the one that was last
+/// printed. `None`: it has no route.
 pub fn set_select(text: &mut Line, time: u64, prefix: &Prefix, choice: &Option<Choice>)
     ensures { text.new ≡ line (select_text time prefix.now choice.now) }
 {

@@ -20,7 +20,8 @@ pub fn set_moment(line: &mut Line, time: u64)
     line.push_str(" ");
 }
 
-/// Appends what became of a TLV to the moment: a message with its verdict, `state`, or `ignored` and the reason.
+/// Appends what became of a TLV to the moment: a message with its verdict, `state`, or `ignored`
+/// and the reason.
 pub fn push_tlv(line: &mut Line, placed: &Placed, verdict: &Verdict)
     requires room { length line.old ≤ longest_moment }
     ensures { line.new ≡ line.old ++ tlv_line placed.now verdict.now }

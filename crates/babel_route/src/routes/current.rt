@@ -1,6 +1,6 @@
 //! Whether the selection of a prefix is current (RFC 8966, section 3.6).
 
-ghost use Rattle.std.specs.Prelude.{◌≡◌, ◌<◌, Bool, true, Some, None, length, slice_get, option_and_then, IsSome, IsNone, IsTrue, IfSome};
+ghost use Rattle.std.specs.Prelude.{◌≡◌, ◌<◌, Bool, true, Some, None, length, slice_get, option_and_then, if◌then◌else◌, IsSome, IsNone, IsTrue, IfSome};
 ghost use Rattle.std.specs.FinMap.{find};
 ghost use Rattle.std.specs.Ordering.{eq_by_cmp};
 ghost use Rattle.babel_value.specs.Orders.{prefix_cmp, peer_cmp};
@@ -8,23 +8,24 @@ ghost use Rattle.babel_table.specs.Entries.{with_value};
 ghost use Rattle.babel_table.specs.Places.{IsAt, IsGap};
 ghost use Rattle.babel_choice.specs.Choices.{is_change, peer_before, selection_of};
 ghost use Rattle.babel_choice.specs.Origins.{is_own};
-ghost use Rattle.babel_route.specs.OriginChanges.{origin_change, selection_from};
+ghost use Rattle.babel_route.specs.declared.routes.changes.Report.{Report};
+ghost use Rattle.babel_route.specs.SelectionChanges.{is_alike, origin_change, selection_change, selection_from};
 ghost use Rattle.babel_route.specs.Currency.{is_same_distance, is_same_entry, is_same_selection, is_current};
 ghost use Rattle.babel_route.specs.Selections.{selection_at, reselected, IsCurrentBut};
 
 use super::RoutesOver;
-use super::origins::OriginChange;
+use super::changes::{OriginChange, Report, SelectionChange};
 use babel_choice::{
     ChoiceInputs, Costs, Cursor, Entry, Origin, RouteKey, Selection, choose, choose_place,
-    overtakes,
+    overtakes, peer_of,
 };
 use babel_sources::{SourceEntry, SourcesOver};
 use babel_table::{Table, find_near, seek_near};
 use babel_value::{Distance, Peer, Prefix, Source};
 
 impl<E: Table<RouteKey, Entry>, S: Table<Prefix, Selection>> RoutesOver<E, S> {
-    /// Whether the selection of the prefix is the one that a reselection would leave. The searches begin at the
-    /// cursor, which goes to the prefix.
+    /// Whether the selection of the prefix is the one that a reselection would leave. The searches
+    /// begin at the cursor, which goes to the prefix.
     pub fn is_current_near<T: Table<Source, SourceEntry>, C: Costs>(
         &self,
         prefix: &Prefix,
@@ -47,9 +48,11 @@ impl<E: Table<RouteKey, Entry>, S: Table<Prefix, Selection>> RoutesOver<E, S> {
         is_same_selection(&before, &after)
     }
 
-    /// The selection of the key's prefix, if it is another neighbour's and a reselection would leave it, since the route of the
-    /// key's neighbour is no better. That follows from these two routes alone if the selection is current but for the routes of
-    /// that neighbour. `None` says nothing. The cursor is at the neighbour's route, and goes to the selection.
+    /// The neighbour of the selection of the key's prefix, if it is another one and a reselection
+    /// would leave the selection, since the route of the key's neighbour is no better. That follows
+    /// from these two routes alone if the selection is current but for the routes of that
+    /// neighbour. `None` says nothing. The cursor is at the neighbour's route, and goes to the
+    /// selection.
     #[inline(always)]
     pub fn kept_selection<T: Table<Source, SourceEntry>, C: Costs>(
         &self,
@@ -57,8 +60,8 @@ impl<E: Table<RouteKey, Entry>, S: Table<Prefix, Selection>> RoutesOver<E, S> {
         sources: &SourcesOver<T>,
         costs: &C,
         cursor: &mut Cursor,
-    ) -> Option<Selection>
-        ensures selection { IsSome result → result ≡ selection_at key.now.prefix self.now }
+    ) -> Option<Peer>
+        ensures selection { IsSome result → result ≡ peer_before (selection_at key.now.prefix self.now) }
         ensures kept { IsSome result → (local : Bool) → IsCurrentBut sources.now (C.cost_of costs.now) key.now.peer key.now.prefix local self.now → self.now ≡ reselected sources.now (C.cost_of costs.now) key.now.prefix local self.now }
     {
         let mut place = cursor.selection;
@@ -73,17 +76,19 @@ impl<E: Table<RouteKey, Entry>, S: Table<Prefix, Selection>> RoutesOver<E, S> {
         if overtakes(&inputs, &route, &before, &mut cursor.source) {
             return None;
         }
-        before
+        peer_of(&before)
     }
 
-    /// Whether some prefix may have routes of several neighbours and a selection: there are selections, and more routes.
+    /// Whether some prefix may have routes of several neighbours and a selection: there are
+    /// selections, and more routes.
     #[inline(always)]
     pub fn are_shared(&self) -> bool {
         let selected = self.selections.len();
         selected > 0 && self.entries.len() > selected
     }
 
-    /// Whether the route at the index is next to one of the same prefix, so that its prefix has routes of several neighbours.
+    /// Whether the route at the index is next to one of the same prefix, so that its prefix has
+    /// routes of several neighbours.
     #[inline(always)]
     pub fn is_shared(&self, place: usize) -> bool {
         let Some(route) = self.entries.at(place) else {
@@ -94,7 +99,7 @@ impl<E: Table<RouteKey, Entry>, S: Table<Prefix, Selection>> RoutesOver<E, S> {
             || has_prefix_at(&self.entries, place.wrapping_sub(1), prefix)
     }
 
-    /// Selects the route of the prefix again, as `select_near`, and returns how the origin of its selected route changed. No
+    /// Selects the route of the prefix again, as `select_near`, and returns what changed. No
     /// selection is copied but one that is stored. The cursor goes to the next prefix.
     #[inline(always)]
     pub fn select_changed<T: Table<Source, SourceEntry>, C: Costs>(
@@ -104,8 +109,8 @@ impl<E: Table<RouteKey, Entry>, S: Table<Prefix, Selection>> RoutesOver<E, S> {
         sources: &SourcesOver<T>,
         costs: &C,
         cursor: &mut Cursor,
-    ) -> OriginChange
-        ensures change { result ≡ origin_change (selection_at prefix.now self.old) (selection_at prefix.now self.new) }
+    ) -> SelectionChange
+        ensures change { result ≡ selection_change (selection_at prefix.now self.old) (selection_at prefix.now self.new) }
         ensures routes { self.new ≡ reselected sources.now (C.cost_of costs.now) prefix.now (is_own origin) self.old }
     {
         let mut place = cursor.selection;
@@ -116,7 +121,8 @@ impl<E: Table<RouteKey, Entry>, S: Table<Prefix, Selection>> RoutesOver<E, S> {
             costs,
         };
         let chosen = choose_place(&inputs, prefix, origin, before, cursor);
-        // After a selection that is new, the next one is mostly new too: then its search begins here.
+        // After a selection that is new, the next one is mostly new too: then its search begins
+        // here.
         cursor.selection = place.wrapping_add(usize::from(before.is_some() && chosen.is_some()));
         if before.is_some() {
             exchange_at(&self.entries, &mut self.selections, place, prefix, chosen)
@@ -126,8 +132,8 @@ impl<E: Table<RouteKey, Entry>, S: Table<Prefix, Selection>> RoutesOver<E, S> {
     }
 }
 
-/// The neighbour of the prefix's selection. `near` becomes the index of the selection, or the one at which it would be
-/// inserted.
+/// The neighbour of the prefix's selection. `near` becomes the index of the selection, or the one
+/// at which it would be inserted.
 #[inline(always)]
 fn selected_peer_near<S: Table<Prefix, Selection>>(
     selections: &S,
@@ -145,8 +151,8 @@ fn selected_peer_near<S: Table<Prefix, Selection>>(
     Some(selected.1.peer)
 }
 
-/// Makes the route at the index `chosen` the selection of the prefix, whose selection is at the index `place`, or removes
-/// that if there is none.
+/// Makes the route at the index `chosen` the selection of the prefix, whose selection is at the
+/// index `place`, or removes that if there is none.
 #[inline(always)]
 fn exchange_at<E: Table<RouteKey, Entry>, S: Table<Prefix, Selection>>(
     entries: &E,
@@ -154,27 +160,28 @@ fn exchange_at<E: Table<RouteKey, Entry>, S: Table<Prefix, Selection>>(
     place: usize,
     prefix: &Prefix,
     chosen: Option<usize>,
-) -> OriginChange
+) -> SelectionChange
     requires at { IsAt prefix.now (S.entries selections.old) place }
-    ensures change { result ≡ origin_change (find prefix_cmp prefix.now (S.entries selections.old)) (selection_from chosen (E.entries entries.now)) }
+    ensures change { result ≡ selection_change (find prefix_cmp prefix.now (S.entries selections.old)) (selection_from chosen (E.entries entries.now)) }
     ensures entries { S.entries selections.new ≡ with_value prefix_cmp prefix.now (selection_from chosen (E.entries entries.now)) (S.entries selections.old) }
     ensures room { S.room selections.new ≡ S.room selections.old }
 {
     let Some(old) = selections.at(place) else {
-        return OriginChange::Same;
+        return SelectionChange::kept(None);
     };
     let Some(new) = route_from(entries, chosen) else {
         selections.remove_at(place, prefix);
         return loss_of(&old.1);
     };
     if is_selection_of(&old.1, &new) {
-        return OriginChange::Same;
+        return SelectionChange::kept(Some(old.1.peer));
     }
     selections.replace(place, *prefix, selection_of(&new));
-    change_of_router(&old.1, &new)
+    change_to(&old.1, &new)
 }
 
-/// Makes the route at the index `chosen` the selection of the prefix, which has none and would have it at the index `place`.
+/// Makes the route at the index `chosen` the selection of the prefix, which has none and would have
+/// it at the index `place`.
 #[inline(always)]
 fn insert_at<E: Table<RouteKey, Entry>, S: Table<Prefix, Selection>>(
     entries: &E,
@@ -182,19 +189,23 @@ fn insert_at<E: Table<RouteKey, Entry>, S: Table<Prefix, Selection>>(
     place: usize,
     prefix: &Prefix,
     chosen: Option<usize>,
-) -> OriginChange
+) -> SelectionChange
     requires gap { IsGap prefix_cmp prefix.now (S.entries selections.old) place }
     requires room { IsSome (selection_from chosen (E.entries entries.now)) → length (S.entries selections.old) < S.room selections.old }
-    ensures change { result ≡ origin_change (find prefix_cmp prefix.now (S.entries selections.old)) (selection_from chosen (E.entries entries.now)) }
+    ensures change { result ≡ selection_change (find prefix_cmp prefix.now (S.entries selections.old)) (selection_from chosen (E.entries entries.now)) }
     ensures entries { S.entries selections.new ≡ with_value prefix_cmp prefix.now (selection_from chosen (E.entries entries.now)) (S.entries selections.old) }
     ensures room { S.room selections.new ≡ S.room selections.old }
 {
     match route_from(entries, chosen) {
         Some(new) => {
             selections.insert(place, *prefix, selection_of(&new));
-            OriginChange::New
+            SelectionChange {
+                before: None,
+                origin: OriginChange::New,
+                report: Report::Other,
+            }
         }
-        None => OriginChange::Same,
+        None => SelectionChange::kept(None),
     }
 }
 
@@ -230,18 +241,34 @@ fn is_selection_of(selection: &Selection, route: &(RouteKey, Entry)) -> bool
 
 /// The loss of a selected route.
 #[inline(always)]
-fn loss_of(old: &Selection) -> OriginChange
-    ensures { result ≡ origin_change (Some old.now) None }
+fn loss_of(old: &Selection) -> SelectionChange
+    ensures { result ≡ selection_change (Some old.now) None }
 {
-    OriginChange::Lost {
-        router: old.entry.router,
-        seqno: old.entry.distance.seqno,
+    SelectionChange {
+        before: Some(old.peer),
+        origin: OriginChange::Lost {
+            router: old.entry.router,
+            seqno: old.entry.distance.seqno,
+        },
+        report: Report::Other,
+    }
+}
+
+/// The change from the selection to the route.
+#[inline(always)]
+fn change_to(old: &Selection, new: &(RouteKey, Entry)) -> SelectionChange
+    ensures { result ≡ selection_change (Some old.now) (Some (selection_of new.now)) }
+{
+    SelectionChange {
+        before: Some(old.peer),
+        origin: origin_of(old, new),
+        report: report_of(old, new),
     }
 }
 
 /// How the origin changes from the selection to the route.
 #[inline(always)]
-fn change_of_router(old: &Selection, new: &(RouteKey, Entry)) -> OriginChange
+fn origin_of(old: &Selection, new: &(RouteKey, Entry)) -> OriginChange
     ensures { result ≡ origin_change (Some old.now) (Some (selection_of new.now)) }
 {
     if old.entry.router.cmp(&new.1.router).is_eq() {
@@ -249,6 +276,29 @@ fn change_of_router(old: &Selection, new: &(RouteKey, Entry)) -> OriginChange
     } else {
         OriginChange::New
     }
+}
+
+/// Whether the same is reported of the selection and of the route.
+#[inline(always)]
+fn report_of(old: &Selection, new: &(RouteKey, Entry)) -> Report
+    ensures { result ≡ (if is_alike old.now (selection_of new.now) then Report.Alike else Report.Other) }
+{
+    if is_alike(old, new) {
+        Report::Alike
+    } else {
+        Report::Other
+    }
+}
+
+#[inline(always)]
+fn is_alike(old: &Selection, new: &(RouteKey, Entry)) -> bool
+    ensures { result ≡ is_alike old.now (selection_of new.now) }
+{
+    let (one, other) = (&old.entry, &new.1);
+    old.peer.cmp(&new.0.peer).is_eq()
+        && one.router.cmp(&other.router).is_eq()
+        && one.next_hop.cmp(&other.next_hop).is_eq()
+        && is_same_distance(one.distance, other.distance)
 }
 
 /// The route at the index, if it is the key's, and the selection is another neighbour's or none.

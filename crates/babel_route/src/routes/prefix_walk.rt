@@ -22,8 +22,8 @@ use babel_table::Table;
 use babel_value::{Prefix, Source};
 use std::marker::Model;
 
-/// A walk over the prefixes that have an entry or a selection, in ascending order. A clause sees the entries and the
-/// selections that are still to come.
+/// A walk over the prefixes that have an entry or a selection, in ascending order. A clause sees
+/// the entries and the selections that are still to come.
 #[derive(Drop)]
 pub struct PrefixWalk<'a, E: Table<RouteKey, Entry>, S: Table<Prefix, Selection>> {
     entries: &'a E,
@@ -68,8 +68,8 @@ impl<'a, E: Table<RouteKey, Entry>, S: Table<Prefix, Selection>> PrefixWalk<'a, 
         lesser_prefix(route, selection)
     }
 
-    /// Passes the least prefix that is still to come. Returns whether its selection is the one that a reselection
-    /// would leave.
+    /// Passes the least prefix that is still to come. Returns whether its selection is the one that
+    /// a reselection would leave.
     pub fn pass<T: Table<Source, SourceEntry>, C: Costs>(
         &mut self,
         prefix: &Prefix,

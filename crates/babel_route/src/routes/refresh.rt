@@ -1,7 +1,7 @@
-//! Updates that repeat what the neighbour advertised. Most updates do. Only a deadline changes, and no choice
-//! (RFC 8966, sections 3.5.3 and 3.6).
+//! Updates that repeat what the neighbour advertised. Most updates do. Only a deadline changes, and
+//! no choice (RFC 8966, sections 3.5.3 and 3.6).
 
-ghost use Rattle.std.specs.Prelude.{◌≡◌, ◌↔◌, ℕ, Bool, true, Some, IfOk, OnOk, OnErr, IsErr, IfSome, IsSome, IsNone, option_map, if◌then◌else◌};
+ghost use Rattle.std.specs.Prelude.{◌≡◌, ◌↔◌, ℕ, Bool, true, Some, IfOk, OnOk, OnErr, IsErr, IfSome, IsSome, IsNone, option_map};
 ghost use Rattle.std.specs.Ordering.{eq_by_cmp};
 ghost use Rattle.std.specs.FinMap.{find, put};
 ghost use Rattle.babel_value.specs.declared.keys.Peer.{Peer};
@@ -14,8 +14,11 @@ ghost use Rattle.babel_sources.specs.Sources.{Sources};
 ghost use Rattle.babel_route.specs.Rooms.{most_routes};
 ghost use Rattle.babel_route.specs.Selections.{selection_at, reselected, places_taken, IsCurrent};
 ghost use Rattle.babel_route.specs.Repeats.{is_repeated, refreshed};
+ghost use Rattle.babel_route.specs.SelectionChanges.{selection_change};
+ghost use Rattle.babel_choice.specs.Choices.{peer_before};
 
 use super::RoutesOver;
+use super::changes::SelectionChange;
 use super::current::is_same_entry;
 use super::room::is_crowded;
 use babel_choice::{Cursor, Entry, ReceivedUpdate, RouteKey, Selection};
@@ -31,15 +34,16 @@ pub enum OnRepeat {
     Store,
 }
 
-/// The selection of a prefix before and after its deadline was set again, or `None` if the prefix is to be selected
-/// again.
-pub type Refreshed = Option<(Option<Selection>, Option<Selection>)>;
+/// What changed of the selection of a prefix when its deadline was set again, or `None` if the
+/// prefix is to be selected again.
+pub type Refreshed = Option<SelectionChange>;
 
 impl<E: Table<RouteKey, Entry>, S: Table<Prefix, Selection>> RoutesOver<E, S> {
-    /// Takes a neighbour's finite update of a prefix as `update` does. If it repeats the neighbour's entry, and that is
-    /// asked for, only the deadline changes, in the entry and in the selection of the prefix if that is of this
-    /// neighbour: if the selection is current, that is what a reselection of the prefix would leave. The searches
-    /// begin at the cursor, which goes to the route.
+    /// Takes a neighbour's finite update of a prefix as `update` does. If it repeats the
+    /// neighbour's entry, and that is asked for, only the deadline changes, in the entry and in the
+    /// selection of the prefix if that is of this neighbour: if the selection is current, that is
+    /// what a reselection of the prefix would leave. The searches begin at the cursor, which goes
+    /// to the route.
     #[inline(always)]
     pub fn store_near(
         &mut self,
@@ -52,8 +56,7 @@ impl<E: Table<RouteKey, Entry>, S: Table<Prefix, Selection>> RoutesOver<E, S> {
         ensures err { OnErr result (self.new ≡ self.old) }
         ensures stored { IfOk result (λ r. IsNone r → self.new ≡ record self.old { entries = updated now update.now.source.prefix update.now.peer update.now.source.router update.now.distance update.now.next_hop update.now.interval self.old.entries }) }
         ensures asked { IfOk result (λ r. IsSome r → on_repeat ≡ OnRepeat.Refresh) }
-        ensures before { IfOk result (λ r. IfSome r (λ s. s.0 ≡ selection_at update.now.source.prefix self.old)) }
-        ensures after { IfOk result (λ r. IfSome r (λ s. s.1 ≡ selection_at update.now.source.prefix self.new)) }
+        ensures change { IfOk result (λ r. IfSome r (λ change. change ≡ selection_change (selection_at update.now.source.prefix self.old) (selection_at update.now.source.prefix self.new))) }
         ensures routes { IfOk result (λ r. IsSome r → (sources : Sources) (cost : Peer → ℕ) (local : Bool) → IsCurrent sources cost update.now.source.prefix local self.old → self.new ≡ reselected sources cost update.now.source.prefix local (record self.old { entries = updated now update.now.source.prefix update.now.peer update.now.source.router update.now.distance update.now.next_hop update.now.interval self.old.entries })) }
     {
         let key = RouteKey {
@@ -100,25 +103,26 @@ impl<E: Table<RouteKey, Entry>, S: Table<Prefix, Selection>> RoutesOver<E, S> {
         Ok(())
     }
 
-    /// Stores an entry that repeats that of its key, and sets the deadline of the prefix's selection if that is of the
-    /// same neighbour. Returns that selection before and after. The index is that of the key.
+    /// Stores an entry that repeats that of its key, and sets the deadline of the prefix's
+    /// selection if that is of the same neighbour. Returns what changed of that selection. The
+    /// index is that of the key.
     fn refresh_at(
         &mut self,
         place: usize,
         key: &RouteKey,
         entry: &Entry,
         cursor: &mut Cursor,
-    ) -> (Option<Selection>, Option<Selection>)
+    ) -> SelectionChange
         requires repeated { is_repeated entry.now (find route_cmp key.now self.old.entries) ≡ true }
         requires at { IsAt key.now self.old.entries place }
-        ensures before { result.0 ≡ selection_at key.now.prefix self.old }
-        ensures after { result.1 ≡ selection_at key.now.prefix self.new }
+        ensures change { result ≡ selection_change (selection_at key.now.prefix self.old) (selection_at key.now.prefix self.new) }
         ensures routes { (sources : Sources) (cost : Peer → ℕ) (local : Bool) → IsCurrent sources cost key.now.prefix local self.old → self.new ≡ reselected sources cost key.now.prefix local (record self.old { entries = put route_cmp key.now entry.now self.old.entries }) }
     {
         self.due = self.due.min(entry.deadline);
         self.entries.replace(place, *key, *entry);
         let near = &mut cursor.selection;
-        refresh_selection(&mut self.selections, near, key, entry.deadline)
+        let before = refresh_selection(&mut self.selections, near, key, entry.deadline);
+        SelectionChange::kept(before)
     }
 }
 
@@ -131,30 +135,28 @@ fn is_repeated(new: &Entry, old: &Entry) -> bool
     is_same_entry(&entry, new)
 }
 
-/// Sets the deadline of the selection of the key's prefix if it is of the key's neighbour. Returns the selection before and
-/// after. The search begins near an index, which becomes that of the prefix.
+/// Sets the deadline of the selection of the key's prefix if it is of the key's neighbour. Returns
+/// the neighbour of the selection. The search begins near an index, which becomes that of the
+/// prefix.
 fn refresh_selection<S: Table<Prefix, Selection>>(
     selections: &mut S,
     near: &mut usize,
     key: &RouteKey,
     deadline: u64,
-) -> (Option<Selection>, Option<Selection>)
-    ensures before { result.0 ≡ find prefix_cmp key.now.prefix (S.entries selections.old) }
-    ensures after { result.1 ≡ option_map (refreshed key.now.peer deadline) (find prefix_cmp key.now.prefix (S.entries selections.old)) }
+) -> Option<Peer>
+    ensures peer { result ≡ peer_before (find prefix_cmp key.now.prefix (S.entries selections.old)) }
     ensures entries { S.entries selections.new ≡ with_value prefix_cmp key.now.prefix (option_map (refreshed key.now.peer deadline) (find prefix_cmp key.now.prefix (S.entries selections.old))) (S.entries selections.old) }
     ensures room { S.room selections.new ≡ S.room selections.old }
 {
     let Some(before) = find_near(selections, near, &key.prefix) else {
-        return (None, None);
+        return None;
     };
-    let is_own = is_of(&before, &key.peer);
-    let after = with_deadline(&before, is_own, deadline);
-    if !is_own {
-        return (Some(before), Some(after));
+    let peer = before.peer;
+    if is_of(&before, &key.peer) {
+        let stored = with_deadline(&before, deadline);
+        selections.replace(*near, key.prefix, stored);
     }
-    let stored = after;
-    selections.replace(*near, key.prefix, stored);
-    (Some(before), Some(after))
+    Some(peer)
 }
 
 /// Whether the selection is of the neighbour.
@@ -164,13 +166,11 @@ fn is_of(selection: &Selection, peer: &Peer) -> bool
     selection.peer.cmp(peer).is_eq()
 }
 
-/// The selection, with the new deadline if it is of the update's neighbour.
-fn with_deadline(selection: &Selection, is_own: bool, deadline: u64) -> Selection
-    ensures { result ≡ record selection.now { entry = record selection.now.entry { deadline = if is_own then deadline else selection.now.entry.deadline } } }
+/// The selection, with the new deadline.
+fn with_deadline(selection: &Selection, deadline: u64) -> Selection
+    ensures { result ≡ record selection.now { entry = record selection.now.entry { deadline = deadline } } }
 {
     let mut new = *selection;
-    if is_own {
-        new.entry.deadline = deadline;
-    }
+    new.entry.deadline = deadline;
     new
 }

@@ -11,9 +11,9 @@ use babel_choice::{Entry, PrefixRoutes, RouteKey, Selection};
 use babel_table::Table;
 use babel_value::Prefix;
 
-/// Whether all places are taken: one for each entry, and one for each prefix that has a selection but
-/// no entry. Those prefixes are counted only if they decide it: the entries don't take all places, and
-/// would with as many of them as there are selections.
+/// Whether all places are taken: one for each entry, and one for each prefix that has a selection
+/// but no entry. Those prefixes are counted only if they decide it: the entries don't take all
+/// places, and would with as many of them as there are selections.
 pub(crate) fn is_crowded<E: Table<RouteKey, Entry>, S: Table<Prefix, Selection>>(
     entries: &E,
     selections: &S,
@@ -50,8 +50,8 @@ fn count_orphans<E: Table<RouteKey, Entry>, S: Table<Prefix, Selection>>(
     count
 }
 
-/// Whether there is a selection at the index, and its prefix has no entry. The search for an entry begins near the
-/// index `near`, which goes next to it.
+/// Whether there is a selection at the index, and its prefix has no entry. The search for an entry
+/// begins near the index `near`, which goes next to it.
 fn is_orphan<E: Table<RouteKey, Entry>, S: Table<Prefix, Selection>>(
     entries: &E,
     selections: &S,

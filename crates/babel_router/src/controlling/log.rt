@@ -61,7 +61,8 @@ impl LiveLog {
         }
     }
 
-    /// Whether somebody is sent the log from now on. To whom it is new the selected routes come first.
+    /// Whether somebody is sent the log from now on. To whom it is new the selected routes come
+    /// first.
     pub fn set_logging(&mut self, logging: Logging) {
         if self.logging != logging {
             self.written.clear();
@@ -215,8 +216,8 @@ impl LiveLog {
         Ok(routes)
     }
 
-    /// Adds a line for each prefix from `from` on that is gone before this route, and one for the route if it is another.
-    /// Returns from where on the next one is.
+    /// Adds a line for each prefix from `from` on that is gone before this route, and one for the
+    /// route if it is another. Returns from where on the next one is.
     fn push_change(&mut self, now: u64, from: usize, route: &Written) -> usize {
         let index = first_not_before(&self.written, from, &route.prefix);
         self.push_gone(now, from, index);

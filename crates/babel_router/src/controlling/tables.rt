@@ -8,7 +8,8 @@ use babel_speaker::{Neighbour, Speaker};
 use babel_value::{Peer, Prefix};
 use std::alloc::{AllocError, Global};
 
-/// How many prefixes a speaker may have a route to, and how many routes to one of them: more than it has room for.
+/// How many prefixes a speaker may have a route to, and how many routes to one of them: more than
+/// it has room for.
 const MAX_STEPS: usize = 1 << 16;
 
 /// The tables of a speaker, and the Updates that it has not stored.

@@ -37,16 +37,17 @@ pub struct KeptOptions<'a> {
     pub control: Option<ControlPlace<'a>>,
 }
 
-/// The same as [`crate::speak`], but in each turn the snapshot is kept if it has changed, then changes of
-/// routes are written, and then datagrams are sent. So it may be killed at any moment, and start again at once.
+/// The same as [`crate::speak`], but in each turn the snapshot is kept if it has changed, then
+/// changes of routes are written, and then datagrams are sent. So it may be killed at any moment,
+/// and start again at once.
 ///
-/// If the snapshot can't be kept in the first turn, the run ends, and nothing was sent. Later nothing is sent
-/// until it can be kept again; that is written to `err` once.
+/// If the snapshot can't be kept in the first turn, the run ends, and nothing was sent. Later
+/// nothing is sent until it can be kept again; that is written to `err` once.
 ///
 /// # Errors
 ///
-/// C1 to C6, W1, K10, K8, K9, K1 to K7, C7, W2, W7, by the first cause in this order, before anything is sent.
-/// Then K9 of the first turn, L7 and L8.
+/// C1 to C6, W1, K10, K8, K9, K1 to K7, C7, W2, W7, by the first cause in this order, before
+/// anything is sent. Then K9 of the first turn, L7 and L8.
 pub fn speak_kept<R: AllocGlobal + Net + Clock + Files, W: Write, E: Write>(
     rt: &R,
     config: Config,
@@ -134,7 +135,8 @@ where
     }
 }
 
-/// The same, with a printer that has printed nothing. First the control socket is opened, if there is to be one.
+/// The same, with a printer that has printed nothing. First the control socket is opened, if there
+/// is to be one.
 fn print_over<R: AllocGlobal + Net + Clock + Files, W: Write, E: Write>(
     rt: &R,
     options: KeptOptions<'_>,
@@ -189,8 +191,8 @@ where
     Ok(())
 }
 
-/// Serves the clients of the control socket, and returns what one wants of the speaker. Their sockets don't wait, so all of
-/// them are asked, also those that have sent nothing.
+/// Serves the clients of the control socket, and returns what one wants of the speaker. Their
+/// sockets don't wait, so all of them are asked, also those that have sent nothing.
 fn serve<R: Net + Clock + Files, W: Write, E: Write>(
     alloc: Global,
     started: &mut Started<'_, R>,

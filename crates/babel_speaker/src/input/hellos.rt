@@ -30,8 +30,8 @@ fn change_of(cost: LinkCost) -> LinkChange
 }
 
 impl Core {
-    /// Whether an IHU is for this speaker: it is for all, or for an own address of the interface over
-    /// which it came.
+    /// Whether an IHU is for this speaker: it is for all, or for an own address of the interface
+    /// over which it came.
     pub(crate) fn is_for_interface(&self, iface: u8, to: &Option<Addr>) -> bool
         ensures { result ≡ is_for_interface iface to.now self.now }
     {
@@ -54,37 +54,39 @@ impl Core {
         }
     }
 
-    /// Takes a Hello into the neighbour table, and removes the routes of a neighbour that it flushes.
-    fn take_hello(&mut self, arrival: Arrival, hello: &ReceivedHello) -> Result<HelloEffect, Full>
-        ensures full { IsErr result ↔ (is_neighbour_too_many arrival.peer self.old ≡ true) }
-        ensures ok { OnOk result (self.new ≡ hears arrival.now arrival.peer hello.now.unicast hello.now.seqno hello.now.interval self.old) }
+    /// Takes a Hello into the neighbour table, and removes the routes of a neighbour that it
+    /// flushes.
+    fn take_hello(&mut self, arrival: &Arrival, hello: &ReceivedHello) -> Result<HelloEffect, Full>
+        ensures full { IsErr result ↔ (is_neighbour_too_many arrival.now.peer self.old ≡ true) }
+        ensures ok { OnOk result (self.new ≡ hears arrival.now.time arrival.now.peer hello.now.unicast hello.now.seqno hello.now.interval self.old) }
         ensures err { OnErr result (self.new ≡ self.old) }
-        ensures heard { IfOk result (λ effect. effect.heard ≡ hello_verdict arrival.peer hello.now.unicast hello.now.seqno self.old.neighbours) }
-        ensures kept { IfOk result (λ effect. effect.cost ≡ Kept → (nominal : ℕ) → cost_of arrival.peer nominal self.new.neighbours ≡ cost_of arrival.peer nominal self.old.neighbours) }
+        ensures heard { IfOk result (λ effect. effect.heard ≡ hello_verdict arrival.now.peer hello.now.unicast hello.now.seqno self.old.neighbours) }
+        ensures kept { IfOk result (λ effect. effect.cost ≡ Kept → (nominal : ℕ) → cost_of arrival.now.peer nominal self.new.neighbours ≡ cost_of arrival.now.peer nominal self.old.neighbours) }
     {
-        let (now, peer) = (arrival.now, arrival.peer);
+        let (now, peer) = (arrival.time, &arrival.peer);
         let kind = HelloKind::of(hello.unicast);
         match self
             .neighbours
-            .hear(now, peer, kind, hello.seqno, hello.interval)
+            .hear(now, *peer, kind, hello.seqno, hello.interval)
         {
             Ok(effect) => {
-                self.forget_flushed(effect.heard, &peer);
+                self.forget_flushed(effect.heard, peer);
                 Ok(effect)
             }
             Err(full) => Err(full),
         }
     }
 
-    /// The same. Returns what changed: if nothing, all selections that were current are so, and the selected routes are
-    /// reported as before; if the cost of the link to the peer alone, those of the prefixes to which the peer has no route.
-    fn hear(&mut self, arrival: Arrival, hello: &ReceivedHello) -> Result<LinkChange, Full>
-        ensures full { IsErr result ↔ (is_neighbour_too_many arrival.peer self.old ≡ true) }
-        ensures ok { OnOk result (self.new ≡ hears arrival.now arrival.peer hello.now.unicast hello.now.seqno hello.now.interval self.old) }
+    /// The same. Returns what changed: if nothing, all selections that were current are so, and the
+    /// selected routes are reported as before; if the cost of the link to the peer alone, those of
+    /// the prefixes to which the peer has no route.
+    fn hear(&mut self, arrival: &Arrival, hello: &ReceivedHello) -> Result<LinkChange, Full>
+        ensures full { IsErr result ↔ (is_neighbour_too_many arrival.now.peer self.old ≡ true) }
+        ensures ok { OnOk result (self.new ≡ hears arrival.now.time arrival.now.peer hello.now.unicast hello.now.seqno hello.now.interval self.old) }
         ensures err { OnErr result (self.new ≡ self.old) }
         ensures nothing { IfOk result (λ change. change ≡ Nothing → AreCurrent self.old → AreCurrent self.new) }
         ensures kept { IfOk result (λ change. change ≡ Nothing → KeepsRoutes self.old self.new) }
-        ensures cost { IfOk result (λ change. change ≡ Cost → AreCurrent self.old → AreOthersCurrent arrival.peer self.new) }
+        ensures cost { IfOk result (λ change. change ≡ Cost → AreCurrent self.old → AreOthersCurrent arrival.now.peer self.new) }
     {
         match self.take_hello(arrival, hello) {
             Ok(effect) => match effect.heard {
@@ -95,25 +97,25 @@ impl Core {
         }
     }
 
-    /// Handles a Hello (RFC 8966, section 3.4.1). A cost may change by it; then routes are selected again.
-    /// All selections are current then, and the speaker is settled. If the hints aren't `changed` then, the selected routes
-    /// are reported as before.
+    /// Handles a Hello (RFC 8966, section 3.4.1). A cost may change by it; then routes are selected
+    /// again. All selections are current then, and the speaker is settled. If the hints aren't
+    /// `changed` then, the selected routes are reported as before.
     #[tactic(auto, unfolding(babel_state::specs::Hellos::handle_hello))]
     pub fn handle_hello(
         &mut self,
-        arrival: Arrival,
+        arrival: &Arrival,
         hello: &ReceivedHello,
         hints: &mut Hints,
     ) -> Verdict
         requires settled { IsTrue hints.old.settled → AreCurrent self.old }
-        ensures state { (self.new, result) ≡ handle_hello arrival.now arrival.peer hello.now.unicast hello.now.seqno hello.now.interval self.old }
+        ensures state { (self.new, result) ≡ handle_hello arrival.now.time arrival.now.peer hello.now.unicast hello.now.seqno hello.now.interval self.old }
         ensures current { AreCurrent self.new }
         ensures kept { IsFalse hints.new.changed → KeepsRoutes self.old self.new }
     {
-        let (now, peer) = (arrival.now, arrival.peer);
+        let now = arrival.time;
         match self.hear(arrival, hello) {
             Ok(change) => {
-                hints.changed = self.reselect_link(change, now, &peer, hints);
+                hints.changed = self.reselect_link(change, now, &arrival.peer, hints);
                 Verdict::Taken
             }
             Err(_) => {
@@ -123,7 +125,8 @@ impl Core {
         }
     }
 
-    /// Takes an IHU into the neighbour table. Returns what it changed of the cost of the peer's link.
+    /// Takes an IHU into the neighbour table. Returns what it changed of the cost of the peer's
+    /// link.
     #[tactic(auto, unfolding(babel_state::specs::Hellos::handle_ihu))]
     fn take_ihu(&mut self, now: u64, peer: &Peer, rxcost: Metric, interval: u16) -> LinkCost
         ensures state { self.new ≡ with_ihu now peer.now rxcost interval self.old }
@@ -142,21 +145,21 @@ impl Core {
         change_of(self.take_ihu(now, peer, rxcost, interval))
     }
 
-    /// Handles an IHU (RFC 8966, section 3.4.2). A cost may change by it; then routes are selected again.
-    /// After an IHU for this speaker all selections are current, and the speaker is settled.
+    /// Handles an IHU (RFC 8966, section 3.4.2). A cost may change by it; then routes are selected
+    /// again. After an IHU for this speaker all selections are current, and the speaker is settled.
     #[tactic(auto, unfolding(babel_state::specs::Hellos::handle_ihu))]
-    pub fn handle_ihu(&mut self, arrival: Arrival, ihu: &ReceivedIhu, hints: &mut Hints) -> Verdict
+    pub fn handle_ihu(&mut self, arrival: &Arrival, ihu: &ReceivedIhu, hints: &mut Hints) -> Verdict
         requires settled { IsTrue hints.old.settled → AreCurrent self.old }
-        ensures state { (self.new, result) ≡ handle_ihu arrival.now arrival.peer ihu.now.to ihu.now.rxcost ihu.now.interval self.old }
+        ensures state { (self.new, result) ≡ handle_ihu arrival.now.time arrival.now.peer ihu.now.to ihu.now.rxcost ihu.now.interval self.old }
         ensures current { IsFalse hints.old.settled → IsTrue hints.new.settled → AreCurrent self.new }
         ensures kept { IsFalse hints.new.changed → KeepsRoutes self.old self.new }
     {
-        let (now, peer) = (arrival.now, arrival.peer);
+        let peer = &arrival.peer;
         if !self.is_for_interface(peer.iface, &ihu.to) {
             return Verdict::OtherAddress;
         }
-        let change = self.hear_ihu(now, &peer, ihu.rxcost, ihu.interval);
-        hints.changed = self.reselect_link(change, now, &peer, hints);
+        let change = self.hear_ihu(arrival.time, peer, ihu.rxcost, ihu.interval);
+        hints.changed = self.reselect_link(change, arrival.time, peer, hints);
         Verdict::Taken
     }
 }

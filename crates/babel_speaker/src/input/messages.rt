@@ -14,16 +14,17 @@ use babel_message::{Content, Message};
 use babel_state::{Item, Verdict};
 use babel_value::{Distance, Source};
 
-/// Handles a message of a neighbour. If the hints aren't `changed` then, the selected routes are reported as before. They
-/// always are after a retraction of all routes. A request leaves them as they are.
+/// Handles a message of a neighbour. If the hints aren't `changed` then, the selected routes are
+/// reported as before. They always are after a retraction of all routes. A request leaves them as
+/// they are.
 fn handle_from_neighbour(
     core: &mut Core,
-    arrival: Arrival,
+    arrival: &Arrival,
     message: &Message,
     hints: &mut Hints,
 ) -> Verdict
     requires settled { IsTrue hints.old.settled → AreCurrent core.old }
-    ensures state { (core.new, result) ≡ handle_from_neighbour arrival.now arrival.peer message.now core.old }
+    ensures state { (core.new, result) ≡ handle_from_neighbour arrival.now.time arrival.now.peer message.now core.old }
     ensures current { IsFalse hints.old.settled → IsTrue hints.new.settled → AreCurrent core.new }
     ensures kept { IsFalse hints.new.changed → KeepsRoutes core.old core.new }
 {
@@ -61,14 +62,14 @@ fn handle_from_neighbour(
                 },
                 interval: *interval,
             };
-            core.handle_update(arrival.now, &update, hints)
+            core.handle_update(arrival.time, &update, hints)
         }
         Message::Retraction { prefix, .. } => {
-            core.handle_retraction(arrival.now, &arrival.peer, prefix, hints)
+            core.handle_retraction(arrival.time, &arrival.peer, prefix, hints)
         }
         Message::RetractAll { .. } => {
             hints.changed = true;
-            core.handle_retract_all(arrival.now, &arrival.peer, &mut hints.scratch)
+            core.handle_retract_all(arrival.time, &arrival.peer, &mut hints.scratch)
         }
         Message::RouteRequest { prefix } => core.handle_route_request(&arrival.peer, prefix),
         Message::DumpRequest => core.handle_dump_request(&arrival.peer),
@@ -97,12 +98,12 @@ fn handle_from_neighbour(
 #[tactic(auto, unfolding(babel_state::specs::Messages::handle_message))]
 pub(crate) fn handle_message(
     core: &mut Core,
-    arrival: Arrival,
+    arrival: &Arrival,
     message: &Message,
     hints: &mut Hints,
 ) -> Verdict
     requires settled { IsTrue hints.old.settled → AreCurrent core.old }
-    ensures state { (core.new, result) ≡ handle_message arrival.now arrival.peer message.now core.old }
+    ensures state { (core.new, result) ≡ handle_message arrival.now.time arrival.now.peer message.now core.old }
     ensures current { IsFalse hints.old.settled → IsTrue hints.new.settled → AreCurrent core.new }
     ensures kept { IsFalse hints.new.changed → KeepsRoutes core.old core.new }
 {
@@ -136,18 +137,18 @@ pub(crate) fn handle_message(
     }
 }
 
-/// Handles one of the contents of a datagram. All selections stay current if they are. After a Hello, or an IHU for
-/// this speaker, they are current, and the speaker is settled. If the hints aren't `changed` then, the selected routes are
-/// reported as before.
+/// Handles one of the contents of a datagram. All selections stay current if they are. After a
+/// Hello, or an IHU for this speaker, they are current, and the speaker is settled. If the hints
+/// aren't `changed` then, the selected routes are reported as before.
 #[tactic(auto, using(crate::proofs::SettledMessages::content_current))]
 pub(crate) fn handle_content(
     core: &mut Core,
-    arrival: Arrival,
+    arrival: &Arrival,
     content: &Content,
     hints: &mut Hints,
 ) -> Verdict
     requires settled { IsTrue hints.old.settled → AreCurrent core.old }
-    ensures state { (core.new, result) ≡ handle_content arrival.now arrival.peer content.now core.old }
+    ensures state { (core.new, result) ≡ handle_content arrival.now.time arrival.now.peer content.now core.old }
     ensures current { IsTrue hints.new.settled → AreCurrent core.new }
     ensures kept { IsFalse hints.new.changed → KeepsRoutes core.old core.new }
 {

@@ -10,7 +10,6 @@ use crate::hints::Hints;
 use crate::input::messages::handle_content;
 use crate::input::records::Arrival;
 use crate::state::Core;
-use babel_choice::Cursor;
 use babel_message::{Content, Message, Placed, Reason, Refusal};
 use babel_packet::decode_into;
 use babel_state::{Note, RecvFault, Verdict};
@@ -38,7 +37,8 @@ fn is_update(content: &Content) -> bool {
     )
 }
 
-/// Whether an update with this verdict was looked for in the tables: it is there, or its place was found taken.
+/// Whether an update with this verdict was looked for in the tables: it is there, or its place was
+/// found taken.
 fn is_placed(verdict: &Verdict) -> bool {
     matches!(
         verdict,
@@ -46,19 +46,18 @@ fn is_placed(verdict: &Verdict) -> bool {
     )
 }
 
-/// Handles one of the contents, as `handle_content`. An Update is looked for where it is likely to be.
-fn handle_next(core: &mut Core, arrival: Arrival, content: &Content, hints: &mut Hints) -> Verdict
+/// Handles one of the contents, as `handle_content`. An Update is looked for where it is likely to
+/// be.
+fn handle_next(core: &mut Core, arrival: &Arrival, content: &Content, hints: &mut Hints) -> Verdict
     requires settled { IsTrue hints.old.settled → AreCurrent core.old }
-    ensures state { (core.new, result) ≡ handle_content arrival.now arrival.peer content.now core.old }
+    ensures state { (core.new, result) ≡ handle_content arrival.now.time arrival.now.peer content.now core.old }
     ensures current { IsTrue hints.new.settled → AreCurrent core.new }
     ensures kept { IsFalse hints.new.changed → KeepsRoutes core.old core.new }
 {
     let is_update = is_update(content);
-    hints.cursor = if is_update {
-        hints.trail.next()
-    } else {
-        Cursor::new()
-    };
+    if is_update {
+        hints.cursor = hints.trail.next();
+    }
     let verdict = handle_content(core, arrival, content, hints);
     if is_update && is_placed(&verdict) {
         hints.trail.push(&hints.cursor);
@@ -69,15 +68,15 @@ fn handle_next(core: &mut Core, arrival: Arrival, content: &Content, hints: &mut
 /// Handles the TLVs of a datagram, each wholly before the next, and writes a note for each.
 fn handle_places(
     core: &mut Core,
-    arrival: Arrival,
+    arrival: &Arrival,
     placed: &[Placed],
     notes: &mut Vec<Note>,
     hints: &mut Hints,
 )
     requires settled { IsTrue hints.old.settled → AreCurrent core.old }
     requires room { vec_len notes.old + length placed.now ≤ vec_capacity notes.old }
-    ensures state { core.new ≡ after_places arrival.now arrival.peer placed.now core.old }
-    ensures notes { notes.new.items ≡ notes.old.items ++ notes_of arrival.now arrival.peer placed.now core.old }
+    ensures state { core.new ≡ after_places arrival.now.time arrival.now.peer placed.now core.old }
+    ensures notes { notes.new.items ≡ notes.old.items ++ notes_of arrival.now.time arrival.now.peer placed.now core.old }
     ensures current { IsTrue hints.new.settled → AreCurrent core.new }
     ensures kept { IsFalse hints.new.changed → KeepsRoutes core.old core.new }
 {
@@ -91,18 +90,18 @@ fn handle_places(
     }
 }
 
-/// Handles the TLVs of a datagram of the neighbour, and returns a note for each. The memory for the notes is allocated
-/// before anything changes.
+/// Handles the TLVs of a datagram of the neighbour, and returns a note for each. The memory for the
+/// notes is allocated before anything changes.
 fn take_places(
     core: &mut Core,
     alloc: Global,
-    arrival: Arrival,
+    arrival: &Arrival,
     placed: &[Placed],
     hints: &mut Hints,
 ) -> Result<Vec<Note>, RecvFault>
     requires settled { IsTrue hints.old.settled → AreCurrent core.old }
-    ensures state { OnOk result (core.new ≡ after_places arrival.now arrival.peer placed.now core.old) }
-    ensures notes { IfOk result (λ notes. notes.items ≡ notes_of arrival.now arrival.peer placed.now core.old) }
+    ensures state { OnOk result (core.new ≡ after_places arrival.now.time arrival.now.peer placed.now core.old) }
+    ensures notes { IfOk result (λ notes. notes.items ≡ notes_of arrival.now.time arrival.now.peer placed.now core.old) }
     ensures memory { IfErr result (λ fault. fault ≡ RecvFault.Refused Refusal.Memory) }
     ensures unchanged { OnErr result (core.new ≡ core.old) }
     ensures current { IsTrue hints.new.settled → AreCurrent core.new }
@@ -116,19 +115,19 @@ fn take_places(
     Ok(notes)
 }
 
-/// Takes a datagram. There is a note for each TLV. The memory is allocated before anything changes. If the speaker is
-/// settled, it stays so, and it becomes so by a Hello or an IHU for it. If the hints aren't `changed` then, the selected
-/// routes are reported as before.
+/// Takes a datagram. There is a note for each TLV. The memory is allocated before anything changes.
+/// If the speaker is settled, it stays so, and it becomes so by a Hello or an IHU for it. If the
+/// hints aren't `changed` then, the selected routes are reported as before.
 pub(crate) fn receive(
     core: &mut Core,
     alloc: Global,
-    arrival: Arrival,
+    arrival: &Arrival,
     octets: &[u8],
     hints: &mut Hints,
 ) -> Result<Vec<Note>, RecvFault>
     requires settled { IsTrue hints.old.settled → AreCurrent core.old }
-    ensures ok { IfOk result (λ notes. Receives (arrival_of arrival.now arrival.peer octets.now) core.old core.new notes.items) }
-    ensures refused { IfErr result (λ fault. IsRecvFault (arrival_of arrival.now arrival.peer octets.now) core.old fault) }
+    ensures ok { IfOk result (λ notes. Receives (arrival_of arrival.now.time arrival.now.peer octets.now) core.old core.new notes.items) }
+    ensures refused { IfErr result (λ fault. IsRecvFault (arrival_of arrival.now.time arrival.now.peer octets.now) core.old fault) }
     ensures unchanged { OnErr result (core.new ≡ core.old) }
     ensures current { IsTrue hints.new.settled → AreCurrent core.new }
     ensures kept { IsFalse hints.new.changed → KeepsRoutes core.old core.new }
@@ -151,13 +150,13 @@ pub(crate) fn receive(
 pub(crate) fn receive_decoded(
     core: &mut Core,
     alloc: Global,
-    arrival: Arrival,
+    arrival: &Arrival,
     placed: &[Placed],
     hints: &mut Hints,
 ) -> Result<Vec<Note>, RecvFault>
     requires settled { IsTrue hints.old.settled → AreCurrent core.old }
-    ensures ok { IfOk result (λ notes. Receives (record { now = arrival.now; peer = arrival.peer; read = Ok placed.now }) core.old core.new notes.items) }
-    ensures refused { IfErr result (λ fault. IsRecvFault (record { now = arrival.now; peer = arrival.peer; read = Ok placed.now }) core.old fault) }
+    ensures ok { IfOk result (λ notes. Receives (record { now = arrival.now.time; peer = arrival.now.peer; read = Ok placed.now }) core.old core.new notes.items) }
+    ensures refused { IfErr result (λ fault. IsRecvFault (record { now = arrival.now.time; peer = arrival.now.peer; read = Ok placed.now }) core.old fault) }
     ensures unchanged { OnErr result (core.new ≡ core.old) }
     ensures current { IsTrue hints.new.settled → AreCurrent core.new }
     ensures kept { IsFalse hints.new.changed → KeepsRoutes core.old core.new }

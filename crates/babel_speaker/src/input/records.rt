@@ -6,7 +6,7 @@ use babel_value::{Addr, Metric, Peer, Seqno};
 #[derive(Clone, Copy)]
 pub struct Arrival {
     /// The moment.
-    pub now: u64,
+    pub time: u64,
     /// The interface over which it came, and its source address.
     pub peer: Peer,
 }

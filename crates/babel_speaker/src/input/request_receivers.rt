@@ -24,16 +24,16 @@ pub fn outcomes(
     !requested_router.cmp(router).is_eq() || !seqno.less(requested)
 }
 
-/// Whether a request may be forwarded to the route's neighbour: the route is finite, and its neighbour
-/// isn't the one that asks.
+/// Whether a request may be forwarded to the route's neighbour: the route is finite, and its
+/// neighbour isn't the one that asks.
 fn is_passable(asker: &Peer, route: &(RouteKey, Entry)) -> bool
     ensures { result ≡ is_passable asker.now route.now }
 {
     route.1.distance.metric.is_finite() && !route.0.peer.cmp(asker).is_eq()
 }
 
-/// The neighbour to which a request is forwarded: the least of those with a feasible route, or if there
-/// is none, the least of all with a finite one (RFC 8966, section 3.8.1.2).
+/// The neighbour to which a request is forwarded: the least of those with a feasible route, or if
+/// there is none, the least of all with a finite one (RFC 8966, section 3.8.1.2).
 pub fn receiver(routes: &Routes, sources: &Sources, asker: &Peer, prefix: &Prefix) -> Option<Peer>
     ensures { result ≡ option_map_or Some (first_peer (filter (is_feasible_route sources.now) (filter (is_passable asker.now) (routes_of prefix.now routes.now.entries)))) (first_peer (filter (is_passable asker.now) (routes_of prefix.now routes.now.entries))) }
 {

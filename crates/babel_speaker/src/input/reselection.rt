@@ -1,13 +1,15 @@
 //! Route selection and what follows from it: triggered updates and requests for a seqno (RFC 8966,
 //! sections 3.6, 3.7.2 and 3.8.2).
 
-ghost use Rattle.std.specs.Prelude.{◌≡◌, [], ◌∷◌, Option, None, IsTrue, IsFalse, IsNone, IsSome, IfSome};
+ghost use Rattle.std.specs.Prelude.{◌≡◌, [], ◌∷◌, Option, None, IsTrue, IsFalse, IsSome};
 ghost use Rattle.babel_choice.specs.declared.entries.Selection.{Selection};
-ghost use Rattle.babel_route.specs.OriginChanges.{origin_change};
+ghost use Rattle.babel_choice.specs.Choices.{peer_before};
+ghost use Rattle.babel_route.specs.declared.routes.changes.Report.{Report};
+ghost use Rattle.babel_route.specs.SelectionChanges.{origin_change, selection_change};
 ghost use Rattle.babel_sources.specs.Sources.{pair_of};
 ghost use Rattle.babel_state.specs.declared.requests.Resend.TheVariants.{Unfeasible};
 ghost use Rattle.babel_state.specs.Limits.{request_hops};
-ghost use Rattle.babel_state.specs.Reselection.{queue, updates_to_all, update_to, request_seqno, unfeasible_peers, is_same_origin, advertise_change, may_request_for_lost, seqno_after, request_for_lost, is_selected_peer, request_for_update, request_from_sender, request_for_seqno, follow_up, select, reselect, reselect_each, reselect_all};
+ghost use Rattle.babel_state.specs.Reselection.{UnfeasibleUpdate, queue, updates_to_all, update_to, request_seqno, unfeasible_peers, may_request_for_lost, seqno_after, request_for_lost, is_selected_peer, request_for_update, request_from_sender, follow_up, select, reselect, reselect_each, reselect_all};
 ghost use Rattle.babel_state.specs.State.{cost_at, prefixes_in, selected_at};
 ghost use Rattle.babel_state.specs.CurrentSelections.{AreCurrent};
 ghost use Rattle.babel_state.specs.KeptRoutes.{KeepsRoutes};
@@ -16,12 +18,12 @@ ghost use Rattle.babel_speaker.specs.declared.tables.link_costs.LinkChange.TheVa
 
 use crate::hints::Hints;
 use crate::input::causes::UnfeasibleUpdate;
-use crate::input::selection_changes::{are_alike, is_same_origin, is_selected_peer, seqno_after};
+use crate::input::selection_changes::{is_selected_peer, seqno_after};
 use crate::output::queueing::{has_unfeasible, queue_requests_to_unfeasible, queue_updates_to_all};
 use crate::state::Core;
 use crate::tables::{KnownCost, KnownCosts, LinkChange, LinkCosts, Scratch, SeqnoRequest};
-use babel_choice::{Costs, Cursor, RouteKey, Selection};
-use babel_route::OriginChange;
+use babel_choice::{Costs, Cursor, RouteKey};
+use babel_route::{OriginChange, Report, SelectionChange};
 use babel_state::{Item, REQUEST_HOPS, Resend, Target};
 use babel_value::{Peer, Prefix, Seqno, Source};
 
@@ -54,8 +56,8 @@ impl Core {
         });
     }
 
-    /// Records a request for a seqno and queues it to one neighbour, unless it is redundant (RFC 8966,
-    /// section 3.8.2.1).
+    /// Records a request for a seqno and queues it to one neighbour, unless it is redundant (RFC
+    /// 8966, section 3.8.2.1).
     #[tactic(auto, unfolding(babel_state::specs::Reselection::request_seqno))]
     pub(crate) fn request_seqno_from(
         &mut self,
@@ -83,8 +85,8 @@ impl Core {
         });
     }
 
-    /// Records a request for a seqno and queues it to the neighbours of all unfeasible routes to its
-    /// prefix, unless it is redundant (RFC 8966, section 3.8.2.1).
+    /// Records a request for a seqno and queues it to the neighbours of all unfeasible routes to
+    /// its prefix, unless it is redundant (RFC 8966, section 3.8.2.1).
     #[tactic(auto, unfolding(babel_state::specs::Reselection::request_seqno, babel_state::specs::Reselection::unfeasible_peers))]
     fn request_seqno_from_unfeasible(&mut self, now: u64, source: Source, seqno: Seqno)
         ensures { self.new ≡ request_seqno now source seqno Unfeasible request_hops (unfeasible_peers source.prefix self.old) self.old }
@@ -101,57 +103,37 @@ impl Core {
         queue_requests_to_unfeasible(&mut self.pending, &self.routes, &self.sources, &request);
     }
 
-    /// Selects the route of the prefix again (RFC 8966, section 3.6). Returns the old and the new selection.
-    pub fn select(&mut self, prefix: &Prefix) -> (Option<Selection>, Option<Selection>)
-        ensures state { self.new ≡ select prefix.now self.old }
-        ensures old { result.0 ≡ selected_at prefix.now self.old }
-        ensures new { result.1 ≡ selected_at prefix.now self.new }
+    /// Selects the route of the prefix again (RFC 8966, section 3.6).
+    pub fn select(&mut self, prefix: &Prefix)
+        ensures { self.new ≡ select prefix.now self.old }
     {
         let mut cursor = Cursor::new();
-        self.select_near(prefix, &mut cursor)
+        self.select_near(prefix, &mut cursor);
     }
 
-    /// The same. The searches begin at the cursor.
+    /// The same, and it returns what changed. The searches begin at the cursor, which goes to the
+    /// next prefix.
     #[inline(always)]
-    pub(crate) fn select_near(
-        &mut self,
-        prefix: &Prefix,
-        cursor: &mut Cursor,
-    ) -> (Option<Selection>, Option<Selection>)
+    pub(crate) fn select_near(&mut self, prefix: &Prefix, cursor: &mut Cursor) -> SelectionChange
         ensures state { self.new ≡ select prefix.now self.old }
-        ensures old { result.0 ≡ selected_at prefix.now self.old }
-        ensures new { result.1 ≡ selected_at prefix.now self.new }
+        ensures change { result ≡ selection_change (selected_at prefix.now self.old) (selected_at prefix.now self.new) }
     {
         let origin = self.origin(prefix);
         let costs = LinkCosts::new(&self.interfaces, &self.neighbours);
         self.routes
-            .select_near(prefix, origin, &self.sources, &costs, cursor)
+            .select_changed(prefix, origin, &self.sources, &costs, cursor)
     }
 
-    /// Advertises a route at once that is new, that is lost or whose router-id changed (RFC 8966,
-    /// section 3.7.2).
-    fn advertise_change(
-        &mut self,
-        prefix: &Prefix,
-        old: &Option<Selection>,
-        new: &Option<Selection>,
-    )
-        ensures { self.new ≡ advertise_change prefix.now old.now new.now self.old }
-    {
-        if !is_same_origin(old, new) {
-            self.queue_updates_to_all(prefix);
-        }
-    }
-
-    /// Whether a lost route may come back by a greater seqno (RFC 8966, section 3.8.2.1). The searches begin at the cursor.
+    /// Whether a lost route may come back by a greater seqno (RFC 8966, section 3.8.2.1). The
+    /// searches begin at the cursor.
     fn may_request_for_lost(&self, prefix: &Prefix, cursor: &mut Cursor) -> bool
         ensures { result ≡ may_request_for_lost prefix.now self.now }
     {
         !self.announces(prefix) && has_unfeasible(&self.routes, &self.sources, prefix, cursor)
     }
 
-    /// Requests a greater seqno of a lost route's source: one more than that of its pair, or than the lost one if it has no
-    /// pair (RFC 8966, section 3.8.2.1).
+    /// Requests a greater seqno of a lost route's source: one more than that of its pair, or than
+    /// the lost one if it has no pair (RFC 8966, section 3.8.2.1).
     fn request_for_lost(&mut self, now: u64, source: Source, lost: Seqno)
         ensures { self.new ≡ request_seqno now source (seqno_after (pair_of source self.old.sources) lost) Unfeasible request_hops (unfeasible_peers source.prefix self.old) self.old }
     {
@@ -159,7 +141,8 @@ impl Core {
         self.request_seqno_from_unfeasible(now, source, seqno);
     }
 
-    /// Requests a greater seqno from the sender of an unfeasible update (RFC 8966, section 3.8.2.2).
+    /// Requests a greater seqno from the sender of an unfeasible update (RFC 8966, section
+    /// 3.8.2.2).
     fn request_for_update(&mut self, now: u64, prefix: &Prefix, update: &UnfeasibleUpdate)
         ensures { self.new ≡ request_for_update now prefix.now update.now self.old }
     {
@@ -179,67 +162,81 @@ impl Core {
     }
 
     /// The same if the update's sender was the selected neighbour.
+    #[inline(always)]
     fn request_from_sender(
         &mut self,
         now: u64,
         cause: Option<UnfeasibleUpdate>,
         prefix: &Prefix,
-        old: &Option<Selection>,
+        before: Option<Peer>,
     )
-        ensures { self.new ≡ request_from_sender now cause prefix.now old.now self.old }
+        ensures { (old : Option Selection) → before ≡ peer_before old → self.new ≡ request_from_sender now cause prefix.now old self.old }
     {
         if let Some(update) = cause {
-            if is_selected_peer(&update.peer, old) {
+            if is_selected_peer(&update.peer, before) {
                 self.request_for_update(now, prefix, &update);
             }
         }
     }
 
-    /// The requests for a seqno that follow a reselection (RFC 8966, section 3.8.2).
-    fn request_for_seqno(
+    /// What follows from a change of the route's origin: a route that is new, that is lost or whose
+    /// router-id changed is advertised at once, and a greater seqno of a lost one is requested if
+    /// it may come back by that (RFC 8966, sections 3.7.2 and 3.8.2.1). Returns whether it is
+    /// requested.
+    #[inline(always)]
+    fn follow_origin(
         &mut self,
         now: u64,
-        cause: Option<UnfeasibleUpdate>,
         prefix: &Prefix,
-        selections: &(Option<Selection>, Option<Selection>),
+        change: OriginChange,
         cursor: &mut Cursor,
-    )
-        ensures { self.new ≡ request_for_seqno now cause prefix.now selections.now.0 selections.now.1 self.old }
+    ) -> bool
+        ensures requested { IsTrue result → (cause : Option UnfeasibleUpdate) (old new : Option Selection) → change ≡ origin_change old new → self.new ≡ follow_up now cause prefix.now old new self.old }
+        ensures advertised { IsFalse result → (cause : Option UnfeasibleUpdate) (old new : Option Selection) → change ≡ origin_change old new → request_from_sender now cause prefix.now old self.new ≡ follow_up now cause prefix.now old new self.old }
     {
-        let old = &selections.0;
-        if let Some(lost) = old {
-            if selections.1.is_none() && self.may_request_for_lost(prefix, cursor) {
+        match change {
+            OriginChange::Same => false,
+            OriginChange::New => {
+                self.queue_updates_to_all(prefix);
+                false
+            }
+            OriginChange::Lost { router, seqno } => {
+                self.queue_updates_to_all(prefix);
+                if !self.may_request_for_lost(prefix, cursor) {
+                    return false;
+                }
                 let source = Source {
                     prefix: *prefix,
-                    router: lost.entry.router,
+                    router,
                 };
-                self.request_for_lost(now, source, lost.entry.distance.seqno);
-                return;
+                self.request_for_lost(now, source, seqno);
+                true
             }
         }
-        self.request_from_sender(now, cause, prefix, old);
     }
 
-    /// What follows from the old and the new selection after an input, which was this unfeasible update or none. It queues
-    /// items and records requests, and no route is reported otherwise than before.
-    #[tactic(auto, using(babel_state::proofs::KeptRoutes::follows_routes))]
+    /// What follows from a change of the prefix's selection after an input, which was this
+    /// unfeasible update or none: what is advertised at once, and the requests for a seqno (RFC
+    /// 8966, sections 3.7.2 and 3.8.2). It queues items and records requests, and no route is
+    /// reported otherwise than before.
+    #[inline(always)]
     pub(crate) fn follow_up(
         &mut self,
         now: u64,
         cause: Option<UnfeasibleUpdate>,
         prefix: &Prefix,
-        selections: &(Option<Selection>, Option<Selection>),
+        change: &SelectionChange,
         cursor: &mut Cursor,
     )
-        ensures state { self.new ≡ follow_up now cause prefix.now selections.now.0 selections.now.1 self.old }
-        ensures kept { KeepsRoutes self.old self.new }
+        ensures { (old new : Option Selection) → change.now ≡ selection_change old new → self.new ≡ follow_up now cause prefix.now old new self.old }
     {
-        self.advertise_change(prefix, &selections.0, &selections.1);
-        self.request_for_seqno(now, cause, prefix, selections, cursor);
+        if !self.follow_origin(now, prefix, change.origin, cursor) {
+            self.request_from_sender(now, cause, prefix, change.before);
+        }
     }
 
-    /// Selects the route of the prefix again after an input, which was this unfeasible update or none,
-    /// and does what follows from a change.
+    /// Selects the route of the prefix again after an input, which was this unfeasible update or
+    /// none, and does what follows from a change.
     pub(crate) fn reselect(&mut self, now: u64, cause: Option<UnfeasibleUpdate>, prefix: &Prefix)
         ensures { self.new ≡ reselect now cause prefix.now self.old }
     {
@@ -247,26 +244,25 @@ impl Core {
         self.reselect_near(now, cause, prefix, &mut cursor);
     }
 
-    /// The same. The searches begin at the cursor. Returns whether the prefix's selected route is reported otherwise
-    /// than before.
-    #[tactic(auto, unfolding(babel_state::specs::Reselection::reselect))]
+    /// The same. The searches begin at the cursor. Returns whether the prefix's selected route is
+    /// reported otherwise than before.
     pub(crate) fn reselect_near(
         &mut self,
         now: u64,
         cause: Option<UnfeasibleUpdate>,
         prefix: &Prefix,
         cursor: &mut Cursor,
-    ) -> bool
+    ) -> Report
         ensures state { self.new ≡ reselect now cause prefix.now self.old }
-        ensures kept { IsFalse result → KeepsRoutes self.old self.new }
+        ensures kept { result ≡ Report.Alike → KeepsRoutes self.old self.new }
     {
-        let selections = self.select_near(prefix, cursor);
-        self.follow_up(now, cause, prefix, &selections, cursor);
-        !are_alike(&selections.0, &selections.1)
+        let change = self.select_near(prefix, cursor);
+        self.follow_up(now, cause, prefix, &change, cursor);
+        change.report
     }
 
-    /// Selects the routes of the prefixes again, one after the other. Since the prefixes rise, that is one walk over
-    /// the tables.
+    /// Selects the routes of the prefixes again, one after the other. Since the prefixes rise, that
+    /// is one walk over the tables.
     pub(crate) fn reselect_each(&mut self, now: u64, prefixes: &Scratch)
         ensures { self.new ≡ reselect_each now (prefixes_in prefixes.now) self.old }
     {
@@ -276,9 +272,9 @@ impl Core {
         }
     }
 
-    /// Selects the route of each prefix again that has a route or a selection. One walk over the tables finds those
-    /// whose selection isn't current, since a reselection changes nothing of the others. If it returns `false`, there is
-    /// none, and nothing changed.
+    /// Selects the route of each prefix again that has a route or a selection. One walk over the
+    /// tables finds those whose selection isn't current, since a reselection changes nothing of the
+    /// others. If it returns `false`, there is none, and nothing changed.
     pub(crate) fn reselect_all(&mut self, now: u64, scratch: &mut Scratch) -> bool
         ensures state { self.new ≡ reselect_all now self.old }
         ensures current { AreCurrent self.new }
@@ -290,7 +286,8 @@ impl Core {
         !scratch.is_empty()
     }
 
-    /// The same. If the speaker is settled, all selections are current, and there is nothing to do. It is settled then.
+    /// The same. If the speaker is settled, all selections are current, and there is nothing to do.
+    /// It is settled then.
     #[tactic(auto, using(crate::proofs::Settling::settled_all, crate::proofs::Settling::current_all))]
     pub(crate) fn reselect_unless(&mut self, now: u64, hints: &mut Hints) -> bool
         requires settled { IsTrue hints.old.settled → AreCurrent self.old }
@@ -307,18 +304,17 @@ impl Core {
         self.reselect_all(now, &mut hints.scratch)
     }
 
-    /// Selects the route of the prefix again, as `select_near`, and returns how the origin of its selected route changed. The
-    /// cursor goes to the next prefix.
+    /// The same as `select_near`, where the cost of one link is known.
     #[inline(always)]
     fn select_changed(
         &mut self,
         prefix: &Prefix,
         known: &KnownCost,
         cursor: &mut Cursor,
-    ) -> OriginChange
+    ) -> SelectionChange
         requires known { known.now.cost ≡ cost_at self.old known.now.peer }
         ensures state { self.new ≡ select prefix.now self.old }
-        ensures change { result ≡ origin_change (selected_at prefix.now self.old) (selected_at prefix.now self.new) }
+        ensures change { result ≡ selection_change (selected_at prefix.now self.old) (selected_at prefix.now self.new) }
     {
         let origin = self.origin(prefix);
         let links = LinkCosts::new(&self.interfaces, &self.neighbours);
@@ -327,33 +323,8 @@ impl Core {
             .select_changed(prefix, origin, &self.sources, &costs, cursor)
     }
 
-    /// What follows from a change of the origin alone, as of `follow_up` without a cause.
-    fn follow_change(
-        &mut self,
-        now: u64,
-        prefix: &Prefix,
-        change: OriginChange,
-        cursor: &mut Cursor,
-    )
-        ensures { (old new : Option Selection) → change ≡ origin_change old new → self.new ≡ follow_up now None prefix.now old new self.old }
-    {
-        match change {
-            OriginChange::Same => {}
-            OriginChange::New => self.queue_updates_to_all(prefix),
-            OriginChange::Lost { router, seqno } => {
-                self.queue_updates_to_all(prefix);
-                if self.may_request_for_lost(prefix, cursor) {
-                    let source = Source {
-                        prefix: *prefix,
-                        router,
-                    };
-                    self.request_for_lost(now, source, seqno);
-                }
-            }
-        }
-    }
-
-    /// Selects the route of the prefix again, as `reselect_near` without a cause. The cursor goes to the next prefix.
+    /// Selects the route of the prefix again, as `reselect_near` without a cause. The cursor goes
+    /// to the next prefix.
     #[inline(always)]
     fn reselect_changed(
         &mut self,
@@ -368,20 +339,21 @@ impl Core {
         ensures known { known.now.cost ≡ cost_at self.new known.now.peer }
     {
         let change = self.select_changed(prefix, known, cursor);
-        self.follow_change(now, prefix, change, cursor);
+        self.follow_origin(now, prefix, change.origin, cursor);
     }
 
-    /// The selection of the prefix, if a reselection leaves it after a change of the neighbour alone: of its routes, or of the
-    /// link to it. `None` says nothing. The cursor is at the neighbour's route, and goes to the selection.
+    /// The neighbour of the prefix's selection, if a reselection leaves that after a change of the
+    /// neighbour alone: of its routes, or of the link to it. `None` says nothing. The cursor is at
+    /// the neighbour's route, and goes to the selection.
     #[inline(always)]
     pub(crate) fn kept_selection(
         &self,
         prefix: &Prefix,
         peer: &Peer,
         cursor: &mut Cursor,
-    ) -> Option<Selection>
+    ) -> Option<Peer>
         requires others { IsCurrentButAt peer.now prefix.now self.now }
-        ensures selection { IsSome result → result ≡ selected_at prefix.now self.now }
+        ensures selection { IsSome result → result ≡ peer_before (selected_at prefix.now self.now) }
         ensures kept { IsSome result → self.now ≡ select prefix.now self.now }
     {
         let key = RouteKey {
@@ -393,8 +365,9 @@ impl Core {
             .kept_selection(&key, &self.sources, &links, cursor)
     }
 
-    /// Whether the selection of the prefix stays after a change of the link to the neighbour. `false` says nothing. The cursor
-    /// is at that neighbour's route, and goes to the next prefix's selection.
+    /// Whether the selection of the prefix stays after a change of the link to the neighbour.
+    /// `false` says nothing. The cursor is at that neighbour's route, and goes to the next prefix's
+    /// selection.
     #[inline(never)]
     fn keeps_selection(&self, prefix: &Prefix, peer: &Peer, cursor: &mut Cursor) -> bool
         requires others { IsCurrentButAt peer.now prefix.now self.now }
@@ -420,8 +393,9 @@ impl Core {
         }
     }
 
-    /// Selects the route of the prefix again after a change of the link to the neighbour of this cost. If the prefix has
-    /// routes of several neighbours, its selection may stay. The cursor is at that neighbour's route.
+    /// Selects the route of the prefix again after a change of the link to the neighbour of this
+    /// cost. If the prefix has routes of several neighbours, its selection may stay. The cursor is
+    /// at that neighbour's route.
     #[inline(always)]
     fn reselect_after_link(
         &mut self,
@@ -443,8 +417,9 @@ impl Core {
         }
     }
 
-    /// Selects the route of each prefix again to which the neighbour has a route, in one walk over the table. If all other
-    /// selections are current, that leaves what a reselection of all leaves.
+    /// Selects the route of each prefix again to which the neighbour has a route, in one walk over
+    /// the table. If all other selections are current, that leaves what a reselection of all
+    /// leaves.
     fn reselect_from(&mut self, now: u64, peer: &Peer)
         requires others { AreOthersCurrent peer.now self.old }
         ensures state { self.new ≡ reselect_all now self.old }
@@ -469,15 +444,16 @@ impl Core {
         for place in 0..self.routes.len() {
             if let Some(prefix) = self.routes.prefix_from(place, peer) {
                 cursor.entry = place;
-                // A search may begin at any index. Sources of routes that follow each other mostly do too.
+                // A search may begin at any index. Sources of routes that follow each other mostly
+                // do too.
                 cursor.source = cursor.source.wrapping_add(1);
                 self.reselect_changed(now, &prefix, &known, &mut cursor);
             }
         }
     }
 
-    /// The same where some prefixes have routes of several neighbours: a selection that stays is compared with this
-    /// neighbour's route alone.
+    /// The same where some prefixes have routes of several neighbours: a selection that stays is
+    /// compared with this neighbour's route alone.
     #[inline(never)]
     fn reselect_shared_from(&mut self, now: u64, peer: &Peer)
         requires others { AreCurrentBut peer.now self.old }
@@ -495,8 +471,9 @@ impl Core {
         }
     }
 
-    /// Selects routes again after a change of the link to a neighbour. It leaves what a reselection of all leaves, and the
-    /// speaker is settled. If it returns `false`, nothing changed by it and the link didn't either.
+    /// Selects routes again after a change of the link to a neighbour. It leaves what a reselection
+    /// of all leaves, and the speaker is settled. If it returns `false`, nothing changed by it and
+    /// the link didn't either.
     pub(crate) fn reselect_link(
         &mut self,
         change: LinkChange,

@@ -60,9 +60,9 @@ impl Core {
     }
 
     /// Forwards a request (RFC 8966, section 3.8.1.2).
-    fn forward(&mut self, arrival: Arrival, request: &SeqnoRequest) -> Verdict
+    fn forward(&mut self, arrival: &Arrival, request: &SeqnoRequest) -> Verdict
         requires { 2 ≤ request.now.hops }
-        ensures { (self.new, result) ≡ forward arrival.now request.now.source request.now.seqno request.now.hops (receiver arrival.peer request.now.source.prefix self.old) self.old }
+        ensures { (self.new, result) ≡ forward arrival.now.time request.now.source request.now.seqno request.now.hops (receiver arrival.now.peer request.now.source.prefix self.old) self.old }
     {
         match self.receiver(&arrival.peer, &request.source.prefix) {
             Some(next) => {
@@ -71,7 +71,7 @@ impl Core {
                     seqno: request.seqno,
                     hops: request.hops - 1,
                 };
-                self.request_seqno_from(arrival.now, &forwarded, Resend::Never, next);
+                self.request_seqno_from(arrival.time, &forwarded, Resend::Never, next);
                 Verdict::Taken
             }
             None => Verdict::NotForwarded,
@@ -81,11 +81,11 @@ impl Core {
     /// Handles a request for a seqno of a prefix that has this selected route, or none.
     fn handle_request_of_route(
         &mut self,
-        arrival: Arrival,
+        arrival: &Arrival,
         request: &SeqnoRequest,
         selected: &Option<Selection>,
     ) -> Verdict
-        ensures { (self.new, result) ≡ requested_of_route arrival.now arrival.peer request.now.source request.now.seqno request.now.hops selected.now self.old }
+        ensures { (self.new, result) ≡ requested_of_route arrival.now.time arrival.now.peer request.now.source request.now.seqno request.now.hops selected.now self.old }
     {
         let Some(route) = selected else {
             return Verdict::NotForwarded;
@@ -112,8 +112,8 @@ impl Core {
 
     /// Handles a request for a seqno (RFC 8966, section 3.8.1.2).
     #[tactic(auto, unfolding(babel_state::specs::SeqnoRequests::handle_seqno_request))]
-    pub fn handle_seqno_request(&mut self, arrival: Arrival, request: &SeqnoRequest) -> Verdict
-        ensures { (self.new, result) ≡ handle_seqno_request arrival.now arrival.peer request.now.source request.now.seqno request.now.hops self.old }
+    pub fn handle_seqno_request(&mut self, arrival: &Arrival, request: &SeqnoRequest) -> Verdict
+        ensures { (self.new, result) ≡ handle_seqno_request arrival.now.time arrival.now.peer request.now.source request.now.seqno request.now.hops self.old }
     {
         if self.announces(&request.source.prefix) {
             self.handle_request_of_own(&arrival.peer, &request.source, request.seqno);

@@ -2,6 +2,8 @@
 
 ghost use Rattle.std.specs.Prelude.{◌≡◌, false, Some, IsTrue, IsFalse, IsSome, IsNone, IfSome, IfOk, OnErr, is_err, is_none, is_some, if◌then◌else◌};
 ghost use Rattle.babel_choice.specs.Routes.{retracted};
+ghost use Rattle.babel_route.specs.declared.routes.changes.Report.{Report};
+ghost use Rattle.babel_route.specs.SelectionChanges.{selection_change};
 ghost use Rattle.babel_sources.specs.Distances.{is_feasible};
 ghost use Rattle.babel_state.specs.declared.notes.Verdict.TheVariants.{TableFull};
 ghost use Rattle.babel_state.specs.CurrentSelections.{AreCurrent};
@@ -13,11 +15,10 @@ ghost use Rattle.babel_speaker.specs.LinkChanges.{IsCurrentButAt};
 
 use crate::hints::Hints;
 use crate::input::causes::UnfeasibleUpdate;
-use crate::input::selection_changes::are_alike;
 use crate::state::Core;
 use crate::tables::Scratch;
-use babel_choice::{Cursor, ReceivedUpdate, RouteKey, Selection};
-use babel_route::{Full, OnRepeat, Refreshed};
+use babel_choice::{Cursor, ReceivedUpdate, RouteKey};
+use babel_route::{Full, OnRepeat, Refreshed, Report, SelectionChange};
 use babel_state::Verdict;
 use babel_value::{Distance, Peer, Prefix, Seqno, Source};
 
@@ -28,6 +29,16 @@ fn is_feasible(pair: &Distance, update: &Distance) -> bool
     let (pair, update) = (*pair, *update);
     let metric = update.metric;
     !metric.is_finite() || update.better(pair)
+}
+
+/// Whether a route is reported otherwise than before.
+fn is_other(report: Report) -> bool
+    ensures { IsFalse result → report ≡ Report.Alike }
+{
+    match report {
+        Report::Alike => false,
+        Report::Other => true,
+    }
 }
 
 impl Core {
@@ -50,8 +61,8 @@ impl Core {
         }
     }
 
-    /// Removes the pending request for the source if a feasible update of this seqno satisfies it, and
-    /// passes the update on (RFC 8966, section 3.2.7).
+    /// Removes the pending request for the source if a feasible update of this seqno satisfies it,
+    /// and passes the update on (RFC 8966, section 3.2.7).
     #[tactic(auto, unfolding(babel_state::specs::Updates::satisfy_request))]
     fn satisfy_request(&mut self, source: &Source, seqno: Seqno)
         ensures { self.new ≡ satisfy_request source.now seqno self.old }
@@ -62,9 +73,9 @@ impl Core {
         }
     }
 
-    /// Stores the update. If it repeats what its neighbour advertised and the speaker is settled, so that all selections
-    /// are current, only deadlines are set again, which is what selecting again would leave: then it returns the old and
-    /// the new selection. The search begins at the cursor.
+    /// Stores the update. If it repeats what its neighbour advertised and the speaker is settled,
+    /// so that all selections are current, only deadlines are set again, which is what selecting
+    /// again would leave: then it returns what changed. The search begins at the cursor.
     fn store_update(
         &mut self,
         now: u64,
@@ -77,8 +88,7 @@ impl Core {
         ensures err { OnErr result (self.new ≡ self.old) }
         ensures stored { IfOk result (λ r. IsNone r → self.new ≡ store now update.now.peer update.now.source.prefix update.now.source.router update.now.next_hop update.now.distance update.now.interval self.old) }
         ensures refreshed { IfOk result (λ r. IsSome r → self.new ≡ select update.now.source.prefix (store now update.now.peer update.now.source.prefix update.now.source.router update.now.next_hop update.now.distance update.now.interval self.old)) }
-        ensures old { IfOk result (λ r. IfSome r (λ s. s.0 ≡ selected_at update.now.source.prefix self.old)) }
-        ensures new { IfOk result (λ r. IfSome r (λ s. s.1 ≡ selected_at update.now.source.prefix self.new)) }
+        ensures change { IfOk result (λ r. IfSome r (λ change. change ≡ selection_change (selected_at update.now.source.prefix self.old) (selected_at update.now.source.prefix self.new))) }
     {
         let on_repeat = if hints.settled {
             OnRepeat::Refresh
@@ -89,20 +99,15 @@ impl Core {
             .store_near(now, update, on_repeat, &mut hints.cursor)
     }
 
-    /// Selects the route of the prefix again after a change of the neighbour's route to it. If the speaker was settled before,
-    /// the selection is current but for that neighbour's routes. Returns the old and the new selection.
+    /// Selects the route of the prefix again after a change of the neighbour's route to it. If the
+    /// speaker was settled before, the selection is current but for that neighbour's routes.
+    /// Returns what changed.
     #[inline(always)]
-    fn select_after(
-        &mut self,
-        prefix: &Prefix,
-        peer: &Peer,
-        hints: &mut Hints,
-    ) -> (Option<Selection>, Option<Selection>)
+    fn select_after(&mut self, prefix: &Prefix, peer: &Peer, hints: &mut Hints) -> SelectionChange
         requires others { IsTrue hints.old.settled → IsCurrentButAt peer.now prefix.now self.old }
         ensures settled { hints.new.settled ≡ hints.old.settled }
         ensures state { self.new ≡ select prefix.now self.old }
-        ensures old { result.0 ≡ selected_at prefix.now self.old }
-        ensures new { result.1 ≡ selected_at prefix.now self.new }
+        ensures change { result ≡ selection_change (selected_at prefix.now self.old) (selected_at prefix.now self.new) }
     {
         if hints.settled && self.routes.are_shared() {
             return self.select_shared(prefix, peer, &mut hints.cursor);
@@ -110,42 +115,41 @@ impl Core {
         self.select_near(prefix, &mut hints.cursor)
     }
 
-    /// The same where some prefixes have routes of several neighbours: a selection that stays is compared with this
-    /// neighbour's route alone. The searches begin at the cursor, which is at that route.
+    /// The same where some prefixes have routes of several neighbours: a selection that stays is
+    /// compared with this neighbour's route alone. The searches begin at the cursor, which is at
+    /// that route.
     #[inline(never)]
     fn select_shared(
         &mut self,
         prefix: &Prefix,
         peer: &Peer,
         cursor: &mut Cursor,
-    ) -> (Option<Selection>, Option<Selection>)
+    ) -> SelectionChange
         requires others { IsCurrentButAt peer.now prefix.now self.old }
         ensures state { self.new ≡ select prefix.now self.old }
-        ensures old { result.0 ≡ selected_at prefix.now self.old }
-        ensures new { result.1 ≡ selected_at prefix.now self.new }
+        ensures change { result ≡ selection_change (selected_at prefix.now self.old) (selected_at prefix.now self.new) }
     {
-        if let Some(kept) = self.kept_selection(prefix, peer, cursor) {
-            let before = kept;
-            return (Some(before), Some(kept));
+        let kept = self.kept_selection(prefix, peer, cursor);
+        if kept.is_some() {
+            return SelectionChange::kept(kept);
         }
         self.select_near(prefix, cursor)
     }
 
-    /// Stores the update and selects the route of its prefix again. Returns the old and the new selection, or `None` if
-    /// the route is new and all places are taken. The searches begin at the cursor.
+    /// Stores the update and selects the route of its prefix again. Returns what changed, or `None`
+    /// if the route is new and all places are taken. The searches begin at the cursor.
     fn store_and_select(
         &mut self,
         now: u64,
         update: &ReceivedUpdate,
         hints: &mut Hints,
-    ) -> Option<(Option<Selection>, Option<Selection>)>
+    ) -> Option<SelectionChange>
         requires settled { IsTrue hints.old.settled → AreCurrent self.old }
         ensures settled { hints.new.settled ≡ hints.old.settled }
         ensures full { is_none result ≡ is_route_too_many update.now.source.prefix update.now.peer self.old }
         ensures none { IsNone result → self.new ≡ self.old }
         ensures state { IsSome result → self.new ≡ select update.now.source.prefix (store now update.now.peer update.now.source.prefix update.now.source.router update.now.next_hop update.now.distance update.now.interval self.old) }
-        ensures old { IfSome result (λ r. r.0 ≡ selected_at update.now.source.prefix self.old) }
-        ensures new { IfSome result (λ r. r.1 ≡ selected_at update.now.source.prefix self.new) }
+        ensures change { IfSome result (λ change. change ≡ selection_change (selected_at update.now.source.prefix self.old) (selected_at update.now.source.prefix self.new)) }
     {
         match self.store_update(now, update, hints) {
             Ok(None) => {}
@@ -154,14 +158,15 @@ impl Core {
         }
         let route = hints.cursor.entry;
         let selected = self.select_after(&update.source.prefix, &update.peer, hints);
-        // The choice leaves the cursor after the routes of the prefix. The next update begins at this one's route.
+        // The choice leaves the cursor after the routes of the prefix. The next update begins at
+        // this one's route.
         hints.cursor.entry = route;
         Some(selected)
     }
 
-    /// Stores an update and judges it against the distance of its source, which that doesn't change. So the source of an
-    /// update that is refused is not looked up. If the hints aren't `changed` then, the selected routes are reported as
-    /// before.
+    /// Stores an update and judges it against the distance of its source, which that doesn't
+    /// change. So the source of an update that is refused is not looked up. If the hints aren't
+    /// `changed` then, the selected routes are reported as before.
     #[tactic(auto, unfolding(babel_state::specs::Reselection::reselect))]
     fn store_and_judge(&mut self, now: u64, update: &ReceivedUpdate, hints: &mut Hints) -> Verdict
         requires settled { IsTrue hints.old.settled → AreCurrent self.old }
@@ -169,33 +174,34 @@ impl Core {
         ensures kept { IsFalse hints.new.changed → KeepsRoutes self.old self.new }
         ensures state { (self.new, result) ≡ (if is_route_too_many update.now.source.prefix update.now.peer self.old then (self.old, TableFull) else judge now update.now.peer update.now.source.prefix update.now.source.router update.now.distance (pair_at update.now.source.prefix update.now.source.router self.old) (store now update.now.peer update.now.source.prefix update.now.source.router update.now.next_hop update.now.distance update.now.interval self.old)) }
     {
-        let source = update.source;
-        let Some(selections) = self.store_and_select(now, update, hints) else {
+        let source = &update.source;
+        let Some(change) = self.store_and_select(now, update, hints) else {
             return Verdict::TableFull;
         };
-        hints.changed = !are_alike(&selections.0, &selections.1);
+        hints.changed = is_other(change.report);
         let near = &mut hints.cursor.source;
-        if let Some(pair) = self.sources.pair_near(&source, near) {
+        if let Some(pair) = self.sources.pair_near(source, near) {
             if !is_feasible(&pair, &update.distance) {
                 let cause = UnfeasibleUpdate {
                     peer: update.peer,
                     router: source.router,
                 };
                 let cursor = &mut hints.cursor;
-                self.follow_up(now, Some(cause), &source.prefix, &selections, cursor);
+                self.follow_up(now, Some(cause), &source.prefix, &change, cursor);
                 return Verdict::Unfeasible(pair);
             }
         }
         let cursor = &mut hints.cursor;
-        self.follow_up(now, None, &source.prefix, &selections, cursor);
-        self.satisfy_request(&source, update.distance.seqno);
+        self.follow_up(now, None, &source.prefix, &change, cursor);
+        self.satisfy_request(source, update.distance.seqno);
         Verdict::Taken
     }
 
-    /// Handles an update with a finite metric (RFC 8966, section 3.5.3). If the speaker is settled, all selections are
-    /// current, and an update that repeats what is known takes no new choice. The searches begin at the cursor, which
-    /// goes to the prefix: the updates of a datagram mostly are in the order of their prefixes. If the hints aren't `changed`
-    /// then, the selected routes are reported as before.
+    /// Handles an update with a finite metric (RFC 8966, section 3.5.3). If the speaker is settled,
+    /// all selections are current, and an update that repeats what is known takes no new choice.
+    /// The searches begin at the cursor, which goes to the prefix: the updates of a datagram mostly
+    /// are in the order of their prefixes. If the hints aren't `changed` then, the selected routes
+    /// are reported as before.
     #[inline(never)]
     #[tactic(auto, unfolding(babel_state::specs::Updates::handle_update))]
     pub fn handle_update(&mut self, now: u64, update: &ReceivedUpdate, hints: &mut Hints) -> Verdict
@@ -210,7 +216,8 @@ impl Core {
         self.store_and_judge(now, update, hints)
     }
 
-    /// Makes the metric of the neighbour's route infinite. `false` if it has none. The search begins at the cursor.
+    /// Makes the metric of the neighbour's route infinite. `false` if it has none. The search
+    /// begins at the cursor.
     #[inline(never)]
     fn store_retraction(
         &mut self,
@@ -230,8 +237,9 @@ impl Core {
         self.routes.retract_near(now, &key, &mut hints.cursor)
     }
 
-    /// Selects the route of the prefix again once the neighbour's route to it is retracted, and does what follows from a change.
-    /// Returns whether the prefix's selected route is reported otherwise than before.
+    /// Selects the route of the prefix again once the neighbour's route to it is retracted, and
+    /// does what follows from a change. Returns whether the same is reported of the prefix's
+    /// selected route.
     #[inline(never)]
     #[tactic(auto, unfolding(babel_state::specs::Reselection::reselect))]
     fn reselect_retracted(
@@ -240,20 +248,19 @@ impl Core {
         prefix: &Prefix,
         peer: &Peer,
         hints: &mut Hints,
-    ) -> bool
+    ) -> Report
         requires others { IsTrue hints.old.settled → IsCurrentButAt peer.now prefix.now self.old }
         ensures settled { hints.new.settled ≡ hints.old.settled }
         ensures state { self.new ≡ reselect now None prefix.now self.old }
-        ensures kept { IsFalse result → KeepsRoutes self.old self.new }
+        ensures kept { result ≡ Report.Alike → KeepsRoutes self.old self.new }
     {
-        let selections = self.select_after(prefix, peer, hints);
-        self.follow_up(now, None, prefix, &selections, &mut hints.cursor);
-        let alike = are_alike(&selections.0, &selections.1);
-        !alike
+        let change = self.select_after(prefix, peer, hints);
+        self.follow_up(now, None, prefix, &change, &mut hints.cursor);
+        change.report
     }
 
-    /// Handles a retraction of a prefix (RFC 8966, section 3.5.3). If the hints aren't `changed` then, the selected routes
-    /// are reported as before.
+    /// Handles a retraction of a prefix (RFC 8966, section 3.5.3). If the hints aren't `changed`
+    /// then, the selected routes are reported as before.
     #[tactic(auto, unfolding(babel_state::specs::Updates::handle_retraction))]
     pub fn handle_retraction(
         &mut self,
@@ -268,7 +275,8 @@ impl Core {
         ensures kept { IsFalse hints.new.changed → KeepsRoutes self.old self.new }
     {
         if self.store_retraction(now, prefix, peer, hints) {
-            hints.changed = self.reselect_retracted(now, prefix, peer, hints);
+            let report = self.reselect_retracted(now, prefix, peer, hints);
+            hints.changed = is_other(report);
             Verdict::Taken
         } else {
             Verdict::NoEntry

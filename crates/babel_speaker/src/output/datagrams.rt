@@ -1,5 +1,5 @@
-//! The next datagram (RFC 8966, section 4): pending items become messages one by one, from the oldest
-//! on, as long as they go to the same target and fit.
+//! The next datagram (RFC 8966, section 4): pending items become messages one by one, from the
+//! oldest on, as long as they go to the same target and fit.
 
 ghost use Rattle.std.specs.Prelude.{◌≡◌, ◌↔◌, ℕ, None, List, [], true, Some, IfSome, IsTrue, IsFalse, IsNone, if◌then◌else◌};
 ghost use Rattle.std.specs.Bool.{OnFalse};
@@ -141,11 +141,11 @@ fn fill(core: &mut Core, departure: Departure, builder: &mut Builder, hints: &mu
 }
 
 /// Takes the next datagram from the pending items: its octets are written to `out`, in place of
-/// what was there, and its target is returned. `None`: no item means a message, and `out` is empty. It is built in
-/// `builder`, whatever was there.
+/// what was there, and its target is returned. `None`: no item means a message, and `out` is empty.
+/// It is built in `builder`, whatever was there.
 ///
-/// A settled speaker stays so unless an Update that is sent changes the feasibility distance of its source. If
-/// it isn't `lowered` then, none did, and the snapshot is as before.
+/// A settled speaker stays so unless an Update that is sent changes the feasibility distance of its
+/// source. If it isn't `lowered` then, none did, and the snapshot is as before.
 ///
 /// That each message can be encoded, and that each interface has an address to send from, follows
 /// from the invariant of a speaker's state.

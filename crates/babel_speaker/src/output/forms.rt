@@ -1,5 +1,5 @@
-//! The messages that items mean (RFC 8966, sections 3.4, 3.7 and 3.8). Each is written where the caller wants it: one that
-//! is returned is copied field by field.
+//! The messages that items mean (RFC 8966, sections 3.4, 3.7 and 3.8). Each is written where the
+//! caller wants it: one that is returned is copied field by field.
 
 ghost use Rattle.std.specs.Prelude.{◌≡◌, ◌≤◌, ◌*◌, Some};
 ghost use Rattle.babel_message.specs.declared.messages.Message.TheVariants as messages;

@@ -1,5 +1,5 @@
-//! What is needed of a state to send its pending items, and what a message that is sent changes (RFC 8966, sections
-//! 3.4.1 and 3.7.3).
+//! What is needed of a state to send its pending items, and what a message that is sent changes
+//! (RFC 8966, sections 3.4.1 and 3.7.3).
 
 ghost use Rattle.std.specs.Prelude.{◌≡◌, None, true, Some, slice_get, IsTrue, IsFalse};
 ghost use Rattle.std.specs.FinMap.{is_sorted};
@@ -42,8 +42,8 @@ fn use_hello_seqno(core: &mut Core, iface: u8)
 }
 
 /// The changes by a message that is sent: a Hello uses up its seqno, and an Update lowers the
-/// feasibility distance of its source (RFC 8966, sections 3.4.1 and 3.7.3). Returns whether it changed that
-/// distance.
+/// feasibility distance of its source (RFC 8966, sections 3.4.1 and 3.7.3). Returns whether it
+/// changed that distance.
 #[tactic(auto, unfolding(babel_state::specs::NextDatagram::after_message))]
 fn apply_message(
     core: &mut Core,
@@ -105,9 +105,9 @@ fn is_named_current(core: &Core, message: &Message, cursor: &mut Cursor) -> bool
     }
 }
 
-/// The same. If the speaker is settled, it stays so unless the message changes the feasibility distance of its source
-/// and then the selection of its prefix is no longer current. If `lowered` is `false` then, it was so, and the snapshot is
-/// as before.
+/// The same. If the speaker is settled, it stays so unless the message changes the feasibility
+/// distance of its source and then the selection of its prefix is no longer current. If `lowered`
+/// is `false` then, it was so, and the snapshot is as before.
 #[tactic(auto, using(crate::proofs::SettledItems::sent_current, crate::proofs::SettledItems::sent_but_current, crate::proofs::SnapshotsSent::sent_snapshot))]
 pub fn send_message(core: &mut Core, departure: Departure, message: &Message, hints: &mut Hints)
     requires room { HasRoomFor core.old message.now }

@@ -126,9 +126,9 @@ fn outgoing_to_peer(core: &Core, peer: Peer, message: Message, out: &mut Outgoin
     };
 }
 
-/// The target of an Update, or of a retraction, that is certainly sent: its interface has an address of the
-/// prefix's family, and the source table has room. `None` only means that this takes a search, or that the item is of
-/// another kind.
+/// The target of an Update, or of a retraction, that is certainly sent: its interface has an
+/// address of the prefix's family, and the source table has room. `None` only means that this takes
+/// a search, or that the item is of another kind.
 #[tactic(auto, using(crate::proofs::SentUpdates::certain_message))]
 pub fn certain_target(core: &Core, item: &Item) -> Option<Target>
     ensures { IfSome result (λ target. IsMessageTo target (outgoing core.now item.now)) }

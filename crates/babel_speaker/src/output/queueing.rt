@@ -90,7 +90,8 @@ pub fn queue_requests_to_unfeasible(
     }
 }
 
-/// Queues an update of the prefix. It is written to its place in the ring if there is one, and no other copy of it is made.
+/// Queues an update of the prefix. It is written to its place in the ring if there is one, and no
+/// other copy of it is made.
 #[inline(always)]
 fn queue_update(pending: &mut PendingItems, target: Target, prefix: Prefix)
     ensures { pending.new ≡ queued (Update target prefix ∷ []) pending.old }

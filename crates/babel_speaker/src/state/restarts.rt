@@ -31,8 +31,8 @@ pub fn save(core: &Core, alloc: Global) -> Result<Vec<u8>, Memory>
     Ok(octets)
 }
 
-/// The state after a restart: the first one, with the seqno, the count of raises and the sources that
-/// were saved.
+/// The state after a restart: the first one, with the seqno, the count of raises and the sources
+/// that were saved.
 #[tactic(auto, unfolding(babel_state::specs::Restarts::restored, babel_state::specs::Calls::first_state))]
 pub fn restore(
     alloc: Global,

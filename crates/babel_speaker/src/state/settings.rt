@@ -79,8 +79,8 @@ pub fn selected_route(core: &Core, prefix: &Prefix) -> Option<Selected>
     selected_route_near(core, prefix, &mut nowhere)
 }
 
-/// The same. The search begins at the index `near` of the selections, which becomes the one after the prefix, or that
-/// at which the prefix would be.
+/// The same. The search begins at the index `near` of the selections, which becomes the one after
+/// the prefix, or that at which the prefix would be.
 #[inline]
 #[tactic(auto, unfolding(babel_state::specs::Calls::selected_route))]
 pub fn selected_route_near(core: &Core, prefix: &Prefix, near: &mut usize) -> Option<Selected>

@@ -137,8 +137,8 @@ impl Core {
         }
     }
 
-    /// The same. The search begins at the index `near` of the selections, which becomes the one after the prefix, or that
-    /// at which the prefix would be.
+    /// The same. The search begins at the index `near` of the selections, which becomes the one
+    /// after the prefix, or that at which the prefix would be.
     #[inline]
     pub fn selected_near(&self, prefix: &Prefix, near: &mut usize) -> Option<Selection>
         ensures { result ≡ selected_at prefix.now self.now }

@@ -1,6 +1,6 @@
 //! From which addresses datagrams are taken.
 
-ghost use Rattle.std.specs.Prelude.{◌≡◌};
+ghost use Rattle.std.specs.Prelude.{◌≡◌, ◌<◌, get_or, IsTrue};
 ghost use Rattle.std.specs.List.{list_any};
 ghost use Rattle.babel_value.specs.Prefixes.{cleared};
 ghost use Rattle.babel_state.specs.Configs.{is_link_local};
@@ -74,11 +74,25 @@ fn first_bits(octets: &[u8; 4], bits: u8) -> [u8; 4]
     ]
 }
 
-/// Whether the two IPv4 addresses have the same first bits, this many.
+/// Whether the two IPv4 addresses have the same first three octets.
+fn share_three(octets: &[u8; 4], own: &[u8; 4]) -> bool
+    ensures first { IsTrue result → get_or octets.now 0 0 ≡ get_or own.now 0 0 }
+    ensures second { IsTrue result → get_or octets.now 1 0 ≡ get_or own.now 1 0 }
+    ensures third { IsTrue result → get_or octets.now 2 0 ≡ get_or own.now 2 0 }
+    ensures octets { (get_or octets.now 3 0 < 256) × (get_or own.now 3 0 < 256) }
+{
+    octets[0] == own[0] && octets[1] == own[1] && octets[2] == own[2]
+}
+
+/// Whether the two IPv4 addresses have the same first bits, this many. Mostly they differ in the
+/// last octet alone, and no bit of that counts.
 fn is_in_network(octets: &[u8; 4], network: &([u8; 4], u8)) -> bool
     ensures { result ≡ is_in_network octets.now network.now }
 {
     let (own, length) = *network;
+    if length <= 24 && share_three(octets, &own) {
+        return true;
+    }
     let source = Addr::V4(first_bits(octets, length));
     let own = Addr::V4(first_bits(&own, length));
     source.cmp(&own).is_eq()

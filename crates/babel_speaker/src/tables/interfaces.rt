@@ -79,7 +79,8 @@ impl Interfaces {
         self.entries.len() as u8
     }
 
-    /// The nominal cost of the interface (RFC 8966, appendix A.2.1): infinite if there is none of the number.
+    /// The nominal cost of the interface (RFC 8966, appendix A.2.1): infinite if there is none of
+    /// the number.
     pub fn nominal_cost(&self, iface: u8) -> Metric
         ensures { result ≡ option_map_or (λ i. i.cost) (slice_get self.now iface) infinity }
     {

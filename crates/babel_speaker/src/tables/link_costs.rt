@@ -8,8 +8,8 @@ use babel_choice::Costs;
 use babel_link::Neighbours;
 use babel_value::{Metric, Peer};
 
-/// The cost of the link to each neighbour, computed from the interface table and the neighbour table
-/// (RFC 8966, section 3.4.3).
+/// The cost of the link to each neighbour, computed from the interface table and the neighbour
+/// table (RFC 8966, section 3.4.3).
 #[derive(Drop)]
 pub struct LinkCosts<'a> {
     interfaces: &'a Interfaces,

@@ -11,8 +11,8 @@ use std::marker::Model;
 
 /// The pending items, at most 4,096, and how many were dropped since there was no room.
 ///
-/// An item that is removed stays at its place until all are, or until the place is needed. So the first places are
-/// used again and again, and the others are touched only if that many items wait.
+/// An item that is removed stays at its place until all are, or until the place is needed. So the
+/// first places are used again and again, and the others are touched only if that many items wait.
 #[derive(Drop)]
 pub struct PendingItems {
     items: HeapCircularBuffer<Item>,
@@ -77,8 +77,9 @@ impl PendingItems {
         }
     }
 
-    /// Drops the oldest items for which at least this many new ones leave no room, and counts them, all at once. If as many are
-    /// queued then, or more, the same items are pending as without this call.
+    /// Drops the oldest items for which at least this many new ones leave no room, and counts them,
+    /// all at once. If as many are queued then, or more, the same items are pending as without this
+    /// call.
     pub fn make_room(&mut self, count: usize)
         ensures { (xs : List Item) → count ≤ length xs → queued xs self.new ≡ queued xs self.old }
     {

@@ -7,7 +7,8 @@ use babel_table::{SortedTable, Table};
 use babel_value::Prefix;
 use std::marker::Model;
 
-/// The prefixes of a set in ascending order. A clause sees the list of those that are still to come.
+/// The prefixes of a set in ascending order. A clause sees the list of those that are still to
+/// come.
 #[derive(Drop)]
 pub struct Prefixes<'a> {
     table: &'a SortedTable<Prefix, ()>,

@@ -10,8 +10,8 @@ use babel_value::Prefix;
 use std::cmp::Ordering;
 use std::marker::Model;
 
-/// The prefixes that are announced or selected, in ascending order, each once: a merge of the two tables. A
-/// clause sees the list of those that are still to come.
+/// The prefixes that are announced or selected, in ascending order, each once: a merge of the two
+/// tables. A clause sees the list of those that are still to come.
 #[derive(Drop)]
 pub struct Reachable<'a> {
     announced: &'a Announced,
@@ -115,7 +115,8 @@ impl<'a> Iterator for Reachable<'a> {
     }
 }
 
-/// The prefixes that have a selected route, in ascending order. A clause sees the list of those that are still to come.
+/// The prefixes that have a selected route, in ascending order. A clause sees the list of those
+/// that are still to come.
 #[derive(Drop)]
 pub struct SelectedPrefixes<'a> {
     routes: &'a Routes,

@@ -14,8 +14,8 @@ use babel_value::{Memory, Seqno, Source};
 use std::alloc::Global;
 use std::marker::Model;
 
-/// A request for a route of a source with at least this seqno, which may still go this number of hops (RFC 8966, section
-/// 4.6.11).
+/// A request for a route of a source with at least this seqno, which may still go this number of
+/// hops (RFC 8966, section 4.6.11).
 #[derive(Clone, Copy)]
 pub struct SeqnoRequest {
     /// The source.

@@ -136,8 +136,8 @@ impl Scratch {
         }
     }
 
-    /// Makes the set that of the prefixes whose selection isn't current. It is one merge of the entries and the
-    /// selections.
+    /// Makes the set that of the prefixes whose selection isn't current. It is one merge of the
+    /// entries and the selections.
     pub fn gather_stale<C: Costs>(
         &mut self,
         routes: &Routes,

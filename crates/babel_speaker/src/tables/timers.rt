@@ -1,4 +1,5 @@
-//! What a tick changes in the requests and the interfaces: waits and timers (RFC 8966, sections 3.4, 3.7.1 and 3.8.2.1).
+//! What a tick changes in the requests and the interfaces: waits and timers (RFC 8966, sections
+//! 3.4, 3.7.1 and 3.8.2.1).
 
 ghost use Rattle.std.specs.Prelude.{◌≡◌, ◌<◌, ◌+◌, ◌++◌, map, take, drop, length, false, IsFalse};
 ghost use Rattle.std.specs.List.{list_any};
@@ -55,8 +56,8 @@ impl Revision<Source, PendingRequest> for Waits {
 }
 
 impl RequestTable {
-    /// Ends the waits that are over: a request waits twice as long again, or is removed after its last
-    /// wait (RFC 8966, section 3.8.2.1).
+    /// Ends the waits that are over: a request waits twice as long again, or is removed after its
+    /// last wait (RFC 8966, section 3.8.2.1).
     pub fn end_waits(&mut self, now: u64)
         ensures { self.new ≡ revised_entries (waited now) self.old }
     {

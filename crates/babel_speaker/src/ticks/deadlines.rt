@@ -114,8 +114,9 @@ fn earliest_source(sources: &Sources, due: u64) -> u64
     least
 }
 
-/// The least deadline of the state; the greatest moment if there is none. It is one walk over interfaces,
-/// neighbours, routes and pending requests, and over the sources only if they are collected.
+/// The least deadline of the state; the greatest moment if there is none. It is one walk over
+/// interfaces, neighbours, routes and pending requests, and over the sources only if they are
+/// collected.
 #[tactic(auto, unfolding(crate::specs::Deadlines::next_deadline), using(crate::proofs::Earliest::earliest_both))]
 fn next_deadline(core: &Core) -> u64
     ensures { result ≡ next_deadline core.now }
@@ -131,8 +132,8 @@ fn next_deadline(core: &Core) -> u64
     }
 }
 
-/// Whether the selection of each prefix is the one that a reselection would leave. It is one merge of the entries
-/// and the selections, and ends at the first that isn't.
+/// Whether the selection of each prefix is the one that a reselection would leave. It is one merge
+/// of the entries and the selections, and ends at the first that isn't.
 fn none_is_stale<C: Costs>(
     routes: &Routes,
     announced: &Announced,
@@ -159,9 +160,9 @@ fn are_current(core: &Core) -> bool
     none_is_stale(&core.routes, &core.announced, &core.sources, &costs)
 }
 
-/// The moment before which a tick changes nothing. It is 0 if an item is pending or if a selection isn't current,
-/// and else the least deadline of the state. If the speaker is settled, all its selections are current, and none
-/// is looked at.
+/// The moment before which a tick changes nothing. It is 0 if an item is pending or if a selection
+/// isn't current, and else the least deadline of the state. If the speaker is settled, all its
+/// selections are current, and none is looked at.
 #[tactic(auto, using(crate::proofs::EarlyTicks::early))]
 pub fn next_due(core: &Core, hints: &Hints) -> u64
     requires settled { IsTrue hints.now.settled → AreCurrent core.now }

@@ -1,4 +1,5 @@
-//! What a tick queues: requests again, and what the timers of interfaces ask for (RFC 8966, sections 3.4, 3.7.1 and 3.8.2.1).
+//! What a tick queues: requests again, and what the timers of interfaces ask for (RFC 8966,
+//! sections 3.4, 3.7.1 and 3.8.2.1).
 
 ghost use Rattle.std.specs.Prelude.{◌≡◌, ◌+◌, drop};
 ghost use Rattle.babel_state.specs.Queueing.{queued};

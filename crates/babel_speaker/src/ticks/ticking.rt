@@ -1,4 +1,5 @@
-//! What time brings (RFC 8966, sections 3.4, 3.5.4, 3.7.1 and 3.8.2.1): the deadlines of each table.
+//! What time brings (RFC 8966, sections 3.4, 3.5.4, 3.7.1 and 3.8.2.1): the deadlines of each
+//! table.
 
 ghost use Rattle.std.specs.Prelude.{◌≡◌, [], IsTrue, IsFalse};
 ghost use Rattle.babel_value.specs.declared.keys.Peer.{Peer};
@@ -32,10 +33,10 @@ impl Core {
         self.routes.forget_all(peers);
     }
 
-    /// Takes the deadlines of Hellos and IHUs (RFC 8966, sections 3.4.1 and 3.4.2). Routes of flushed
-    /// neighbours are removed. Returns what changed: if nothing, all selections that were current are so, and the selected
-    /// routes are reported as before; if at most the cost of one link, the selections of the prefixes to which its neighbour
-    /// has no route stay current.
+    /// Takes the deadlines of Hellos and IHUs (RFC 8966, sections 3.4.1 and 3.4.2). Routes of
+    /// flushed neighbours are removed. Returns what changed: if nothing, all selections that were
+    /// current are so, and the selected routes are reported as before; if at most the cost of one
+    /// link, the selections of the prefixes to which its neighbour has no route stay current.
     #[tactic(auto, unfolding(babel_state::specs::Ticks::links_ticked))]
     pub(crate) fn tick_links(
         &mut self,
@@ -53,9 +54,10 @@ impl Core {
         changes
     }
 
-    /// Selects routes again after the deadlines of Hellos and IHUs. It leaves what a reselection of all leaves. If the
-    /// speaker was settled and at most the cost of one link changed, it looks only at the prefixes to which its neighbour
-    /// has a route. If it returns `false`, nothing changed by it and no cost did either.
+    /// Selects routes again after the deadlines of Hellos and IHUs. It leaves what a reselection of
+    /// all leaves. If the speaker was settled and at most the cost of one link changed, it looks
+    /// only at the prefixes to which its neighbour has a route. If it returns `false`, nothing
+    /// changed by it and no cost did either.
     #[tactic(auto, using(crate::proofs::Settling::settled_all))]
     fn reselect_links(&mut self, changes: CostChanges, now: u64, hints: &mut Hints) -> bool
         requires nothing { IsTrue hints.old.settled → changes ≡ Nothing → AreCurrent self.old }
@@ -98,8 +100,9 @@ impl Core {
         self.routes.expire(now)
     }
 
-    /// Takes the deadlines of routes, and selects the routes of their prefixes again. All other selections stay current,
-    /// so that this leaves what a reselection of all leaves. If it returns `false`, no route is due, and nothing changed.
+    /// Takes the deadlines of routes, and selects the routes of their prefixes again. All other
+    /// selections stay current, so that this leaves what a reselection of all leaves. If it returns
+    /// `false`, no route is due, and nothing changed.
     #[tactic(auto, using(crate::proofs::Expiries::expired_reselected, crate::proofs::Expiries::nothing_reselected, crate::proofs::Expiries::expired_current))]
     fn expire_routes(&mut self, now: u64, scratch: &mut Scratch) -> bool
         requires current { AreCurrent self.old }
@@ -115,8 +118,8 @@ impl Core {
         true
     }
 
-    /// Collects the entries of the source table whose time has come, if the speaker does so (RFC 8966,
-    /// section 3.2.5). If it returns `false`, none was due, and nothing changed.
+    /// Collects the entries of the source table whose time has come, if the speaker does so (RFC
+    /// 8966, section 3.2.5). If it returns `false`, none was due, and nothing changed.
     #[tactic(auto, unfolding(babel_state::specs::Ticks::sources_ticked))]
     pub(crate) fn tick_sources(&mut self, now: u64) -> bool
         ensures state { self.new ≡ sources_ticked now self.old }
@@ -128,8 +131,8 @@ impl Core {
         self.sources.collect(now)
     }
 
-    /// Repeats the requests whose wait is over (RFC 8966, section 3.8.2.1). As long as none can be, it looks
-    /// at no request.
+    /// Repeats the requests whose wait is over (RFC 8966, section 3.8.2.1). As long as none can be,
+    /// it looks at no request.
     pub(crate) fn tick_requests(&mut self, now: u64)
         ensures { self.new ≡ requests_ticked now self.old }
     {
@@ -154,8 +157,8 @@ impl Core {
         self.requests.end_waits(now);
     }
 
-    /// Queues what the timers of the interfaces ask for (RFC 8966, sections 3.4.1, 3.4.2 and 3.7.1). As long as none can
-    /// be due, it looks at no interface.
+    /// Queues what the timers of the interfaces ask for (RFC 8966, sections 3.4.1, 3.4.2 and
+    /// 3.7.1). As long as none can be due, it looks at no interface.
     #[tactic(auto, using(crate::proofs::QuietTicks::nothing_due))]
     pub(crate) fn tick_interfaces(&mut self, now: u64, scratch: &mut Scratch)
         ensures { self.new ≡ interfaces_ticked now self.old }
@@ -166,7 +169,8 @@ impl Core {
         }
     }
 
-    /// Makes the set that of the prefixes of which an update is due. If none is due, it doesn't matter which they are.
+    /// Makes the set that of the prefixes of which an update is due. If none is due, it doesn't
+    /// matter which they are.
     #[tactic(auto, using(crate::proofs::QuietTicks::no_updates))]
     fn gather_due(&self, now: u64, scratch: &mut Scratch)
         ensures { all_timers_of now self.now.neighbours (prefixes_in scratch.new) 0 self.now.interfaces ≡ all_timer_items now self.now 0 self.now.interfaces }
@@ -193,10 +197,10 @@ impl Core {
         self.interfaces.fire_all(now);
     }
 
-    /// Takes the deadlines of Hellos, IHUs and routes, each followed by a reselection of all. If the speaker is
-    /// settled, it selects no route again unless a cost changes, a neighbour is flushed or a route is due, and only those of
-    /// one neighbour's prefixes if only the cost of its link changes. If it returns `false`, the selected routes are reported
-    /// as before.
+    /// Takes the deadlines of Hellos, IHUs and routes, each followed by a reselection of all. If
+    /// the speaker is settled, it selects no route again unless a cost changes, a neighbour is
+    /// flushed or a route is due, and only those of one neighbour's prefixes if only the cost of
+    /// its link changes. If it returns `false`, the selected routes are reported as before.
     #[tactic(auto, using(crate::proofs::Settling::still_current))]
     fn tick_selections(&mut self, now: u64, hints: &mut Hints) -> bool
         requires settled { IsTrue hints.old.settled → AreCurrent self.old }
@@ -210,9 +214,10 @@ impl Core {
         selected || expired
     }
 
-    /// Takes all that is due (RFC 8966, sections 3.2.5, 3.4, 3.5.4, 3.7.1 and 3.8.2.1). If the speaker is settled then, all
-    /// its selections are current, and no source was collected, so that its snapshot is as before. If the hints aren't
-    /// `changed` then, the selected routes are reported as before.
+    /// Takes all that is due (RFC 8966, sections 3.2.5, 3.4, 3.5.4, 3.7.1 and 3.8.2.1). If the
+    /// speaker is settled then, all its selections are current, and no source was collected, so
+    /// that its snapshot is as before. If the hints aren't `changed` then, the selected routes are
+    /// reported as before.
     #[tactic(auto, unfolding(babel_state::specs::Ticks::ticked), using(crate::proofs::Settling::timed_current))]
     pub fn tick(&mut self, now: u64, hints: &mut Hints)
         requires settled { IsTrue hints.old.settled → AreCurrent self.old }

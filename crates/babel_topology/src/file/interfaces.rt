@@ -15,8 +15,8 @@ pub(crate) enum Sharing {
     ByCost,
 }
 
-/// The number of the interface for a link of this cost. The interface is new if no other can be shared. `None` if it would be
-/// one too many.
+/// The number of the interface for a link of this cost. The interface is new if no other can be
+/// shared. `None` if it would be one too many.
 pub(crate) fn attach(
     costs: &mut Vec<u16>,
     cost: u16,

@@ -13,7 +13,8 @@ use toml::{Table, Value};
 /// The nominal cost of a link that names none: that of a wired link (RFC 8966, appendix B).
 const DEFAULT_COST: u16 = 96;
 
-/// Reads the links, whose interfaces are not chosen yet: T10 to T12 for the first one that has such a fault.
+/// Reads the links, whose interfaces are not chosen yet: T10 to T12 for the first one that has such
+/// a fault.
 pub(crate) fn read_links(
     alloc: Global,
     nodes: &[Node],

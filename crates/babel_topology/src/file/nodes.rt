@@ -15,7 +15,8 @@ use toml::{Table, Value};
 /// The Hello interval of a node that names none, in centiseconds (RFC 8966, appendix B).
 const DEFAULT_HELLO_INTERVAL: u16 = 400;
 
-/// Reads the nodes: T6 if there are none or too many, else T7 to T9 for the first one that has such a fault.
+/// Reads the nodes: T6 if there are none or too many, else T7 to T9 for the first one that has such
+/// a fault.
 pub(crate) fn read_nodes(alloc: Global, tables: &[Value]) -> Result<Vec<Node>, TopologyFault>
     ensures some { IfOk result (λ nodes. 1 ≤ vec_len nodes) }
     ensures few { IfOk result (λ nodes. vec_len nodes ≤ 4096) }

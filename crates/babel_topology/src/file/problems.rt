@@ -63,7 +63,8 @@ impl<'a> Problem<'a> {
     }
 }
 
-/// The first problem, in the order of the keys. A key that a table lacks comes after those that it has.
+/// The first problem, in the order of the keys. A key that a table lacks comes after those that it
+/// has.
 pub fn first_problem(file: &Table) -> Option<Problem<'_>> {
     for (key, value) in file.iter() {
         let key = key.as_str();

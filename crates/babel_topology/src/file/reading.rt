@@ -22,8 +22,9 @@ pub const MAX_FILE_LEN: usize = 1_048_576;
 ///
 /// # Errors
 ///
-/// T5 if there are more than 1,048,576 octets, T1 if they are no TOML, T2 and T3 by the first problem in the order of the
-/// keys, T4 if an allocation fails. Else T6 to T19, in the order of nodes, links, interfaces, steps and expectations.
+/// T5 if there are more than 1,048,576 octets, T1 if they are no TOML, T2 and T3 by the first
+/// problem in the order of the keys, T4 if an allocation fails. Else T6 to T19, in the order of
+/// nodes, links, interfaces, steps and expectations.
 pub fn read_topology(alloc: Global, octets: &[u8]) -> Result<Topology, TopologyFault>
     ensures too_long { 1048576 < length octets.now → result ≡ Err TopologyFault.Unreadable }
     ensures duration { IfOk result (λ t. HasDuration octets.now t.duration) }

@@ -1,7 +1,7 @@
 //! The links of a node to the nodes before it.
 //!
-//! Each node but the first is linked to one or two of the nodes before it. So the network is connected, no link is there twice, and
-//! no node is linked to itself.
+//! Each node but the first is linked to one or two of the nodes before it. So the network is
+//! connected, no link is there twice, and no node is linked to itself.
 
 ghost use Rattle.std.specs.Prelude.{◌≡◌, ◌≢◌, ◌<◌, ℕ, Some, IsSome, IfSome};
 
@@ -43,7 +43,8 @@ pub(crate) struct Layout {
 }
 
 impl Layout {
-    /// The network of so many nodes. The rows of a grid are as many as a row has nodes, or one less, if they can be.
+    /// The network of so many nodes. The rows of a grid are as many as a row has nodes, or one
+    /// less, if they can be.
     pub(crate) fn new(shape: Shape, count: usize) -> Layout {
         Layout {
             shape,

@@ -8,9 +8,9 @@ use std::io::{self, Write};
 /// The greatest seed: TOML has no greater number.
 pub const MAX_SEED: u64 = i64::MAX as u64;
 
-/// Writes the file of a network of this shape. Each node announces a prefix of its own. The same seed gives the
-/// same file, which has the seed, or `MAX_SEED` if that is less. More than 4,096 nodes are written as they are asked for, and refused
-/// when the file is read.
+/// Writes the file of a network of this shape. Each node announces a prefix of its own. The same
+/// seed gives the same file, which has the seed, or `MAX_SEED` if that is less. More than 4,096
+/// nodes are written as they are asked for, and refused when the file is read.
 pub fn write_topology<W: Write>(
     out: &mut W,
     shape: Shape,

@@ -2,7 +2,8 @@ use Rattle.std.proofs.Common.{◌≡◌, ℕ, List, Result, length, nat_eq, fals
 use Rattle.std.specs.Cmp.Lexicographic.{pointwise}
 use Rattle.std.proofs.lemmas.Result.{IfErr-weaker}
 use Rattle.babel_text.specs.declared.errors.LineFault.{LineFault}
-use Rattle.babel_text.specs.LogLines.{HasBlank, before_blank, after_blank, IsWord, IsReceiveFault, IsCostFault, IsWordFault, IsActionFault, Unless}
+use Rattle.babel_text.specs.LogLines.{IsWord, IsReceiveFault, IsCostFault, IsWordFault, IsActionFault, Unless}
+use Rattle.babel_text.specs.Fields.{HasBlank, before_blank, after_blank}
 use Rattle.babel_text.specs.declared.errors.LineFault.TheVariants.{Form}
 use Rattle.babel_text.proofs.log_lines.parse_fields.Goals as goal
 

@@ -2,7 +2,8 @@
 use Rattle.std.proofs.Common.{◌≡◌, ◌⊎◌, ℕ, List, length, IsUtf8, inl, inr, subst, sym, rules}
 use Rattle.babel_text.specs.declared.errors.LineFault.{LineFault}
 use Rattle.babel_text.specs.declared.errors.LineFault.TheVariants.{Form}
-use Rattle.babel_text.specs.LogLines.{HasBlank, before_blank, after_blank, IsActionFault, IsLineFault, Unless}
+use Rattle.babel_text.specs.LogLines.{IsActionFault, IsLineFault, Unless}
+use Rattle.babel_text.specs.Fields.{HasBlank, before_blank, after_blank}
 use Rattle.babel_text.proofs.Ascii.{line_is_utf8}
 use Rattle.babel_text.proofs.log_lines.parse_line.Goals as goal
 

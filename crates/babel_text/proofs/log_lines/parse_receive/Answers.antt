@@ -6,7 +6,8 @@ use Rattle.babel_text.specs.declared.errors.LineFault.{LineFault}
 use Rattle.babel_text.specs.declared.errors.LineFault.TheVariants.{Form}
 use Rattle.babel_text.specs.declared.log_lines.Action.{Action}
 use Rattle.babel_text.specs.declared.log_lines.Action.TheVariants.{Receive, Tick, SetCost}
-use Rattle.babel_text.specs.LogLines.{HasBlank, before_blank, after_blank, HasThreeFields, IsReceived, IsReceiveText, IsFieldFault, IsReceiveFault}
+use Rattle.babel_text.specs.LogLines.{HasThreeFields, IsReceived, IsReceiveText, IsFieldFault, IsReceiveFault}
+use Rattle.babel_text.specs.Fields.{HasBlank, before_blank, after_blank}
 use Rattle.babel_text.proofs.Blanks.{octets_have_no_blank}
 use Rattle.babel_text.proofs.log_lines.parse_receive.Goals as goal
 

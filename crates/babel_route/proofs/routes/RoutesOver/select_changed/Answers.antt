@@ -6,10 +6,10 @@ use Rattle.babel_table.proofs.PlaceLemmas.{missing}
 use Rattle.babel_choice.specs.Choices.{has_entry, preference, selection_of}
 use Rattle.babel_choice.specs.Origins.{is_own}
 use Rattle.babel_choice.proofs.ChoiceLemmas.{candidate_is_known}
-use Rattle.babel_route.specs.OriginChanges.{origin_change, selection_from}
+use Rattle.babel_route.specs.SelectionChanges.{selection_change, selection_from}
 use Rattle.babel_route.specs.Selections.{selection_at}
 use Rattle.babel_route.proofs.CurrentLemmas.{selected_here}
-use Rattle.babel_route.proofs.OriginLemmas.{none_of}
+use Rattle.babel_route.proofs.ChangeLemmas.{none_of}
 use Rattle.babel_route.proofs.RoomLemmas.{selection_fits_new, selected_within}
 use Rattle.babel_route.proofs.routes.RoutesOver.select_changed.Goals as goal
 
@@ -50,10 +50,10 @@ pub returns-then-is_some-2-clause-change : goal.returns-then-is_some-2-clause-ch
 returns-then-is_some-2-clause-change g c =
     let prefix = c.args.prefix.now in
     let here = sym (ap (find prefix_cmp prefix) c.exchange_at.ensures.entries ∙ selected_here prefix (selection_from c.choose_place-chosen.result (g.E.Table.entries c.self.inside.entries)) (g.S.Table.entries c.self.inside.selections)) in
-    c.exchange_at.ensures.change ∙ (λ i. origin_change (selection_at prefix (c.self.view_is i)) (here i))
+    c.exchange_at.ensures.change ∙ (λ i. selection_change (selection_at prefix (c.self.view_is i)) (here i))
 
 pub returns-else-is_some-2-clause-change : goal.returns-else-is_some-2-clause-change
 returns-else-is_some-2-clause-change g c =
     let prefix = c.args.prefix.now in
     let here = sym (ap (find prefix_cmp prefix) c.insert_at.ensures.entries ∙ selected_here prefix (selection_from c.choose_place-chosen.result (g.E.Table.entries c.self.inside.entries)) (g.S.Table.entries c.self.inside.selections)) in
-    c.insert_at.ensures.change ∙ (λ i. origin_change (selection_at prefix (c.self.view_is i)) (here i))
+    c.insert_at.ensures.change ∙ (λ i. selection_change (selection_at prefix (c.self.view_is i)) (here i))

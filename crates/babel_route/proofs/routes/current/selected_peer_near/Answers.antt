@@ -3,7 +3,7 @@ use Rattle.std.proofs.Common.{refl, sym, ap}
 use Rattle.babel_value.specs.Orders.{prefix_cmp}
 use Rattle.babel_table.proofs.PlaceLemmas.{missing}
 use Rattle.babel_choice.specs.Choices.{peer_before}
-use Rattle.babel_route.proofs.OriginLemmas.{found_at}
+use Rattle.babel_route.proofs.ChangeLemmas.{found_at}
 use Rattle.babel_route.proofs.routes.current.selected_peer_near.Goals as goal
 
 pub returns-then-not-seek_near-clause-peer : goal.returns-then-not-seek_near-clause-peer

@@ -15,10 +15,10 @@ returns-in_default-clause-entries g c =
     sym (with_value_same prefix_cmp prefix_total prefix_exact c.args.key.now.prefix (new (find prefix_cmp c.args.key.now.prefix es)) es (g.met.S.Table.ordered c.args.selections.now)
     (sym c.in_default.ensures.value ∙ ap new c.in_default.ensures.value))
 
-pub returns-then-not-is_own-clause-entries : goal.returns-then-not-is_own-clause-entries
-returns-then-not-is_own-clause-entries g c =
+pub returns-else-is_of-clause-entries : goal.returns-else-is_of-clause-entries
+returns-else-is_of-clause-entries g c =
     let es = g.S.Table.entries c.args.selections.now in
     let new = option_map (refreshed c.args.key.now.peer c.args.deadline) in
-    let same : refreshed c.args.key.now.peer c.args.deadline c.in-Some.before ≡ c.in-Some.before = refreshed_other c.args.key.now.peer c.args.deadline c.in-Some.before (sym c.is_of-is_own.ensures ∙ c.if-not-is_own.true) in
+    let same : refreshed c.args.key.now.peer c.args.deadline c.in-Some.before ≡ c.in-Some.before = refreshed_other c.args.key.now.peer c.args.deadline c.in-Some.before (sym c.if-is_of.ensures) in
     sym (with_value_same prefix_cmp prefix_total prefix_exact c.args.key.now.prefix (new (find prefix_cmp c.args.key.now.prefix es)) es (g.met.S.Table.ordered c.args.selections.now)
     (sym c.in-Some.ensures.value ∙ ap (λ s. Some s) (sym same) ∙ ap new c.in-Some.ensures.value))

@@ -9,8 +9,8 @@ use Rattle.babel_speaker.proofs.input.receiving.handle_places.Given as goal
 
 abbrev pub invariant-loop-place : goal.invariant-loop-place
 invariant-loop-place l = record {
-  done : after_places l.arrival.now l.arrival.peer (drop l.place-index l.placed) l.core ≡ after_places l.arrival.now l.arrival.peer l.placed l.fn.core;
-  noted : l.notes.items ++ notes_of l.arrival.now l.arrival.peer (drop l.place-index l.placed) l.core ≡ l.fn.notes.items ++ notes_of l.arrival.now l.arrival.peer l.placed l.fn.core;
+  done : after_places l.arrival.time l.arrival.peer (drop l.place-index l.placed) l.core ≡ after_places l.arrival.time l.arrival.peer l.placed l.fn.core;
+  noted : l.notes.items ++ notes_of l.arrival.time l.arrival.peer (drop l.place-index l.placed) l.core ≡ l.fn.notes.items ++ notes_of l.arrival.time l.arrival.peer l.placed l.fn.core;
   current : IsTrue l.hints.settled → AreCurrent l.core;
   kept : IsFalse l.hints.changed → KeepsRoutes l.fn.core l.core;
   room : vec_len l.notes + (length l.placed - l.place-index) ≤ vec_capacity l.notes;

@@ -5,8 +5,8 @@ use Rattle.babel_state.proofs.KeptRoutes.{parts_routes, routes_through}
 use Rattle.babel_speaker.proofs.LinkChanges.{retracted_but}
 use Rattle.babel_speaker.proofs.state.speaker_core.Core.handle_retraction.Goals as goal
 
-pub reselect_retracted-hints-requires : goal.reselect_retracted-hints-requires
-reselect_retracted-hints-requires c =
+pub reselect_retracted-report-requires : goal.reselect_retracted-report-requires
+reselect_retracted-report-requires c =
     record {
       others = λ settled. retracted_but c.args.now c.args.peer.now c.args.prefix.now c.args.self.now c.store_retraction.new.self c.store_retraction.ensures.state (c.requires.settled (subst IsTrue c.store_retraction.ensures.settled settled)) c.args.prefix.now;
     }
@@ -15,4 +15,4 @@ pub returns-then-store_retraction-clause-kept : goal.returns-then-store_retracti
 returns-then-store_retraction-clause-kept c same =
     routes_through _ _ _
     (parts_routes c.args.self.now c.store_retraction.new.self (λ prefix. ap (λ (s : State). selected_at prefix s) c.store_retraction.ensures.state) (ap cost_at c.store_retraction.ensures.state))
-    (c.reselect_retracted-hints.ensures.kept same)
+    (c.reselect_retracted-report.ensures.kept (c.is_other-hints.ensures same))

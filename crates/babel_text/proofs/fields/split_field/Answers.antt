@@ -3,8 +3,8 @@ use Rattle.std.proofs.Common.{◌≡◌, ℕ, ◌<◌, ◌≤◌, ◌+◌, ◌-�
 use Rattle.std.specs.List.{position_or_len}
 use Rattle.std.proofs.lemmas.List.{take_all, length-drop}
 use Rattle.std.proofs.lemmas.List.Sums.{position_or_len_is}
-use Rattle.babel_text.specs.LogLines.{HasBlank, before_blank, after_blank}
-use Rattle.babel_text.proofs.log_lines.split_field.Goals as goal
+use Rattle.babel_text.specs.Fields.{HasBlank, before_blank, after_blank}
+use Rattle.babel_text.proofs.fields.split_field.Goals as goal
 
 first_blank : (text : List ℕ) (i : ℕ) → i ≤ length text → ((k : ℕ) → k < i → (get_or text k 0 == 32) ≡ false) → (i < length text → (get_or text i 0 == 32) ≡ true) → position_or_len (λ octet. octet == 32) text ≡ i
 first_blank text i within before here = position_or_len_is (λ octet. octet == 32) text i 0 within before here
