@@ -205,7 +205,7 @@ fn first_with<E: Table<RouteKey, Entry>, T: Table<Source, SourceEntry>, C: Costs
     ensures { let new : Candidate = record { metric = route_metric (C.cost_of inputs.now.costs.now) at.entry.1.now; place = at.entry.0 } in result ≡ (if is_candidate inputs.now.sources.now (C.cost_of inputs.now.costs.now) at.entry.1.now then Some (option_map_or (λ old. if is_lesser_rank (rank_at (E.entries inputs.now.entries.now) before new.metric new.place) (rank_at (E.entries inputs.now.entries.now) before old.metric old.place) then new else old) found new) else found) }
 {
     let (place, route) = at;
-    let Some(metric) = finite_metric(route, inputs.costs) else {
+    let Some(metric) = metric_in_turn(route, inputs.costs) else {
         return found;
     };
     let new = Candidate { metric, place };
@@ -305,7 +305,26 @@ fn finite_metric<C: Costs>(route: &(RouteKey, Entry), costs: &C) -> Option<Metri
         // Whatever its cost is: the neighbour need not be looked up.
         return None;
     }
-    let metric = advertised.add(costs.cost(&route.0.peer));
+    if_finite(advertised.add(costs.cost(&route.0.peer)))
+}
+
+/// The same of the routes of a prefix, one after another.
+#[inline(always)]
+fn metric_in_turn<C: Costs>(route: &(RouteKey, Entry), costs: &C) -> Option<Metric>
+    ensures { result ≡ (if nat_lt (route_metric (C.cost_of costs.now) route.now) infinity then Some (route_metric (C.cost_of costs.now) route.now) else None) }
+{
+    let advertised = route.1.distance.metric;
+    if !advertised.is_finite() {
+        return None;
+    }
+    if_finite(advertised.add(costs.cost_in_turn(&route.0.peer)))
+}
+
+/// The metric, if it is finite.
+#[inline(always)]
+fn if_finite(metric: Metric) -> Option<Metric>
+    ensures { result ≡ (if nat_lt metric infinity then Some metric else None) }
+{
     if metric.is_finite() {
         Some(metric)
     } else {

@@ -16,6 +16,14 @@ pub trait Costs {
     /// The cost of the link to the neighbour.
     fn cost(&self, peer: &Peer) -> Metric
         ensures { result ≡ cost_of self.now peer.now };
+
+    /// The same of a neighbour that mostly comes after the one that was looked up last, as the
+    /// neighbours of a prefix's routes do. It only matters for speed.
+    fn cost_in_turn(&self, peer: &Peer) -> Metric
+        ensures { result ≡ cost_of self.now peer.now }
+    {
+        self.cost(peer)
+    }
 }
 
 /// The tables from which the candidates of a prefix come (RFC 8966, section 3.6).

@@ -1,6 +1,6 @@
 //! The texts of the events of a network's own nodes.
 
-ghost use Rattle.std.specs.Prelude.{◌≡◌, IfSome, None};
+ghost use Rattle.std.specs.Prelude.{◌≡◌, ℕ, IfSome, None, MatchOption};
 ghost use Rattle.babel_text.specs.Readings.{Reads};
 ghost use Rattle.babel_text.specs.Numbers.{IsNumberText};
 ghost use Rattle.babel_text.specs.Prefixes.{IsPrefixText};
@@ -8,7 +8,7 @@ ghost use Rattle.babel_config.specs.Events.{IsAfterWord, IsPair, IsLong, IsEvent
 ghost use Rattle.babel_text.specs.Fields.{HasBlank, before_blank, after_blank};
 
 use babel_machine::Event;
-use babel_text::{parse_prefix, parse_u64, split_field, u8_of, u16_of, u64_of};
+use babel_text::{parse_prefix, split_number, split_u8, u16_of, u64_of};
 use babel_value::Prefix;
 
 // The words of events.
@@ -32,8 +32,7 @@ const RESTART: &[u8] = b"restart";
 pub(crate) fn parse_usize(text: &str) -> Option<usize>
     ensures { Reads (IsNumberText 64) text.now result }
 {
-    let number = parse_u64(text)?;
-    usize::try_from(number).ok()
+    usize_of(text.as_bytes())
 }
 
 /// The text before the first blank, and the text after it.
@@ -54,12 +53,22 @@ fn usize_of(text: &[u8]) -> Option<usize>
     usize::try_from(number).ok()
 }
 
+/// The number of a node or of a datagram before the first blank, and the octets after that.
+fn split_usize(text: &[u8]) -> Option<(usize, &[u8])>
+    ensures { MatchOption result ((number : ℕ) → HasBlank text.now → ¬ (IsLong (before_blank text.now) number))
+        (λ f. HasBlank text.now × IsLong (before_blank text.now) f.0 × (f.1.now ≡ after_blank text.now)) }
+{
+    let (number, rest) = split_number(text)?;
+    let number = usize::try_from(number).ok()?;
+    Some((number, rest))
+}
+
 /// `N T`: a node and a moment.
 fn parse_node_and_moment(text: &[u8]) -> Option<(usize, u64)>
     ensures { Reads (IsPair IsLong IsLong) text.now result }
 {
-    let (node, now) = split_field(text)?;
-    Some((usize_of(node)?, u64_of(now)?))
+    let (node, now) = split_usize(text)?;
+    Some((node, u64_of(now)?))
 }
 
 /// `N P`: a node and a prefix.
@@ -74,36 +83,33 @@ fn parse_node_and_prefix(text: &str) -> Option<(usize, Prefix)>
 fn parse_iface_and_moment(text: &[u8]) -> Option<(u8, u64)>
     ensures { Reads (IsPair (IsNumberText 8) IsLong) text.now result }
 {
-    let (iface, now) = split_field(text)?;
-    Some((u8_of(iface)?, u64_of(now)?))
+    let (iface, now) = split_u8(text)?;
+    Some((iface, u64_of(now)?))
 }
 
 /// `I C`: an interface and a cost.
 fn parse_iface_and_cost(text: &[u8]) -> Option<(u8, u16)>
     ensures { Reads (IsPair (IsNumberText 8) (IsNumberText 16)) text.now result }
 {
-    let (iface, cost) = split_field(text)?;
-    Some((u8_of(iface)?, u16_of(cost)?))
+    let (iface, cost) = split_u8(text)?;
+    Some((iface, u16_of(cost)?))
 }
 
 /// `K N I T`: a datagram, a node, an interface and a moment.
 fn parse_delivery(text: &[u8]) -> Option<(usize, (usize, (u8, u64)))>
     ensures { Reads (IsPair IsLong (IsPair IsLong (IsPair (IsNumberText 8) IsLong))) text.now result }
 {
-    let (datagram, rest) = split_field(text)?;
-    let (node, rest) = split_field(rest)?;
-    Some((
-        usize_of(datagram)?,
-        (usize_of(node)?, parse_iface_and_moment(rest)?),
-    ))
+    let (datagram, rest) = split_usize(text)?;
+    let (node, rest) = split_usize(rest)?;
+    Some((datagram, (node, parse_iface_and_moment(rest)?)))
 }
 
 /// `N I C`: a node, an interface and a cost.
 fn parse_cost(text: &[u8]) -> Option<(usize, (u8, u16))>
     ensures { Reads (IsPair IsLong (IsPair (IsNumberText 8) (IsNumberText 16))) text.now result }
 {
-    let (node, rest) = split_field(text)?;
-    Some((usize_of(node)?, parse_iface_and_cost(rest)?))
+    let (node, rest) = split_usize(text)?;
+    Some((node, parse_iface_and_cost(rest)?))
 }
 
 /// The node and the prefix after the event's word. Prefixes are read from text.
@@ -114,12 +120,15 @@ fn parse_announcement(text: &str) -> Option<(usize, Prefix)>
     parse_node_and_prefix(fields)
 }
 
-/// The event that the text spells. All but prefixes are read from octets: words are so short that a
-/// search for each blank takes longer than a look at each octet.
-pub(crate) fn parse_event(text: &str) -> Option<Event>
+/// The event that the text spells, whose first word is this one, and what follows it are these
+/// fields. All but prefixes are read from octets: words are so short that a search for each blank
+/// takes longer than a look at each octet.
+pub(crate) fn parse_event(text: &str, word: &[u8], fields: &[u8]) -> Option<Event>
+    requires blank { HasBlank text.now }
+    requires word { word.now ≡ before_blank text.now }
+    requires fields { fields.now ≡ after_blank text.now }
     ensures { Reads IsEventText text.now result }
 {
-    let (word, fields) = split_field(text.as_bytes())?;
     if word == TICK {
         let (node, now) = parse_node_and_moment(fields)?;
         return Some(Event::Tick { node, now });

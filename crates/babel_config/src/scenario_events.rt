@@ -1,13 +1,12 @@
 //! The events of a scenario: those of the network's own nodes, and datagrams that they hear from
 //! others.
 
-ghost use Rattle.std.specs.Prelude.{◌≡◌, [], codes, IfOk, IfErr, IfSome, IsNone, IsTrue, IsFalse};
+ghost use Rattle.std.specs.Prelude.{[], codes, IfOk, IfErr};
 ghost use Rattle.toml.specs.Data.{get};
 ghost use Rattle.toml.specs.View.{view};
 ghost use Rattle.babel_text.specs.Readings.{Reads};
 ghost use Rattle.babel_toml.specs.Values.{IsText, IsGivenOr, IsList};
 ghost use Rattle.babel_toml.specs.Faults.{IsCaused, HasGivenFault, HasListFault};
-ghost use Rattle.babel_text.specs.Fields.{after_blank};
 ghost use Rattle.babel_config.specs.Heard.{IsHearing};
 ghost use Rattle.babel_config.specs.ScenarioEvents.{IsScenarioEventText};
 ghost use Rattle.babel_config.specs.Scenarios.{HasEventFault};
@@ -32,42 +31,33 @@ pub enum ScenarioEvent {
     Heard(HeardDatagram),
 }
 
-/// Whether the text begins with the word `hear`.
-fn is_hearing(text: &str) -> bool
-    ensures some { IsTrue result → IsHearing text.now }
-    ensures none { IsFalse result → ¬ (IsHearing text.now) }
+/// The datagram that the text spells, which begins with the word `hear`.
+fn parse_hearing(alloc: Global, text: &str) -> Result<Option<ScenarioEvent>, AllocError>
+    requires { IsHearing text.now }
+    ensures { IfOk result (Reads IsScenarioEventText text.now) }
 {
-    match split_field(text.as_bytes()) {
-        Some((word, _)) => word == HEAR,
-        None => false,
+    let Some((_word, fields)) = split_word(text) else {
+        return Ok(None);
+    };
+    match parse_heard(alloc, fields)? {
+        Some(heard) => Ok(Some(ScenarioEvent::Heard(heard))),
+        None => Ok(None),
     }
-}
-
-/// The fields after the word `hear`, if the text begins with it.
-fn hear_fields(text: &str) -> Option<&str>
-    ensures some { IfSome result (λ fields. IsHearing text.now × (fields.now ≡ after_blank text.now)) }
-    ensures none { IsNone result → ¬ (IsHearing text.now) }
-{
-    if !is_hearing(text) {
-        return None;
-    }
-    let (_word, fields) = split_word(text)?;
-    Some(fields)
 }
 
 /// The event that the text spells.
 fn parse_scenario_event(alloc: Global, text: &str) -> Result<Option<ScenarioEvent>, AllocError>
     ensures { IfOk result (Reads IsScenarioEventText text.now) }
 {
-    match hear_fields(text) {
-        Some(fields) => match parse_heard(alloc, fields)? {
-            Some(heard) => Ok(Some(ScenarioEvent::Heard(heard))),
-            None => Ok(None),
-        },
-        None => match parse_event(text) {
-            Some(event) => Ok(Some(ScenarioEvent::Ours(event))),
-            None => Ok(None),
-        },
+    let Some((word, fields)) = split_field(text.as_bytes()) else {
+        return Ok(None);
+    };
+    if word == HEAR {
+        return parse_hearing(alloc, text);
+    }
+    match parse_event(text, word, fields) {
+        Some(event) => Ok(Some(ScenarioEvent::Ours(event))),
+        None => Ok(None),
     }
 }
 

@@ -161,6 +161,20 @@ impl Neighbours {
         found
     }
 
+    /// The same of a neighbour that mostly comes after the last one: it looks there first.
+    #[inline]
+    fn search_next(&self, peer: &Peer) -> Result<usize, usize>
+        ensures found { IfOk result (IsPlaceOf peer.now self.now) }
+        ensures absent { IfErr result (IsGapFor peer.now self.now) }
+    {
+        let next = self.next_place(self.near.get());
+        if self.is_at(next, peer) {
+            self.near.set(next);
+            return Ok(next);
+        }
+        self.search_near(peer)
+    }
+
     /// The same for the sender of a message, mostly that of the last one. So the first look is
     /// compiled into the callers.
     #[inline(always)]
@@ -383,11 +397,29 @@ impl Neighbours {
 
     /// The cost of the link to the peer, over an interface of this nominal cost (RFC 8966, appendix
     /// A.2.1). It is infinite if the peer is no neighbour.
-    #[tactic(auto, unfolding(crate::specs::Neighbours::cost_of))]
     pub fn cost(&self, peer: Peer, nominal: Metric) -> Metric
         ensures { result ≡ cost_of peer nominal self.now }
     {
-        match self.get(peer) {
+        self.cost_at(peer, self.search_near(&peer), nominal)
+    }
+
+    /// The same of a neighbour that mostly comes after the one that was looked up last, as the
+    /// neighbours of a prefix's routes do.
+    pub fn cost_in_turn(&self, peer: &Peer, nominal: Metric) -> Metric
+        ensures { result ≡ cost_of peer.now nominal self.now }
+    {
+        self.cost_at(*peer, self.search_next(peer), nominal)
+    }
+
+    /// The same, by the place that a search for the peer found.
+    #[inline(always)]
+    #[tactic(auto, unfolding(crate::specs::Neighbours::cost_of))]
+    fn cost_at(&self, peer: Peer, place: Result<usize, usize>, nominal: Metric) -> Metric
+        requires found { IfOk place (IsPlaceOf peer self.now) }
+        requires absent { IfErr place (IsGapFor peer self.now) }
+        ensures { result ≡ cost_of peer nominal self.now }
+    {
+        match self.link_at(peer, place) {
             Some(link) => link.cost(nominal),
             None => Metric::INFINITE,
         }

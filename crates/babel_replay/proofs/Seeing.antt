@@ -16,7 +16,7 @@ use Rattle.babel_value.specs.Prefixes.{PrefixValue}
 use Rattle.babel_value.proofs.OrderLaws.{peer_total, peer_exact}
 use Rattle.babel_state.specs.Sameness.{is_same_peer, is_same_prefix}
 use Rattle.babel_state.specs.State.{State}
-use Rattle.babel_replay.specs.declared.lines.choices.Choice.{Choice}
+use Rattle.babel_state.specs.declared.selected.Choice.{Choice}
 use Rattle.babel_replay.specs.Seen.{SeenPrefix, choice_at, choice_printed, is_same_route, is_same_choice, with_seen}
 
 inserted_first : (here : Bool) (same : Bool) (p : PrefixValue) (e : SeenPrefix) (es rest more : List SeenPrefix) (found : Option (Option Choice)) → here ≡ same →

@@ -1,5 +1,5 @@
 -- If no selected route changed and no prefix was added, no line is written of them.
-use Rattle.std.proofs.Common.{◌≡◌, ℕ, ◌≤◌, Bool, true, false, cond, arith, List, [], ◌∷◌, ◌++◌, map, drop, get_or, length, Option, Some, None, Result, Ok, Err, OnOk, refl, sym, ap, ◌∙◌}
+use Rattle.std.proofs.Common.{◌≡◌, ℕ, ◌≤◌, Bool, true, false, cond, arith, List, [], ◌∷◌, ◌++◌, map, drop, get_or, length, slice_get, Option, Some, None, Result, Ok, Err, OnOk, refl, sym, ap, ◌∙◌}
 use Rattle.std.specs.Option.{option_map, option_map_or}
 use Rattle.babel_message.specs.declared.placements.Placed.{Placed}
 use Rattle.babel_value.specs.Prefixes.{PrefixValue}
@@ -7,13 +7,21 @@ use Rattle.babel_state.specs.declared.notes.Note.{Note}
 use Rattle.babel_state.specs.Sameness.{is_same_prefix}
 use Rattle.babel_state.specs.State.{State}
 use Rattle.babel_state.specs.KeptRoutes.{KeepsRoutes}
-use Rattle.babel_replay.specs.declared.lines.choices.Choice.{Choice}
+use Rattle.babel_state.specs.declared.selected.Choice.{Choice}
 use Rattle.babel_replay.specs.Texts.{line, select_text}
-use Rattle.babel_replay.specs.Report.{select_lines}
-use Rattle.babel_replay.specs.Seen.{SeenPrefix, choice_of, choice_at, is_same_choice, printed, printed_all, stored, with_seen, seen_after, ArePrinted}
+use Rattle.babel_replay.specs.Report.{select_line, select_lines}
+use Rattle.babel_state.specs.Calls.{choice_of}
+use Rattle.babel_replay.specs.Seen.{SeenPrefix, choice_at, is_same_choice, printed, printed_all, stored, with_seen, seen_after, ArePrinted}
 use Rattle.babel_replay.proofs.Seeing.{is_itself}
 
 -- ---- what was last printed of each is its selected route
+
+-- If its selected route is what was last printed, there is none for it.
+pub no_line : (time : ℕ) (s : State) (es : List SeenPrefix) (i : ℕ) (got : Option SeenPrefix) (p : PrefixValue) (last : Option Choice) →
+    got ≡ slice_get es i → got ≡ Some (p, last) → last ≡ choice_at s p → option_map_or (select_line time s) (slice_get es i) [] ≡ []
+no_line time s es i got p last at is kept =
+    ap (λ m. option_map_or (select_line time s) m []) (sym at ∙ is)
+    ∙ ap (λ b. cond b [] (line (select_text time p (choice_at s p)))) (ap (is_same_choice (choice_at s p)) kept ∙ is_itself (choice_at s p))
 
 pub no_lines : (time : ℕ) (s : State) (es : List SeenPrefix) → ArePrinted s es → select_lines time s es ≡ []
 no_lines time s [] same = refl

@@ -10,16 +10,12 @@ use Rattle.babel_message.specs.declared.placements.Placed.{Placed}
 use Rattle.babel_state.specs.declared.notes.Note.{Note}
 use Rattle.babel_state.specs.declared.notes.Verdict.{Verdict}
 use Rattle.babel_state.specs.declared.notes.Verdict.TheVariants as verdicts
-use Rattle.babel_state.specs.declared.selected.Selected.{Selected}
-use Rattle.babel_state.specs.Calls.{selected_route}
+use Rattle.babel_state.specs.Calls.{choice_of, selected_route}
 use Rattle.babel_state.specs.Sameness.{is_same_peer, is_same_prefix}
 use Rattle.babel_state.specs.State.{State}
-use Rattle.babel_replay.specs.declared.lines.choices.Choice.{Choice}
+use Rattle.babel_state.specs.declared.selected.Choice.{Choice}
 
 -- ---- what is printed of a route
-
-abbrev pub choice_of : Selected → Choice
-choice_of s = record { peer = s.peer; metric = s.metric; router = s.router; seqno = s.distance.seqno }
 
 -- The selected route of a prefix, if it has one.
 abbrev pub choice_at : State → PrefixValue → Option Choice

@@ -17,7 +17,7 @@ use Rattle.babel_state.specs.declared.items.Target.{Target}
 use Rattle.babel_state.specs.declared.notes.Verdict.{Verdict}
 use Rattle.babel_state.specs.declared.notes.Verdict.TheVariants as verdicts
 use Rattle.babel_state.specs.Codes.{recv_code, set_cost_code}
-use Rattle.babel_replay.specs.declared.lines.choices.Choice.{Choice}
+use Rattle.babel_state.specs.declared.selected.Choice.{Choice}
 use Rattle.babel_replay.specs.declared.lines.routes.RouteLine.{RouteLine}
 use Rattle.babel_replay.specs.declared.lines.routes.RouteStatus.{RouteStatus}
 use Rattle.babel_replay.specs.declared.lines.routes.RouteStatus.TheVariants as statuses

@@ -10,6 +10,7 @@ pub mod notes;
 pub mod parts;
 pub mod routes;
 
-pub use choices::{Choice, set_select, table_line};
+pub use babel_state::Choice;
+pub use choices::{set_select, table_line};
 pub use notes::{push_tlv, set_cost_refused, set_moment, set_out, set_refused};
 pub use routes::{RouteLine, RouteStatus, route_line};

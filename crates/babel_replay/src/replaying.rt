@@ -19,14 +19,14 @@ use crate::lines::{
     Choice, push_tlv, set_cost_refused, set_moment, set_out, set_refused, set_select, table_line,
 };
 use crate::reading::read_line;
-use crate::seen::{SeenPrefixes, choice_of, is_same};
+use crate::seen::{SeenPrefixes, is_same};
 use crate::stepping::{Outcome, step};
 use crate::{Action, Event, LineFault, MAX_LINE_LEN, ReplayFault, parse_line};
 use arrayvec::ArrayVec;
 use babel_message::{Placed, Refusal};
 use babel_speaker::laws::datagrams_take_items;
 use babel_speaker::{Decoded, Speaker};
-use babel_state::{Config, ConfigFault, Note};
+use babel_state::{Config, ConfigFault, LastChoice, Note};
 use babel_text::is_skipped;
 use babel_tlv::DATAGRAM_LEN;
 use babel_value::{Line, Prefix};
@@ -404,7 +404,10 @@ impl Replayer {
         let Some((prefix, last)) = self.seen.get(index) else {
             return Ok(());
         };
-        let choice = self.choice(prefix, near);
+        let choice = match self.speaker.choice_near(prefix, last, near) {
+            LastChoice::Kept => return Ok(()),
+            LastChoice::Now(choice) => choice,
+        };
         if is_same(&choice, last) {
             return Ok(());
         }
@@ -416,11 +419,13 @@ impl Replayer {
 
     /// What is printed of the prefix's selected route, which is searched for near an index of the
     /// selections.
-    #[inline]
     fn choice(&self, prefix: &Prefix, near: &mut usize) -> Option<Choice>
         ensures { result ≡ choice_at self.now.speaker.state prefix.now }
     {
-        self.speaker.selected_near(prefix, near).map(choice_of)
+        match self.speaker.selected_near(prefix, near) {
+            Some(selected) => Some(selected.choice()),
+            None => None,
+        }
     }
 
     /// Writes a `table` line for each seen prefix, and flushes.

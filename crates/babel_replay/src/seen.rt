@@ -5,27 +5,15 @@ ghost use Rattle.std.specs.Prelude.{◌≡◌, ◌+◌, ◌≤◌, ◌<◌, [], 
 ghost use Rattle.std.specs.Map.Iter.{deref_pair};
 ghost use Rattle.std.specs.Option.{option_map};
 ghost use Rattle.indexmap.specs.IndexMap.{set_value_at};
-ghost use Rattle.babel_replay.specs.Seen.{choice_of, is_same_route, is_same_choice, updated, updates_in, stored, with_seen, seen_after};
+ghost use Rattle.babel_replay.specs.Seen.{is_same_route, is_same_choice, updated, updates_in, stored, with_seen, seen_after};
 
 use crate::lines::Choice;
 use babel_message::{Content, Message, Placed};
-use babel_state::{Note, Selected, Verdict};
+use babel_state::{Note, Verdict};
 use babel_value::Prefix;
 use indexmap::IndexMap;
 use std::alloc::{AllocError, Global};
 use std::marker::Model;
-
-/// What is printed of a selected route.
-pub(crate) fn choice_of(selected: Selected) -> Choice
-    ensures { result ≡ choice_of selected }
-{
-    Choice {
-        peer: selected.peer,
-        metric: selected.metric,
-        router: selected.router,
-        seqno: selected.distance.seqno,
-    }
-}
 
 /// Whether the same is printed of both.
 pub(crate) fn is_same(a: &Option<Choice>, b: &Option<Choice>) -> bool

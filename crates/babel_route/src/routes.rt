@@ -25,7 +25,7 @@ use babel_choice::{
     PrefixRoutes, ReceivedUpdate, Retraction, RouteKey, Selection, Through, choose,
 };
 use babel_sources::{SourceEntry, SourcesOver};
-use babel_table::{Full, Memory, Table, find_in, find_near, places_below, revise_dues};
+use babel_table::{Full, Memory, Table, find_in, find_near, places_below, revise_dues, seek_near};
 use babel_value::{Addr, Distance, Peer, Prefix, RouterId, Source};
 pub use changes::{OriginChange, Report, SelectionChange};
 use current::replace_near;
@@ -335,6 +335,21 @@ impl<E: Table<RouteKey, Entry>, S: Table<Prefix, Selection>> RoutesOver<E, S> {
         // The next search may begin at any index: this one is mostly the right one.
         cursor.selection = near.wrapping_add(usize::from(selection.is_some()));
         selection
+    }
+
+    /// The same with the prefix, as the table has it. The search begins at the index `near` of the
+    /// selections, which becomes the one after the prefix, or that at which the prefix would be.
+    #[inline(always)]
+    pub fn selection_near(&self, prefix: &Prefix, near: &mut usize) -> Option<(Prefix, Selection)>
+        ensures { option_map (λ e. e.1) result ≡ selection_at prefix.now self.now }
+    {
+        let mut place = *near;
+        if !seek_near(&self.selections, &mut place, prefix) {
+            *near = place;
+            return None;
+        }
+        *near = place.wrapping_add(1);
+        self.selections.at(place)
     }
 
     /// Selects the route of the prefix again (RFC 8966, section 3.6): the candidate of the least

@@ -42,3 +42,4 @@ pub mod EarlyTicks
 pub mod CurrentWalks
 pub mod SnapshotsSent
 pub mod StoredUpdates
+pub mod Choices

@@ -1,11 +1,13 @@
 //! The speaker: its calls, from moments and octets to octets. Each call's meaning is its definition
 //! in `babel_state`.
 
-ghost use Rattle.std.specs.Prelude.{◌≡◌, ◌≢◌, ◌≤◌, ◌<◌, ◌↔◌, ℕ, [], true, false, Ok, Some, length, slice_get, IsOk, IsErr, IsNone, IfOk, IfErr, IfSome, OnOk, OnErr, option_map};
+ghost use Rattle.std.specs.Prelude.{◌≡◌, ◌≢◌, ◌≤◌, ◌<◌, ◌↔◌, ℕ, [], true, false, Ok, Some, length, slice_get, IsOk, IsErr, IsNone, IfOk, IfErr, IfSome, OnOk, OnErr, Option, option_map};
 ghost use Rattle.babel_packet.specs.Meaning.{meaning};
 ghost use Rattle.babel_route.specs.Selections.{prefix_after};
 ghost use Rattle.babel_state.specs.Addresses.{transport_at};
-ghost use Rattle.babel_state.specs.Calls.{set_cost_fault, cost_set, first_state, is_prefix_too_many, announced_also, withdrawn, selected_route, reported_entries};
+ghost use Rattle.babel_state.specs.declared.selected.Choice.{Choice};
+ghost use Rattle.babel_state.specs.declared.selected.LastChoice.{LastChoice};
+ghost use Rattle.babel_state.specs.Calls.{set_cost_fault, cost_set, first_state, is_prefix_too_many, announced_also, withdrawn, choice_of, selected_route, reported_entries};
 ghost use Rattle.babel_state.specs.Configs.{config_fault};
 ghost use Rattle.babel_state.specs.Limits.{most_pending};
 ghost use Rattle.babel_state.specs.Invariants.{IsWellFormed};
@@ -46,8 +48,8 @@ use babel_state::laws::{
     selections_are_current, selections_stay_current, states_are_well_formed,
 };
 use babel_state::{
-    Config, ConfigFault, NotAnnounced, Note, RecvFault, RestoreFault, Selected, SetCostFault,
-    Target, TooManyPrefixes,
+    Choice, Config, ConfigFault, LastChoice, NotAnnounced, Note, RecvFault, RestoreFault, Selected,
+    SetCostFault, Target, TooManyPrefixes,
 };
 use babel_tlv::DATAGRAM_LEN;
 use babel_value::{Addr, Distance, Memory, Metric, Peer, Prefix, Source};
@@ -474,6 +476,22 @@ impl Speaker {
         ensures { result ≡ selected_route prefix.now self.now.state }
     {
         crate::state::settings::selected_route_near(&self.core, prefix, near)
+    }
+
+    /// What became of the choice that a log named last of the prefix's selected route: `Kept` if
+    /// that is what [`selected`](Speaker::selected) reports but for its next hop and the advertised
+    /// metric, and then nothing is copied. The search is that of `selected_near`.
+    #[inline]
+    pub fn choice_near(
+        &self,
+        prefix: &Prefix,
+        last: &Option<Choice>,
+        near: &mut usize,
+    ) -> LastChoice
+        ensures kept { result ≡ LastChoice.Kept → last.now ≡ option_map choice_of (selected_route prefix.now self.now.state) }
+        ensures now { (choice : Option Choice) → result ≡ LastChoice.Now choice → choice ≡ option_map choice_of (selected_route prefix.now self.now.state) }
+    {
+        crate::state::settings::choice_near(&self.core, prefix, last, near)
     }
 
     /// The selection whose prefix has exactly `place` lesser ones among the selections' prefixes.

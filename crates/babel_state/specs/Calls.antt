@@ -15,6 +15,7 @@ use Rattle.babel_state.specs.declared.configs.Interface.{Interface}
 use Rattle.babel_state.specs.declared.errors.SetCostFault.{SetCostFault}
 use Rattle.babel_state.specs.declared.errors.SetCostFault.TheVariants.{NoInterface, CostOutOfRange}
 use Rattle.babel_state.specs.declared.interfaces.InterfaceEntry.{InterfaceEntry}
+use Rattle.babel_state.specs.declared.selected.Choice.{Choice}
 use Rattle.babel_state.specs.declared.selected.Selected.{Selected}
 use Rattle.babel_state.specs.Limits.{greatest_cost, most_prefixes}
 use Rattle.babel_state.specs.Configs.{is_up_to}
@@ -102,6 +103,10 @@ reported_selected prefix s route = record {
 
 unfoldable pub selected_route : PrefixValue → State → Option Selected
 selected_route prefix s = option_map (reported_selected prefix s) (selected_at prefix s)
+
+-- What a log names of it.
+abbrev pub choice_of : Selected → Choice
+choice_of s = record { peer = s.peer; metric = s.metric; router = s.router; seqno = s.distance.seqno }
 
 -- An entry, with its neighbour and the cost of the link to it.
 abbrev pub reported_entry : State → Route → Peer × Entry × ℕ

@@ -24,4 +24,4 @@ pub use limits::{
 };
 pub use notes::{Note, Verdict};
 pub use requests::{PendingRequest, Resend};
-pub use selected::Selected;
+pub use selected::{Choice, LastChoice, Selected};

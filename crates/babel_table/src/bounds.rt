@@ -22,8 +22,50 @@ pub fn places_below<K: Key, V: Copy, T: Table<K, V>, B: Bound<K>>(table: &T, bou
     ensures below { list_all (λ e. B.is_below bound.now e.0) (take result (T.entries table.now)) ≡ true }
     ensures above { list_all (λ e. not (B.is_below bound.now e.0)) (drop result (T.entries table.now)) ≡ true }
 {
-    let mut low = 0;
-    let mut high = table.len();
+    let len = table.len();
+    places_between(table, bound, 0, len)
+}
+
+/// The same by a search between two indices: the entries before the first one are below the bound,
+/// and those from the second one on aren't. Mostly nothing is between them.
+#[inline(always)]
+pub(crate) fn places_between<K: Key, V: Copy, T: Table<K, V>, B: Bound<K>>(
+    table: &T,
+    bound: &B,
+    from: usize,
+    to: usize,
+) -> usize
+    requires rising { from ≤ to }
+    requires within { to ≤ length (T.entries table.now) }
+    requires below { list_all (λ e. B.is_below bound.now e.0) (take from (T.entries table.now)) ≡ true }
+    requires above { list_all (λ e. not (B.is_below bound.now e.0)) (drop to (T.entries table.now)) ≡ true }
+    ensures within { result ≤ length (T.entries table.now) }
+    ensures below { list_all (λ e. B.is_below bound.now e.0) (take result (T.entries table.now)) ≡ true }
+    ensures above { list_all (λ e. not (B.is_below bound.now e.0)) (drop result (T.entries table.now)) ≡ true }
+{
+    if from == to {
+        return to;
+    }
+    search_places(table, bound, from, to)
+}
+
+#[inline(never)]
+fn search_places<K: Key, V: Copy, T: Table<K, V>, B: Bound<K>>(
+    table: &T,
+    bound: &B,
+    from: usize,
+    to: usize,
+) -> usize
+    requires rising { from ≤ to }
+    requires within { to ≤ length (T.entries table.now) }
+    requires below { list_all (λ e. B.is_below bound.now e.0) (take from (T.entries table.now)) ≡ true }
+    requires above { list_all (λ e. not (B.is_below bound.now e.0)) (drop to (T.entries table.now)) ≡ true }
+    ensures within { result ≤ length (T.entries table.now) }
+    ensures below { list_all (λ e. B.is_below bound.now e.0) (take result (T.entries table.now)) ≡ true }
+    ensures above { list_all (λ e. not (B.is_below bound.now e.0)) (drop result (T.entries table.now)) ≡ true }
+{
+    let mut low = from;
+    let mut high = to;
     while low < high {
         let middle = low + (high - low) / 2;
         match table.at(middle) {

@@ -1,35 +1,52 @@
 //! Searches that begin near the index at which the last one ended. If the sought keys rise, and
-//! each is near the last one, they are one walk over the table.
+//! each is near the last one, they are one walk over the table. The steps of a walk double, and
+//! what the last one passed over is searched. So a key that is near is found in few comparisons,
+//! and one that is far in at most some twice as many as a search of the whole table takes.
 
-ghost use Rattle.std.specs.Prelude.{◌≡◌, true, ◌+◌, ◌≤◌, ◌<◌, take, drop, not, length, IsSome, IsNone, IsTrue, IsFalse};
+ghost use Rattle.std.specs.Prelude.{◌≡◌, true, ◌+◌, ◌^◌, ◌≤◌, ◌<◌, take, drop, not, length, IsSome, IsNone, IsTrue, IsFalse};
 ghost use Rattle.std.specs.List.{list_all};
-ghost use Rattle.std.specs.Ordering.{is_gt};
 ghost use Rattle.std.specs.FinMap.{find};
 ghost use Rattle.babel_table.specs.Places.{IsAt, IsGap, are_lesser, are_greater};
-ghost use Rattle.babel_table.specs.Bounds.{lesser_falls};
 
+use crate::bounds::places_between;
 use crate::{Bound, Key, Steps, Table, places_below};
 use std::cmp::Ordering;
 use std::marker::Brand;
 use std::sync::ledger::{Blank, Ledger};
 
-/// How many entries a walk passes, on or back, before it gives up and searches.
-pub(crate) const FAR: usize = 4;
-
-/// The keys that are lesser than this one.
-#[derive(Drop)]
-struct Lesser<K: Key> {
-    key: K,
+/// The index so many places after another one, or the last index.
+#[inline(always)]
+fn index_on(index: usize, places: usize, len: usize) -> usize
+    requires { index < len }
+    ensures on { index ≤ result }
+    ensures within { result < len }
+{
+    if places < len - index {
+        index + places
+    } else {
+        len - 1
+    }
 }
 
-impl<K: Key> Bound<K> for Lesser<K> {
-    ghost is_below = { λ bound key. is_gt (K.order bound.key key) };
+/// The index before this one, and so many places before that, or the first index.
+#[inline(always)]
+fn index_back(index: usize, places: usize) -> usize
+    requires { 0 < index }
+    ensures before { result < index }
+    ensures small { result + 1 < 2 ^ 64 }
+{
+    (index - 1).saturating_sub(places)
+}
 
-    ghost falling = { λ bound. lesser_falls K.order K.total bound.key };
+/// The first step of a walk. A step passes over a quarter of its number of places, and each number
+/// is twice the one before it: the first two steps pass over none, the next ones over 1, 2, 4 and
+/// so on. So what is one or two places away is found as by a walk from entry to entry.
+const FIRST_STEP: usize = 1;
 
-    fn is_below(&self, key: &K) -> bool {
-        order_of(&self.key, key).is_gt()
-    }
+/// The step after this one.
+#[inline(always)]
+fn next_step(step: usize) -> usize {
+    step.wrapping_mul(2)
 }
 
 /// The order of two keys. The step isn't counted. It is compiled into each caller: as a call it had
@@ -52,8 +69,8 @@ fn order_on<L: Ledger, K: Key>(key: &K, other: &K, blank: Blank) -> Ordering
     key.compare(other, &mut steps)
 }
 
-/// How many entries have a key below the bound, as `places_below`. It walks a few entries on from
-/// the index `near` if the entry there is below, and back otherwise.
+/// How many entries have a key below the bound, as `places_below`. It walks on from the index
+/// `near` if the entry there is below, and back otherwise.
 #[inline(always)]
 pub fn places_below_near<K: Key, V: Copy, T: Table<K, V>, B: Bound<K>>(
     table: &T,
@@ -71,7 +88,7 @@ pub fn places_below_near<K: Key, V: Copy, T: Table<K, V>, B: Bound<K>>(
     }
 }
 
-/// The same by a walk back from an index whose key isn't below the bound.
+/// The same from an index back whose key isn't below the bound. Mostly the one before it is.
 #[inline(always)]
 fn places_below_back<K: Key, V: Copy, T: Table<K, V>, B: Bound<K>>(
     table: &T,
@@ -84,20 +101,45 @@ fn places_below_back<K: Key, V: Copy, T: Table<K, V>, B: Bound<K>>(
     ensures below { list_all (λ e. B.is_below bound.now e.0) (take result (T.entries table.now)) ≡ true }
     ensures above { list_all (λ e. not (B.is_below bound.now e.0)) (drop result (T.entries table.now)) ≡ true }
 {
-    let mut place = near;
-    for _ in 0..FAR {
-        if place == 0 {
-            return 0;
-        }
-        let Some(entry) = table.at(place - 1) else {
+    if near == 0 {
+        return 0;
+    }
+    let Some(entry) = table.at(near - 1) else {
+        return places_below(table, bound);
+    };
+    if bound.is_below(&entry.0) {
+        return near;
+    }
+    places_below_until(table, near - 1, bound)
+}
+
+/// The same by a walk back.
+#[inline(never)]
+fn places_below_until<K: Key, V: Copy, T: Table<K, V>, B: Bound<K>>(
+    table: &T,
+    near: usize,
+    bound: &B,
+) -> usize
+    requires within { near < length (T.entries table.now) }
+    requires above { list_all (λ e. not (B.is_below bound.now e.0)) (drop near (T.entries table.now)) ≡ true }
+    ensures within { result ≤ length (T.entries table.now) }
+    ensures below { list_all (λ e. B.is_below bound.now e.0) (take result (T.entries table.now)) ≡ true }
+    ensures above { list_all (λ e. not (B.is_below bound.now e.0)) (drop result (T.entries table.now)) ≡ true }
+{
+    let mut high = near;
+    let mut step = FIRST_STEP;
+    while high > 0 {
+        let place = index_back(high, step / 4);
+        let Some(entry) = table.at(place) else {
             return places_below(table, bound);
         };
         if bound.is_below(&entry.0) {
-            return place;
+            return places_between(table, bound, place + 1, high);
         }
-        place -= 1;
+        high = place;
+        step = next_step(step);
     }
-    places_below(table, bound)
+    0
 }
 
 /// The same by a walk from an index on whose key is below the bound.
@@ -113,14 +155,18 @@ fn places_below_from<K: Key, V: Copy, T: Table<K, V>, B: Bound<K>>(
     ensures above { list_all (λ e. not (B.is_below bound.now e.0)) (drop result (T.entries table.now)) ≡ true }
 {
     let len = table.len();
-    for place in near + 1..len {
-        if place.wrapping_sub(near) > FAR {
+    let mut low = near + 1;
+    let mut step = FIRST_STEP;
+    while low < len {
+        let place = index_on(low, step / 4, len);
+        let Some(entry) = table.at(place) else {
             return places_below(table, bound);
+        };
+        if !bound.is_below(&entry.0) {
+            return places_between(table, bound, low, place);
         }
-        match table.at(place) {
-            Some(entry) if bound.is_below(&entry.0) => {}
-            _ => return place,
-        }
+        low = place + 1;
+        step = next_step(step);
     }
     len
 }
@@ -148,7 +194,7 @@ pub fn seek_near<K: Key, V: Copy, T: Table<K, V>>(table: &T, near: &mut usize, k
     ensures gap { IsFalse result → IsGap K.order key.now (T.entries table.now) near.new }
 {
     let Some(entry) = table.at(*near) else {
-        return search_for(table, near, key);
+        return seek_past_all(table, near, key);
     };
     match order_of(key, &entry.0) {
         Ordering::Less => walk_back_for(table, near, key),
@@ -157,19 +203,95 @@ pub fn seek_near<K: Key, V: Copy, T: Table<K, V>>(table: &T, near: &mut usize, k
     }
 }
 
+/// The same where the index is past the last entry. The keys that are sought there mostly are past
+/// it too: those of a full table that refuses them, or of one that is filled in their order.
+#[inline(never)]
+fn seek_past_all<K: Key, V: Copy, T: Table<K, V>>(table: &T, near: &mut usize, key: &K) -> bool
+    ensures at { IsTrue result → IsAt key.now (T.entries table.now) near.new }
+    ensures gap { IsFalse result → IsGap K.order key.now (T.entries table.now) near.new }
+{
+    let len = table.len();
+    *near = len;
+    if len == 0 {
+        return false;
+    }
+    let Some(last) = table.at(len - 1) else {
+        return search_for(table, near, key);
+    };
+    match order_of(key, &last.0) {
+        Ordering::Greater => false,
+        _ => search_for(table, near, key),
+    }
+}
+
 /// The same by a search. It and both walks are calls: few look-ups come to them, and those that
 /// don't need the registers.
-#[inline(never)]
 fn search_for<K: Key, V: Copy, T: Table<K, V>>(table: &T, near: &mut usize, key: &K) -> bool
     ensures at { IsTrue result → IsAt key.now (T.entries table.now) near.new }
     ensures gap { IsFalse result → IsGap K.order key.now (T.entries table.now) near.new }
 {
-    let place = places_below(table, &Lesser { key: *key });
-    *near = place;
-    match table.at(place) {
-        Some(entry) => order_of(key, &entry.0).is_eq(),
-        None => false,
+    let len = table.len();
+    search_between(table, near, key, 0, len)
+}
+
+/// The same by a search between two indices: the keys before the first one are lesser, and those
+/// from the second one on are greater. Mostly nothing is between them.
+#[inline(always)]
+fn search_between<K: Key, V: Copy, T: Table<K, V>>(
+    table: &T,
+    near: &mut usize,
+    key: &K,
+    from: usize,
+    to: usize,
+) -> bool
+    requires rising { from ≤ to }
+    requires within { to ≤ length (T.entries table.now) }
+    requires lesser { are_lesser K.order key.now (take from (T.entries table.now)) ≡ true }
+    requires greater { are_greater K.order key.now (drop to (T.entries table.now)) ≡ true }
+    ensures at { IsTrue result → IsAt key.now (T.entries table.now) near.new }
+    ensures gap { IsFalse result → IsGap K.order key.now (T.entries table.now) near.new }
+{
+    if from == to {
+        *near = to;
+        return false;
     }
+    search_keys(table, near, key, from, to)
+}
+
+#[inline(never)]
+fn search_keys<K: Key, V: Copy, T: Table<K, V>>(
+    table: &T,
+    near: &mut usize,
+    key: &K,
+    from: usize,
+    to: usize,
+) -> bool
+    requires rising { from ≤ to }
+    requires within { to ≤ length (T.entries table.now) }
+    requires lesser { are_lesser K.order key.now (take from (T.entries table.now)) ≡ true }
+    requires greater { are_greater K.order key.now (drop to (T.entries table.now)) ≡ true }
+    ensures at { IsTrue result → IsAt key.now (T.entries table.now) near.new }
+    ensures gap { IsFalse result → IsGap K.order key.now (T.entries table.now) near.new }
+{
+    let mut low = from;
+    let mut high = to;
+    while low < high {
+        let middle = low + (high - low) / 2;
+        let Some(entry) = table.at(middle) else {
+            high = middle;
+            continue;
+        };
+        match order_of(key, &entry.0) {
+            Ordering::Less => high = middle,
+            Ordering::Equal => {
+                *near = middle;
+                return true;
+            }
+            Ordering::Greater => low = middle + 1,
+        }
+    }
+    *near = low;
+    false
 }
 
 /// The same by a walk from an index on whose key is lesser.
@@ -181,19 +303,23 @@ fn walk_for<K: Key, V: Copy, T: Table<K, V>>(table: &T, near: &mut usize, key: &
     ensures gap { IsFalse result → IsGap K.order key.now (T.entries table.now) near.new }
 {
     let len = table.len();
-    let start = *near;
-    for place in start + 1..len {
-        if place.wrapping_sub(start) > FAR {
-            return search_for(table, near, key);
-        }
-        *near = place;
+    let mut low = *near + 1;
+    let mut step = FIRST_STEP;
+    while low < len {
+        let place = index_on(low, step / 4, len);
         let Some(entry) = table.at(place) else {
             return search_for(table, near, key);
         };
         match order_of(key, &entry.0) {
-            Ordering::Less => return false,
-            Ordering::Equal => return true,
-            Ordering::Greater => {}
+            Ordering::Less => return search_between(table, near, key, low, place),
+            Ordering::Equal => {
+                *near = place;
+                return true;
+            }
+            Ordering::Greater => {
+                low = place + 1;
+                step = next_step(step);
+            }
         }
     }
     *near = len;
@@ -208,23 +334,25 @@ fn walk_back_for<K: Key, V: Copy, T: Table<K, V>>(table: &T, near: &mut usize, k
     ensures at { IsTrue result → IsAt key.now (T.entries table.now) near.new }
     ensures gap { IsFalse result → IsGap K.order key.now (T.entries table.now) near.new }
 {
-    let mut place = *near;
-    for _ in 0..FAR {
-        *near = place;
-        if place == 0 {
-            return false;
-        }
-        let Some(entry) = table.at(place - 1) else {
+    let mut high = *near;
+    let mut step = FIRST_STEP;
+    while high > 0 {
+        let place = index_back(high, step / 4);
+        let Some(entry) = table.at(place) else {
             return search_for(table, near, key);
         };
         match order_of(key, &entry.0) {
-            Ordering::Less => place -= 1,
+            Ordering::Less => {
+                high = place;
+                step = next_step(step);
+            }
             Ordering::Equal => {
-                *near = place - 1;
+                *near = place;
                 return true;
             }
-            Ordering::Greater => return false,
+            Ordering::Greater => return search_between(table, near, key, place + 1, high),
         }
     }
-    search_for(table, near, key)
+    *near = 0;
+    false
 }

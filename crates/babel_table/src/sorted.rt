@@ -6,7 +6,6 @@ ghost use Rattle.babel_table.specs.Digits.{binary_digits};
 ghost use Rattle.babel_table.specs.Places.{IsAt, IsGap, are_lesser};
 
 use crate::gap::GapVec;
-use crate::near::FAR;
 use crate::revisions::compact;
 use crate::sequences::Sequence;
 use crate::{Change, Full, Key, Memory, Revision, Sought, Steps, Stored, Table};
@@ -14,6 +13,9 @@ use std::alloc::Global;
 use std::cmp::Ordering;
 use std::marker::{Brand, PhantomData};
 use std::sync::ledger::{Blank, Ledger};
+
+/// How many entries a walk passes before it gives up and searches.
+const FAR: usize = 4;
 
 /// A table kept in the order of its keys, in a sequence of the type `Q`. A look-up is a binary
 /// search.

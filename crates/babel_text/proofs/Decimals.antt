@@ -1,5 +1,5 @@
 -- Which texts spell a number: those of digits alone that no zero begins.
-use Rattle.std.proofs.Common.{◌≡◌, ℕ, ◌^◌, ◌+◌, ◌*◌, ◌-◌, ◌<◌, ◌≤◌, ◌==◌, ◌&&◌, nat_lt, Bool, true, false, List, length, take, get_or, sym, ap, subst, ◌∙◌, lit≤, arith, inl, inr, eq-eqb, eqb-true, ltb-true, lt-ltb, Option, Some, None, MatchOption, Result, Ok, Err}
+use Rattle.std.proofs.Common.{◌≡◌, ℕ, ◌^◌, ◌+◌, ◌*◌, ◌-◌, ◌<◌, ◌≤◌, ◌==◌, ◌&&◌, nat_lt, Bool, true, false, List, [], length, take, get_or, sym, ap, subst, ◌∙◌, lit≤, arith, inl, inr, eq-eqb, eqb-true, ltb-true, lt-ltb, Option, Some, None, MatchOption, Result, Ok, Err}
 use Rattle.std.proofs.lemmas.Bool.{cases_lt, and_parts, both_ways, and_from}
 use Rattle.std.proofs.lemmas.Fmt.{decimal_is_IsNumeral, decimal_digit, first_decimal, decimal-digits_value, decimal_injective}
 use Rattle.std.proofs.lemmas.Int.Digits.{digits_value_more}
@@ -30,6 +30,15 @@ no_leading_zero n small front =
 pub no_number : (text : List ℕ) → has_leading_zero text ≡ true → (n : ℕ) → ¬ (IsNumberText 64 text n)
 no_number text front n spelled = no_leading_zero n spelled.0 (rw spelled.1 at front)
 
+-- A text that is no numeral spells no number, and neither does one that is empty.
+pub not_spelled : (text : List ℕ) → ¬ (IsNumeral 10 text × (digits_value 10 text < 2 ^ 64)) → (n : ℕ) → ¬ (IsNumberText 64 text n)
+not_spelled text h n spelled =
+    let (numeral, value) = decimal_is_IsNumeral n spelled.0 in
+    h (rw spelled.1 (numeral, rw value spelled.0))
+
+pub empty_spells_none : (n : ℕ) → ¬ (IsNumberText 64 [] n)
+empty_spells_none = not_spelled [] (λ h. absurd (omega (arith, h.0.0)))
+
 module _ (text : List ℕ) (front : has_leading_zero text ≡ false) where
   number_read : IsNumeral 10 text → digits_value 10 text < 2 ^ 64 → IsNumberText 64 text (digits_value 10 text)
   number_read numeral small =
@@ -40,14 +49,9 @@ module _ (text : List ℕ) (front : has_leading_zero text ≡ false) where
       ] in
       (small, sym (decimal-digits_value (numerals_by_value _ tells_digits) text numeral.1 numeral.0 alone small))
 
-  number_not_read : ¬ (IsNumeral 10 text × (digits_value 10 text < 2 ^ 64)) → (n : ℕ) → ¬ (IsNumberText 64 text n)
-  number_not_read h n spelled =
-      let (numeral, value) = decimal_is_IsNumeral n spelled.0 in
-      h (rw spelled.1 (numeral, rw value spelled.0))
-
   pub number_reads : (r : Option ℕ) → MatchOption r (¬ (IsNumeral 10 text × (digits_value 10 text < 2 ^ 64))) (λ value. IsNumeral 10 text × (digits_value 10 text < 2 ^ 64) × (value ≡ digits_value 10 text)) → Reads (IsNumberText 64) text r
   number_reads (Some n) h = rw h.2 (number_read h.0 h.1)
-  number_reads None h = number_not_read h
+  number_reads None h = not_spelled text h
 
 -- ---- digits that are read one after another
 

@@ -1,5 +1,5 @@
 -- The tables of the hexadecimal digits, and octets that are read of them.
-use Rattle.std.proofs.Common.{◌≡◌, ℕ, ◌+◌, ◌*◌, ◌%◌, ◌<◌, ◌≤◌, true, eqb, List, length, take, drop, Option, None, Result, Ok, Err, refl, ap, arith, inl, inr, bit_or, slice_set}
+use Rattle.std.proofs.Common.{◌≡◌, ℕ, ◌+◌, ◌*◌, ◌%◌, ◌<◌, ◌≤◌, true, eqb, List, length, take, drop, None, Result, Ok, Err, refl, ap, arith, inl, inr, bit_or, slice_set}
 use Rattle.std.specs.Prelude.{is_err, slice_index}
 use Rattle.std.proofs.lemmas.Bool.{agree_below_at, cases_lt, eqb-true, false≢true}
 use Rattle.std.proofs.lemmas.Nat.{le_or_l, le_or_r, or_lt}

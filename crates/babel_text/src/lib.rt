@@ -16,7 +16,7 @@ mod router_ids;
 pub use errors::{LineFault, MAX_LINE_LEN};
 pub use fields::split_field;
 pub use log_lines::{Action, Event, is_skipped, parse_line};
-pub use numbers::{parse_u8, parse_u16, parse_u64, u8_of, u16_of, u64_of};
+pub use numbers::{parse_u8, parse_u16, parse_u64, split_number, split_u8, u8_of, u16_of, u64_of};
 pub use octets::parse_octets;
 pub use prefixes::{parse_network, parse_prefix};
 pub use router_ids::parse_router_id;

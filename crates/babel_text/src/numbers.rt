@@ -3,11 +3,15 @@
 //! The digits are read by a loop of its own: `parse` of `u64` reads a sign too and is made for any
 //! radix, and costs twice as much for each digit.
 
-ghost use Rattle.std.specs.Prelude.{◌≡◌, ◌+◌, ◌-◌, ◌*◌, ◌^◌, ◌<◌, ◌&&◌, ◌==◌, nat_lt, length, slice_index, MatchOption};
+ghost use Rattle.std.specs.Prelude.{◌≡◌, ℕ, ◌+◌, ◌-◌, ◌*◌, ◌^◌, ◌<◌, ◌&&◌, ◌==◌, nat_lt, length, slice_index, MatchOption};
 ghost use Rattle.std.specs.Int.{IsInRange};
 ghost use Rattle.std.specs.Str.Parse.{IsNumeral, digits_value};
+ghost use Rattle.babel_text.specs.Fields.{HasBlank, before_blank, after_blank};
 ghost use Rattle.babel_text.specs.Readings.{Reads};
 ghost use Rattle.babel_text.specs.Numbers.{IsNumberText};
+
+/// No digit more makes a number up to this one too large for 64 bits.
+const MOST_BEFORE: u64 = (u64::MAX - 9) / 10;
 
 /// The number that the text spells, `None` exactly if it spells no number below 2^64.
 pub fn parse_u64(text: &str) -> Option<u64>
@@ -56,6 +60,41 @@ pub fn u64_of(text: &[u8]) -> Option<u64>
     value_of(text)
 }
 
+/// The number before the first blank, and the octets after that. `None` exactly if there is no
+/// blank, or no number below 2^64 before it. It is one pass over the octets.
+#[inline]
+#[tactic(auto, using(crate::proofs::Decimals::value_goes, crate::proofs::Decimals::in_range_goes))]
+pub fn split_number(text: &[u8]) -> Option<(u64, &[u8])>
+    ensures { MatchOption result ((number : ℕ) → HasBlank text.now → ¬ (IsNumberText 64 (before_blank text.now) number))
+        (λ f. HasBlank text.now × IsNumberText 64 (before_blank text.now) f.0 × (f.1.now ≡ after_blank text.now)) }
+{
+    let mut value = 0;
+    for index in 0..text.len() {
+        let octet = text[index];
+        if octet == b' ' {
+            if index == 0 || has_leading_zero(&text[..index]) {
+                return None;
+            }
+            return Some((value, &text[index + 1..]));
+        }
+        value = next_value(value, octet)?;
+    }
+    None
+}
+
+/// The same of a number up to 255.
+#[inline]
+pub fn split_u8(text: &[u8]) -> Option<(u8, &[u8])>
+    ensures { MatchOption result ((number : ℕ) → HasBlank text.now → ¬ (IsNumberText 8 (before_blank text.now) number))
+        (λ f. HasBlank text.now × IsNumberText 8 (before_blank text.now) f.0 × (f.1.now ≡ after_blank text.now)) }
+{
+    let (number, rest) = split_number(text)?;
+    match u8::try_from(number) {
+        Ok(number) => Some((number, rest)),
+        Err(_) => None,
+    }
+}
+
 /// Whether the text begins with a zero that more follows.
 #[inline]
 fn has_leading_zero(text: &[u8]) -> bool
@@ -95,5 +134,8 @@ fn next_value(value: u64, octet: u8) -> Option<u64>
     if digit > 9 {
         return None;
     }
-    value.checked_mul(10)?.checked_add(u64::from(digit))
+    if value > MOST_BEFORE {
+        return value.checked_mul(10)?.checked_add(u64::from(digit));
+    }
+    Some(value * 10 + u64::from(digit))
 }

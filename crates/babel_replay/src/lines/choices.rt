@@ -5,20 +5,8 @@ ghost use Rattle.babel_value.specs.Lines.{line_room};
 ghost use Rattle.babel_replay.specs.Texts.{choice_text, line, select_text, table_text};
 
 use crate::lines::parts::push_peer;
-use babel_value::{Line, Metric, Peer, Prefix, RouterId, Seqno};
-
-/// What is printed of a selected route.
-#[derive(Clone, Copy, PartialEq, Eq)]
-pub struct Choice {
-    /// The neighbour that it leads over.
-    pub peer: Peer,
-    /// The metric over the link to the neighbour.
-    pub metric: Metric,
-    /// The router that announces the prefix.
-    pub router: RouterId,
-    /// The seqno of the route.
-    pub seqno: Seqno,
-}
+use babel_state::Choice;
+use babel_value::{Line, Prefix};
 
 /// The line becomes that of a prefix whose selected route is another than the one that was last
 /// printed. `None`: it has no route.

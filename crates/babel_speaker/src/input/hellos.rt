@@ -38,8 +38,8 @@ impl Core {
         let Some(addr) = to else {
             return true;
         };
-        match self.interface(iface) {
-            Some(interface) => is_own_address(addr, &interface),
+        match self.interfaces.entry(iface) {
+            Some(interface) => is_own_address(addr, interface),
             None => false,
         }
     }

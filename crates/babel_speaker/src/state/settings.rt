@@ -1,15 +1,19 @@
 //! The calls that change a speaker without a datagram or a moment, and those that report its state.
 
-ghost use Rattle.std.specs.Prelude.{◌≡◌, ◌↔◌, true, false, Some, slice_get, IsOk, IsErr, IsNone, IfErr, OnOk, OnErr, drop, map};
+ghost use Rattle.std.specs.Prelude.{◌≡◌, ◌↔◌, true, false, Option, Some, slice_get, option_map, IsTrue, IsOk, IsErr, IsNone, IfErr, OnOk, OnErr, drop, map};
 ghost use Rattle.babel_choice.specs.Choices.{routes_of};
+ghost use Rattle.babel_state.specs.declared.selected.Choice.{Choice};
+ghost use Rattle.babel_state.specs.declared.selected.LastChoice.{LastChoice};
 ghost use Rattle.babel_state.specs.State.{announces};
-ghost use Rattle.babel_state.specs.Calls.{set_cost_fault, cost_set, is_prefix_too_many, announced_also, withdrawn, select_and_advertise, selected_route, reported_entries, reported_entry};
+ghost use Rattle.babel_state.specs.Calls.{set_cost_fault, cost_set, is_prefix_too_many, announced_also, withdrawn, select_and_advertise, choice_of, selected_route, reported_entries, reported_entry};
 
 use crate::output::messages::interface_entry;
 use crate::state::Core;
 use babel_choice::{Entry, Selection};
-use babel_state::{MAX_COST, NotAnnounced, Selected, SetCostFault, TooManyPrefixes};
-use babel_value::{Metric, Peer, Prefix};
+use babel_state::{
+    Choice, LastChoice, MAX_COST, NotAnnounced, Selected, SetCostFault, TooManyPrefixes,
+};
+use babel_value::{Metric, Peer, Prefix, RouterId};
 
 /// Sets the nominal cost of an interface (RFC 8966, appendix A.2.1).
 #[tactic(auto, unfolding(babel_state::specs::Calls::cost_set))]
@@ -105,6 +109,78 @@ pub fn selected_route_near(core: &Core, prefix: &Prefix, near: &mut usize) -> Op
             })
         }
         None => None,
+    }
+}
+
+/// Whether it is the same neighbour.
+#[inline(always)]
+fn is_same_peer(one: &Peer, other: &Peer) -> bool
+    ensures { IsTrue result → one.now ≡ other.now }
+{
+    one.cmp(other).is_eq()
+}
+
+/// Whether it is the same router.
+#[inline(always)]
+fn is_same_router(one: &RouterId, other: &RouterId) -> bool
+    ensures { IsTrue result → one.now ≡ other.now }
+{
+    one.cmp(other).is_eq()
+}
+
+/// Whether the selection is a route of this neighbour, router-id and seqno.
+#[inline(always)]
+fn is_of_choice(selection: &Selection, choice: &Choice) -> bool
+    ensures peer { IsTrue result → selection.now.peer ≡ choice.now.peer }
+    ensures router { IsTrue result → selection.now.entry.router ≡ choice.now.router }
+    ensures seqno { IsTrue result → selection.now.entry.distance.seqno ≡ choice.now.seqno }
+{
+    let entry = &selection.entry;
+    is_same_peer(&selection.peer, &choice.peer)
+        && is_same_router(&entry.router, &choice.router)
+        && entry.distance.seqno == choice.seqno
+}
+
+/// Whether this is what is reported of the prefix's selected route. `false` says nothing. The
+/// search begins at the index `near` of the selections, which becomes the one after the prefix, or
+/// that at which the prefix would be. No selection is copied.
+#[inline(always)]
+#[tactic(auto, unfolding(babel_state::specs::Calls::selected_route), using(crate::proofs::Choices::chosen))]
+fn reports_near(core: &Core, prefix: &Prefix, choice: &Choice, near: &mut usize) -> bool
+    ensures { IsTrue result → option_map choice_of (selected_route prefix.now core.now) ≡ Some choice.now }
+{
+    let Some(found) = core.routes.selection_near(prefix, near) else {
+        return false;
+    };
+    let selection = &found.1;
+    if !is_of_choice(selection, choice) {
+        return false;
+    }
+    let metric = selection.entry.distance.metric.add(core.cost(&choice.peer));
+    metric == choice.metric
+}
+
+/// What became of the choice that a log named last of the prefix. Mostly it is kept. The search
+/// begins at the index `near` of the selections, which becomes the one after the prefix, or that at
+/// which the prefix would be.
+#[inline]
+pub fn choice_near(
+    core: &Core,
+    prefix: &Prefix,
+    last: &Option<Choice>,
+    near: &mut usize,
+) -> LastChoice
+    ensures kept { result ≡ LastChoice.Kept → last.now ≡ option_map choice_of (selected_route prefix.now core.now) }
+    ensures now { (choice : Option Choice) → result ≡ LastChoice.Now choice → choice ≡ option_map choice_of (selected_route prefix.now core.now) }
+{
+    if let Some(choice) = last {
+        if reports_near(core, prefix, choice, near) {
+            return LastChoice::Kept;
+        }
+    }
+    match selected_route_near(core, prefix, near) {
+        Some(selected) => LastChoice::Now(Some(selected.choice())),
+        None => LastChoice::Now(None),
     }
 }
 

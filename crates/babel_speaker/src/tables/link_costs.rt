@@ -36,6 +36,11 @@ impl<'a> Costs for LinkCosts<'a> {
         let nominal = self.interfaces.nominal_cost(peer.iface);
         self.neighbours.cost(*peer, nominal)
     }
+
+    fn cost_in_turn(&self, peer: &Peer) -> Metric {
+        let nominal = self.interfaces.nominal_cost(peer.iface);
+        self.neighbours.cost_in_turn(peer, nominal)
+    }
 }
 
 /// The cost of the link to one neighbour.
@@ -74,6 +79,11 @@ impl<'a> Costs for KnownCosts<'a> {
             return self.known.cost;
         }
         self.links.cost(peer)
+    }
+
+    #[inline(always)]
+    fn cost_in_turn(&self, peer: &Peer) -> Metric {
+        self.cost(peer)
     }
 }
 

@@ -1,33 +1,26 @@
 -- What a comparison means for all entries on its side, since the keys rise.
-use Rattle.std.proofs.Common.{◌≡◌, ◌-◌, suc, true, take, refl, sym, ap, subst, arith}
+use Rattle.std.proofs.Common.{sym, ap, arith, add-one}
 use Rattle.std.specs.Ordering.{is_eq}
-use Rattle.babel_table.specs.Places.{are_lesser}
 use Rattle.babel_table.proofs.PlaceLemmas.{lesser_through, greater_from}
 use Rattle.babel_table.proofs.NearLemmas.{at_there}
 use Rattle.babel_table.proofs.near.walk_back_for.Goals as goal
 
-pub returns-then-place-eq0-clause-gap : goal.returns-then-place-eq0-clause-gap
-returns-then-place-eq0-clause-gap g c = λ _. record { within = c.loop.invariant.within; lesser = subst (λ n. are_lesser g.K.Key.order c.args.key.now (take n (g.T.Table.entries c.args.table.now)) ≡ true) (sym c.if-place-eq0.true) refl; greater = c.loop.invariant.greater }
+pub search_between-requires-clause-lesser : goal.search_between-requires-clause-lesser
+search_between-requires-clause-lesser g c =
+    let table = c.args.table.now in
+    let place = c.index_back-place.result in
+    rw (add-one place) (lesser_through g.K.Key.order g.met.K.Key.total c.args.key.now (g.T.Table.entries table) place c.in-Some.entry (g.met.T.Table.ordered table) (sym c.in-Some.ensures) (sym c.in-Greater.ensures))
 
 pub returns-in-Equal-clause-at : goal.returns-in-Equal-clause-at
 returns-in-Equal-clause-at g c = λ here. (
   c.in-Some.entry.1,
-  at_there g.K.Key.order g.met.K.Key.exact c.args.key.now (g.T.Table.entries c.args.table.now) (c.loop.place - 1) c.in-Some.entry (sym c.in-Some.ensures) (sym (ap is_eq c.in-Equal.ensures)),
+  at_there g.K.Key.order g.met.K.Key.exact c.args.key.now (g.T.Table.entries c.args.table.now) c.index_back-place.result c.in-Some.entry (sym c.in-Some.ensures) (sym (ap is_eq c.in-Equal.ensures)),
 )
 
-pub returns-in-Greater-clause-gap : goal.returns-in-Greater-clause-gap
-returns-in-Greater-clause-gap g c =
-    let table = c.args.table.now in
-    let es = g.T.Table.entries table in
-    let key = c.args.key.now in
-    let after : suc (c.loop.place - 1) ≡ c.loop.place = omega (arith, c.if-place-eq0.false) in
-    let lesser = lesser_through g.K.Key.order g.met.K.Key.total key es (c.loop.place - 1) c.in-Some.entry (g.met.T.Table.ordered table) (sym c.in-Some.ensures) (sym c.in-Greater.ensures) in
-    λ _. record { within = c.loop.invariant.within; lesser = subst (λ n. are_lesser g.K.Key.order key (take n es) ≡ true) after lesser; greater = c.loop.invariant.greater }
-
-pub loop-preserved : goal.loop-preserved
-loop-preserved g c =
+pub loop-high-preserved : goal.loop-high-preserved
+loop-high-preserved g c =
     let table = c.args.table.now in
     record {
-      within = omega (arith, c.loop.invariant.within);
-      greater = greater_from g.K.Key.order g.met.K.Key.total c.args.key.now (g.T.Table.entries table) (c.loop.place - 1) c.in-Some.entry (g.met.T.Table.ordered table) (sym c.in-Some.ensures) (sym c.in-Less.ensures);
+      within = omega (arith, c.loop-high.invariant.within, c.index_back-place.ensures.before);
+      greater = greater_from g.K.Key.order g.met.K.Key.total c.args.key.now (g.T.Table.entries table) c.index_back-place.result c.in-Some.entry (g.met.T.Table.ordered table) (sym c.in-Some.ensures) (sym c.in-Less.ensures);
     }

@@ -1,5 +1,5 @@
 -- One octet more is read, and at the end all are, or one can't be.
-use Rattle.std.proofs.Common.{◌*◌, ap, arith, ltb-false, ltb-true}
+use Rattle.std.proofs.Common.{ap, arith, ltb-false, ltb-true}
 use Rattle.babel_text.proofs.Digits.{are_read_first, are_read_more}
 use Rattle.hex.proofs.Pairs.{decode_done}
 use Rattle.babel_text.specs.Octets.{octets_or_none}

@@ -1,7 +1,7 @@
 -- All before `low` is below the bound, all from `high` on isn't.
 use Rattle.std.proofs.Common.{◌-◌, ◌≤◌, length, take, drop, ◌≡◌, true, not}
 use Rattle.std.specs.List.{list_all}
-use Rattle.babel_table.proofs.bounds.places_below.Given as goal
+use Rattle.babel_table.proofs.bounds.search_places.Given as goal
 
 abbrev pub invariant-loop-low : goal.invariant-loop-low
 invariant-loop-low g l =
