@@ -14,7 +14,7 @@ ghost use Rattle.babel_config.specs.Scenarios.{HasEventFault};
 use crate::events::{parse_event, split_word};
 use crate::heard::{HeardDatagram, parse_heard};
 use babel_machine::Event;
-use babel_text::split_field;
+use babel_text::split_event_word;
 use babel_toml::FileFault;
 use std::alloc::{AllocError, Global};
 use toml::Value;
@@ -49,7 +49,7 @@ fn parse_hearing(alloc: Global, text: &str) -> Result<Option<ScenarioEvent>, All
 fn parse_scenario_event(alloc: Global, text: &str) -> Result<Option<ScenarioEvent>, AllocError>
     ensures { IfOk result (Reads IsScenarioEventText text.now) }
 {
-    let Some((word, fields)) = split_field(text.as_bytes()) else {
+    let Some((word, fields)) = split_event_word(text.as_bytes()) else {
         return Ok(None);
     };
     if word == HEAR {

@@ -29,9 +29,11 @@ pub struct Neighbours {
     links: Vec<(Peer, Link)>,
     /// Before this moment no deadline is due.
     due: u64,
-    /// Where the neighbour is that was looked up last. It only matters for speed: a look-up begins
-    /// there.
+    /// Where the neighbour is whose cost was looked up last. It only matters for speed: a look-up
+    /// begins there.
     near: Cell<usize>,
+    /// The same of the neighbour that sent the last message.
+    sender: Cell<usize>,
 }
 
 impl Model for Neighbours {
@@ -108,6 +110,7 @@ impl Neighbours {
                 links,
                 due: u64::MAX,
                 near: Cell::new(0),
+                sender: Cell::new(0),
             }),
             Err(_) => Err(Memory),
         }
@@ -139,24 +142,32 @@ impl Neighbours {
     }
 
     /// Where the peer's entry is, or where it would be inserted. It looks first where the last one
-    /// was found, then at the next place: a datagram is of one neighbour, and the routes of a
-    /// prefix are in the order of theirs.
+    /// was found, then at the next place: the routes of a prefix are in the order of their
+    /// neighbours.
     fn search_near(&self, peer: &Peer) -> Result<usize, usize>
         ensures found { IfOk result (IsPlaceOf peer.now self.now) }
         ensures absent { IfErr result (IsGapFor peer.now self.now) }
     {
-        let near = self.near.get();
+        self.search_by(&self.near, peer)
+    }
+
+    /// The same. Where it looks first, and where it found the peer, is in the cell.
+    fn search_by(&self, last: &Cell<usize>, peer: &Peer) -> Result<usize, usize>
+        ensures found { IfOk result (IsPlaceOf peer.now self.now) }
+        ensures absent { IfErr result (IsGapFor peer.now self.now) }
+    {
+        let near = last.get();
         if self.is_at(near, peer) {
             return Ok(near);
         }
         let next = self.next_place(near);
         if self.is_at(next, peer) {
-            self.near.set(next);
+            last.set(next);
             return Ok(next);
         }
         let found = self.search(peer);
         if let Ok(place) = found {
-            self.near.set(place);
+            last.set(place);
         }
         found
     }
@@ -175,18 +186,18 @@ impl Neighbours {
         self.search_near(peer)
     }
 
-    /// The same for the sender of a message, mostly that of the last one. So the first look is
-    /// compiled into the callers.
+    /// The same for the sender of a message, mostly that of the last one, or else the next one in
+    /// order. So the first look is compiled into the callers.
     #[inline(always)]
     fn search_sender(&self, peer: &Peer) -> Result<usize, usize>
         ensures found { IfOk result (IsPlaceOf peer.now self.now) }
         ensures absent { IfErr result (IsGapFor peer.now self.now) }
     {
-        let near = self.near.get();
+        let near = self.sender.get();
         if self.is_at(near, peer) {
             return Ok(near);
         }
-        self.search_near(peer)
+        self.search_by(&self.sender, peer)
     }
 
     /// What is known of the peer, by the place that a search for it found.
@@ -429,7 +440,15 @@ impl Neighbours {
     pub fn known(&self, peer: Peer) -> bool
         ensures { result ≡ is_some (find peer_cmp peer self.now) }
     {
-        self.link_at(peer, self.search_sender(&peer)).is_some()
+        self.is_known(&peer)
+    }
+
+    /// The same of a peer that isn't copied.
+    #[inline(always)]
+    pub fn is_known(&self, peer: &Peer) -> bool
+        ensures { result ≡ is_some (find peer_cmp peer.now self.now) }
+    {
+        self.link_at(*peer, self.search_sender(peer)).is_some()
     }
 
     /// The neighbour with exactly `place` lesser ones.

@@ -6,9 +6,7 @@ ghost use Rattle.babel_table.specs.Digits.{binary_digits};
 ghost use Rattle.babel_table.specs.Gaps.{around};
 
 use babel_choice::{Entry, RouteKey, Selection};
-use babel_table::{
-    Change, Full, GapTable, Memory, Revision, SortedTable, Sought, Steps, Stored, Table,
-};
+use babel_table::{Full, GapTable, Memory, Revision, SortedTable, Sought, Steps, Table};
 use babel_value::Prefix;
 use std::alloc::Global;
 use std::sync::ledger::Ledger;
@@ -49,11 +47,6 @@ impl Table<RouteKey, Entry> for RouteTable {
     }
 
     #[inline(always)]
-    fn put_near(&mut self, near: usize, key: RouteKey, value: Entry) -> Result<usize, Full> {
-        self.table.put_near(near, key, value)
-    }
-
-    #[inline(always)]
     fn replace(&mut self, place: usize, key: RouteKey, value: Entry) {
         self.table.replace(place, key, value);
     }
@@ -61,16 +54,6 @@ impl Table<RouteKey, Entry> for RouteTable {
     #[inline(always)]
     fn insert(&mut self, place: usize, key: RouteKey, value: Entry) {
         self.table.insert(place, key, value);
-    }
-
-    #[inline(always)]
-    fn change_near<C: Change<Entry>>(
-        &mut self,
-        near: usize,
-        key: RouteKey,
-        change: &C,
-    ) -> Result<Stored<Entry>, Full> {
-        self.table.change_near(near, key, change)
     }
 
     #[inline(always)]
@@ -136,11 +119,6 @@ impl Table<Prefix, Selection> for SelectionTable {
     }
 
     #[inline(always)]
-    fn put_near(&mut self, near: usize, key: Prefix, value: Selection) -> Result<usize, Full> {
-        self.table.put_near(near, key, value)
-    }
-
-    #[inline(always)]
     fn replace(&mut self, place: usize, key: Prefix, value: Selection) {
         self.table.replace(place, key, value);
     }
@@ -148,16 +126,6 @@ impl Table<Prefix, Selection> for SelectionTable {
     #[inline(always)]
     fn insert(&mut self, place: usize, key: Prefix, value: Selection) {
         self.table.insert(place, key, value);
-    }
-
-    #[inline(always)]
-    fn change_near<C: Change<Selection>>(
-        &mut self,
-        near: usize,
-        key: Prefix,
-        change: &C,
-    ) -> Result<Stored<Selection>, Full> {
-        self.table.change_near(near, key, change)
     }
 
     #[inline(always)]

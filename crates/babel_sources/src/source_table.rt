@@ -5,7 +5,7 @@
 ghost use Rattle.babel_table.specs.Digits.{binary_digits};
 
 use crate::sources::SourceEntry;
-use babel_table::{Change, Full, Memory, Revision, SortedTable, Sought, Steps, Stored, Table};
+use babel_table::{Full, Memory, Revision, SortedTable, Sought, Steps, Table};
 use babel_value::Source;
 use std::alloc::Global;
 use std::sync::ledger::Ledger;
@@ -46,11 +46,6 @@ impl Table<Source, SourceEntry> for SourceTable {
     }
 
     #[inline(always)]
-    fn put_near(&mut self, near: usize, key: Source, value: SourceEntry) -> Result<usize, Full> {
-        self.table.put_near(near, key, value)
-    }
-
-    #[inline(always)]
     fn replace(&mut self, place: usize, key: Source, value: SourceEntry) {
         self.table.replace(place, key, value);
     }
@@ -58,16 +53,6 @@ impl Table<Source, SourceEntry> for SourceTable {
     #[inline(always)]
     fn insert(&mut self, place: usize, key: Source, value: SourceEntry) {
         self.table.insert(place, key, value);
-    }
-
-    #[inline(always)]
-    fn change_near<C: Change<SourceEntry>>(
-        &mut self,
-        near: usize,
-        key: Source,
-        change: &C,
-    ) -> Result<Stored<SourceEntry>, Full> {
-        self.table.change_near(near, key, change)
     }
 
     #[inline(always)]

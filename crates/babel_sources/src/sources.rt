@@ -9,8 +9,8 @@ ghost use Rattle.babel_sources.specs.Sources.{pair_of, lowered, collected, colle
 
 use crate::source_table::SourceTable;
 use babel_table::{
-    Change, Due, Full, Memory, Revised, Revision, Sought, Steps, Table, find_in, find_near,
-    revise_dues,
+    Change, Due, Full, Memory, Revised, Revision, Sought, Steps, Table, change_near, find_in,
+    find_near, revise_dues,
 };
 use babel_value::{Distance, Source};
 use std::alloc::Global;
@@ -184,11 +184,8 @@ impl<T: Table<Source, SourceEntry>> SourcesOver<T> {
         let due = now.saturating_add(COLLECTION_TIME);
         self.due = self.due.min(due);
         let sending = Sending { sent, due };
-        match self.table.change_near(*near, source, &sending) {
-            Ok(stored) => {
-                *near = stored.near;
-                Ok(distance_of(stored.before))
-            }
+        match change_near(&mut self.table, near, source, &sending) {
+            Ok(before) => Ok(distance_of(before)),
             Err(full) => Err(full),
         }
     }

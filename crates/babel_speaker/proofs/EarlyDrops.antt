@@ -1,10 +1,15 @@
 -- Items that are dropped before others are queued, in place of while they are.
-use Rattle.std.specs.Prelude.{◌≡◌, ◌+◌, ◌-◌, ◌<◌, ◌≤◌, ◌^◌, ℕ, List, ◌++◌, length, drop}
+use Rattle.std.specs.Prelude.{◌≡◌, ◌+◌, ◌-◌, ◌<◌, ◌≤◌, ◌^◌, ℕ, List, [], ◌++◌, map, length, drop}
 use Rattle.std.proofs.Common.{sym, ap, ◌∙◌, arith, length-append, length-drop}
-use Rattle.std.proofs.lemmas.List.{drop-append-le, drop-drop}
+use Rattle.std.proofs.lemmas.List.{drop-append-le, drop-drop, length-map}
+use Rattle.circular_buffer.specs.Buffer.{keep_last}
+use Rattle.babel_value.specs.Prefixes.{PrefixValue}
 use Rattle.babel_state.specs.declared.items.Item.{Item}
+use Rattle.babel_state.specs.declared.items.Item.TheVariants.{Update}
+use Rattle.babel_state.specs.declared.items.Target.{Target}
 use Rattle.babel_state.specs.Queueing.{Pending, counted, last_ones, queued, queued_at_once}
 use Rattle.babel_state.proofs.Cutting.{queueing-cuts}
+use Rattle.babel_speaker.proofs.Runs.{with_run, either_cut, either_fits}
 
 -- The oldest items are dropped, and counted.
 abbrev dropping : ℕ → List Item → ℕ → Pending
@@ -34,25 +39,18 @@ dropped_early k l xs dropped few small there needed =
     ∙ at_once k l xs dropped there needed
     ∙ sym (queueing-cuts xs (record { items = l; dropped = dropped }) few small)
 
--- A ring whose first items go, all of which were removed.
-pub still_removed : (ring left : List Item) (removed len room : ℕ) → left ≡ drop (length ring - room) ring → len ≡ length ring → len - room ≤ removed →
-    drop (removed - (len - room)) left ≡ drop removed ring
-still_removed ring left removed len room is has few =
-    ap (drop (removed - (len - room))) is
-    ∙ drop-drop (removed - (len - room)) (length ring - room) ring
-    ∙ ap (λ k. drop k ring) (omega (arith, has, few))
-
--- The same if more go than were removed.
-pub newly_dropped : (ring left xs : List Item) (removed len room count dropped after : ℕ) → left ≡ drop (length ring - room) ring → len ≡ length ring →
-    length ring ≤ 4096 → removed ≤ length ring → room ≡ 4096 - count → count ≤ length xs → removed < len - room → dropped < 2 ^ 64 →
-    after ≡ counted dropped ((len - room) - removed) →
-    queued xs (record { items = left; dropped = after }) ≡ queued xs (record { items = drop removed ring; dropped = dropped })
-newly_dropped ring left xs removed len room count dropped after is has few within makes enough more small counts =
-    let k : ℕ = (len - room) - removed in
-    let l : List Item = drop removed ring in
-    let items : left ≡ drop k l =
-    is ∙ ap (λ m. drop m ring) (omega (arith, has, more)) ∙ sym (drop-drop k removed ring)
+-- Of the items or of a run the last `room` are kept.
+pub room_made : (target : Target) (items left : List Item) (run rest : List PrefixValue) (xs : List Item) (room count dropped after : ℕ) → (0 < length run → items ≡ []) →
+    length items ≤ 4096 → length run ≤ 4096 → dropped < 2 ^ 64 → room ≡ 4096 - count → count ≤ length xs →
+    left ≡ keep_last room items → rest ≡ keep_last room run → after ≡ counted dropped ((length items - room) + (length run - room)) →
+    queued xs (with_run left target rest after) ≡ queued xs (with_run items target run dropped)
+room_made target items left run rest xs room count dropped after only few fewer small makes enough is_left is_rest counts =
+    let k : ℕ = (length items - room) + (length run - room) in
+    let l : List Item = items ++ map (Update target) run in
+    let kept : left ++ map (Update target) rest ≡ drop k l =
+    (λ i. is_left i ++ map (Update target) (is_rest i))
+    ∙ either_cut target items run (length items - room) (length run - room) k only (λ none. omega (arith, ap length none)) (λ none. omega (arith, ap length none))
     in
-    let long : length l ≡ length ring - removed = length-drop removed ring in
-    ap (queued xs) (λ i. record { items = items i; dropped = counts i })
-    ∙ dropped_early k l xs dropped (omega (arith, long, few)) small (omega (arith, long, has, within)) (omega (arith, long, has, within, makes, enough, more))
+    let long : length l ≡ length items + length run = omega (arith, length-append items (map (Update target) run), length-map run (Update target)) in
+    ap (queued xs) (λ i. record { items = kept i; dropped = counts i })
+    ∙ dropped_early k l xs dropped (either_fits target items run 4096 only few fewer) small (omega (arith, long)) (omega (arith, long, makes, enough))

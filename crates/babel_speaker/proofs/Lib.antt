@@ -13,6 +13,7 @@ pub mod Networks
 pub mod Walking
 pub mod Gathering
 pub mod Reaching
+pub mod Runs
 pub mod EarlyDrops
 pub mod ShortHellos
 pub mod Firing

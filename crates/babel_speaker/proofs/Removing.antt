@@ -1,4 +1,4 @@
--- The items that are left after one more is removed.
+-- The elements that are left after one more is removed.
 use Rattle.std.proofs.Common.{◌≡◌, ℕ, zero, suc, ◌+◌, ◌≤◌, List, [], ◌∷◌, drop, length, refl, sym, ap, ◌∙◌, add-one}
 use Rattle.std.proofs.lemmas.List.{drop_all}
 

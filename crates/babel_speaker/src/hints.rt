@@ -34,8 +34,11 @@ pub struct Hints {
     /// What the last datagram meant. The list is kept, so that the next datagram mostly allocates
     /// none.
     pub placed: Vec<Placed>,
-    /// Where the searches of an update, or of the items of a datagram, begin.
+    /// Where the searches of a received update begin.
     pub cursor: Cursor,
+    /// Where those of the next item begin that is sent. Items mostly are in the order of their
+    /// prefixes, and a speaker sends the same ones in turns.
+    pub sending: Cursor,
 }
 
 impl Hints {
@@ -53,6 +56,7 @@ impl Hints {
             trail: Trail::new(),
             placed: Vec::new(alloc),
             cursor: Cursor::new(),
+            sending: Cursor::new(),
         })
     }
 

@@ -11,6 +11,7 @@ pub mod reachable;
 pub mod requests;
 pub mod scratch;
 pub mod timers;
+pub mod waiting;
 
 pub use announced::Announced;
 pub use interfaces::Interfaces;

@@ -3,13 +3,13 @@
 //! what the last one passed over is searched. So a key that is near is found in few comparisons,
 //! and one that is far in at most some twice as many as a search of the whole table takes.
 
-ghost use Rattle.std.specs.Prelude.{◌≡◌, true, ◌+◌, ◌^◌, ◌≤◌, ◌<◌, take, drop, not, length, IsSome, IsNone, IsTrue, IsFalse};
+ghost use Rattle.std.specs.Prelude.{◌≡◌, ◌↔◌, true, ◌+◌, ◌^◌, ◌≤◌, ◌<◌, take, drop, not, length, IfOk, IsErr, OnOk, OnErr, IsSome, IsNone, IsTrue, IsFalse};
 ghost use Rattle.std.specs.List.{list_all};
-ghost use Rattle.std.specs.FinMap.{find};
+ghost use Rattle.std.specs.FinMap.{find, put};
 ghost use Rattle.babel_table.specs.Places.{IsAt, IsGap, are_lesser, are_greater};
 
 use crate::bounds::places_between;
-use crate::{Bound, Key, Steps, Table, places_below};
+use crate::{Bound, Change, Full, Key, Steps, Table, places_below};
 use std::cmp::Ordering;
 use std::marker::Brand;
 use std::sync::ledger::{Blank, Ledger};
@@ -186,6 +186,49 @@ pub fn find_near<K: Key, V: Copy, T: Table<K, V>>(table: &T, near: &mut usize, k
     Some(entry.1)
 }
 
+/// Stores the value at the key. `near` becomes the index of the key: keys that rise are stored in
+/// one pass.
+#[inline(always)]
+pub fn put_near<K: Key, V: Copy, T: Table<K, V>>(table: &mut T, near: &mut usize, key: K, value: V)
+    requires room { length (T.entries table.old) < T.room table.old }
+    ensures entries { T.entries table.new ≡ put K.order key value (T.entries table.old) }
+    ensures room { T.room table.new ≡ T.room table.old }
+{
+    if seek_near(table, near, &key) {
+        table.replace(*near, key, value);
+    } else {
+        table.insert(*near, key, value);
+    }
+}
+
+/// Stores what the change makes of the value at the key, and returns the value from before. `near`
+/// becomes the index of the key. `Full` if and only if the key is new and the table is full.
+#[inline(always)]
+pub fn change_near<K: Key, V: Copy, T: Table<K, V>, C: Change<V>>(
+    table: &mut T,
+    near: &mut usize,
+    key: K,
+    change: &C,
+) -> Result<Option<V>, Full>
+    ensures full { IsErr result ↔ (IsNone (find K.order key (T.entries table.old)) × (length (T.entries table.old) ≡ T.room table.old)) }
+    ensures ok { OnOk result (T.entries table.new ≡ put K.order key (C.changed change.now (find K.order key (T.entries table.old))) (T.entries table.old)) }
+    ensures before { IfOk result (λ before. before ≡ find K.order key (T.entries table.old)) }
+    ensures err { OnErr result (T.entries table.new ≡ T.entries table.old) }
+    ensures room { T.room table.new ≡ T.room table.old }
+{
+    let before = find_near(table, near, &key);
+    let value = change.changed(before);
+    if before.is_some() {
+        table.replace(*near, key, value);
+        return Ok(before);
+    }
+    // A new key is rare, and its place is searched for again.
+    match table.put(key, value) {
+        Ok(()) => Ok(None),
+        Err(full) => Err(full),
+    }
+}
+
 /// Whether the table has the key. `near` becomes the index of the key, or the one at which it would
 /// be inserted.
 #[inline(always)]
@@ -220,6 +263,23 @@ fn seek_past_all<K: Key, V: Copy, T: Table<K, V>>(table: &T, near: &mut usize, k
     };
     match order_of(key, &last.0) {
         Ordering::Greater => false,
+        _ => search_from_first(table, near, key),
+    }
+}
+
+/// The same by a search. Keys that are sought in turns begin again with the first one.
+fn search_from_first<K: Key, V: Copy, T: Table<K, V>>(table: &T, near: &mut usize, key: &K) -> bool
+    ensures at { IsTrue result → IsAt key.now (T.entries table.now) near.new }
+    ensures gap { IsFalse result → IsGap K.order key.now (T.entries table.now) near.new }
+{
+    let Some(first) = table.at(0) else {
+        return search_for(table, near, key);
+    };
+    match order_of(key, &first.0) {
+        Ordering::Equal => {
+            *near = 0;
+            true
+        }
         _ => search_for(table, near, key),
     }
 }

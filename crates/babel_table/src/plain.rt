@@ -7,7 +7,7 @@ ghost use Rattle.babel_table.specs.Insertions.{in_order, are_distinct, sorted_in
 ghost use Rattle.babel_table.specs.Places.{IsAt};
 
 use crate::revisions::compact;
-use crate::{Change, Full, Key, Memory, Revision, Sought, Steps, Stored, Table};
+use crate::{Full, Key, Memory, Revision, Sought, Steps, Table};
 use std::alloc::Global;
 use std::marker::Brand;
 use std::sync::ledger::{Blank, Ledger};
@@ -72,33 +72,12 @@ impl<K: Key, V: Copy> Table<K, V> for PlainTable<K, V> {
         self.remove(key);
     }
 
-    fn put_near(&mut self, near: usize, key: K, value: V) -> Result<usize, Full> {
-        match self.put(key, value) {
-            Ok(()) => Ok(near),
-            Err(full) => Err(full),
-        }
-    }
-
     fn replace(&mut self, _place: usize, key: K, value: V) {
         let _ = self.put(key, value);
     }
 
     fn insert(&mut self, _place: usize, key: K, value: V) {
         let _ = self.put(key, value);
-    }
-
-    fn change_near<C: Change<V>>(
-        &mut self,
-        near: usize,
-        key: K,
-        change: &C,
-    ) -> Result<Stored<V>, Full> {
-        let before = value_of(self, &key);
-        let value = change.changed(before);
-        match self.put(key, value) {
-            Ok(()) => Ok(Stored { near, before }),
-            Err(full) => Err(full),
-        }
     }
 
     fn revise<R: Revision<K, V>>(&mut self, revision: &R) {
@@ -142,16 +121,6 @@ fn place_of<K: Key, V: Copy>(table: &PlainTable<K, V>, key: &K) -> Option<usize>
     ensures { MatchOption result (find K.order key.now table.now.entries.items ≡ None) (IsAt key.now table.now.entries.items) }
 {
     place_on::<Brand, K, V>(table, key, Blank::new(1))
-}
-
-/// The value at the key.
-fn value_of<K: Key, V: Copy>(table: &PlainTable<K, V>, key: &K) -> Option<V>
-    ensures { result ≡ find K.order key.now (in_order K.order table.now.entries.items) }
-{
-    match place_of(table, key) {
-        Some(place) => Some(table.entries[place].1),
-        None => None,
-    }
 }
 
 fn place_on<L: Ledger, K: Key, V: Copy>(

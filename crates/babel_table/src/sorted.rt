@@ -8,14 +8,11 @@ ghost use Rattle.babel_table.specs.Places.{IsAt, IsGap, are_lesser};
 use crate::gap::GapVec;
 use crate::revisions::compact;
 use crate::sequences::Sequence;
-use crate::{Change, Full, Key, Memory, Revision, Sought, Steps, Stored, Table};
+use crate::{Full, Key, Memory, Revision, Sought, Steps, Table};
 use std::alloc::Global;
 use std::cmp::Ordering;
 use std::marker::{Brand, PhantomData};
 use std::sync::ledger::{Blank, Ledger};
-
-/// How many entries a walk passes before it gives up and searches.
-const FAR: usize = 4;
 
 /// A table kept in the order of its keys, in a sequence of the type `Q`. A look-up is a binary
 /// search.
@@ -60,14 +57,6 @@ impl<K: Key, V: Copy, Q: Sequence<K, V>> Table<K, V> for SortedTable<K, V, Q> {
 
     fn put(&mut self, key: K, value: V) -> Result<(), Full> {
         let found = place_of(self, &key);
-        match store(self, found, key, value) {
-            Ok(_) => Ok(()),
-            Err(full) => Err(full),
-        }
-    }
-
-    fn put_near(&mut self, near: usize, key: K, value: V) -> Result<usize, Full> {
-        let found = place_near(self, near, &key);
         store(self, found, key, value)
     }
 
@@ -77,21 +66,6 @@ impl<K: Key, V: Copy, Q: Sequence<K, V>> Table<K, V> for SortedTable<K, V, Q> {
 
     fn insert(&mut self, place: usize, key: K, value: V) {
         self.entries.insert(place, key, value);
-    }
-
-    fn change_near<C: Change<V>>(
-        &mut self,
-        near: usize,
-        key: K,
-        change: &C,
-    ) -> Result<Stored<V>, Full> {
-        let found = place_near(self, near, &key);
-        let before = value_at(self, &key, found);
-        let value = change.changed(before);
-        match store(self, found, key, value) {
-            Ok(near) => Ok(Stored { near, before }),
-            Err(full) => Err(full),
-        }
     }
 
     fn remove(&mut self, key: &K) {
@@ -131,32 +105,14 @@ impl<K: Key, V: Copy, Q: Sequence<K, V>> SortedTable<K, V, Q> {
     }
 }
 
-/// The value at the index at which a search found the key, or none.
-fn value_at<K: Key, V: Copy, Q: Sequence<K, V>>(
-    table: &SortedTable<K, V, Q>,
-    key: &K,
-    found: Result<usize, usize>,
-) -> Option<V>
-    requires found { IfOk found (IsAt key.now (Q.items table.now.entries)) }
-    requires missing { IfErr found (IsGap K.order key.now (Q.items table.now.entries)) }
-    ensures { result ≡ find K.order key.now (Q.items table.now.entries) }
-{
-    // The key is in the contract alone.
-    let _ = key;
-    match found {
-        Ok(place) => Some(table.entries.item(place).1),
-        Err(_) => None,
-    }
-}
-
-/// Stores the value at the index at which a search found the key, or found it missing, and returns
-/// the index. `Full` if and only if the key is missing and the table is full.
+/// Stores the value at the index at which a search found the key, or found it missing. `Full` if
+/// and only if the key is missing and the table is full.
 fn store<K: Key, V: Copy, Q: Sequence<K, V>>(
     table: &mut SortedTable<K, V, Q>,
     found: Result<usize, usize>,
     key: K,
     value: V,
-) -> Result<usize, Full>
+) -> Result<(), Full>
     requires found { IfOk found (IsAt key (Q.items table.old.entries)) }
     requires missing { IfErr found (IsGap K.order key (Q.items table.old.entries)) }
     ensures full { IsErr result ↔ (IsNone (find K.order key (Q.items table.old.entries)) × (length (Q.items table.old.entries) ≡ table.old.places)) }
@@ -167,14 +123,14 @@ fn store<K: Key, V: Copy, Q: Sequence<K, V>>(
     match found {
         Ok(place) => {
             table.entries.set(place, key, value);
-            Ok(place)
+            Ok(())
         }
         Err(place) => {
             if table.entries.len() == table.places {
                 return Err(Full);
             }
             table.entries.insert(place, key, value);
-            Ok(place)
+            Ok(())
         }
     }
 }
@@ -226,66 +182,4 @@ fn place_on<L: Ledger, K: Key, V: Copy, Q: Sequence<K, V>>(
 {
     let mut steps = Steps::<L>::open(blank);
     search(table, key, &mut steps)
-}
-
-/// The same. It walks a few entries on from the index `near` if the key there is lesser, and
-/// searches otherwise.
-fn place_near<K: Key, V: Copy, Q: Sequence<K, V>>(
-    table: &SortedTable<K, V, Q>,
-    near: usize,
-    key: &K,
-) -> Result<usize, usize>
-    ensures found { IfOk result (IsAt key.now (Q.items table.now.entries)) }
-    ensures missing { IfErr result (IsGap K.order key.now (Q.items table.now.entries)) }
-{
-    near_on::<Brand, K, V, Q>(table, near, key, Blank::new(1))
-}
-
-fn near_on<L: Ledger, K: Key, V: Copy, Q: Sequence<K, V>>(
-    table: &SortedTable<K, V, Q>,
-    near: usize,
-    key: &K,
-    blank: Blank,
-) -> Result<usize, usize>
-    requires name { blank.name ≡ L.name }
-    requires parts { blank.parts ≡ L.parts }
-    requires several { 0 < blank.parts }
-    ensures found { IfOk result (IsAt key.now (Q.items table.now.entries)) }
-    ensures missing { IfErr result (IsGap K.order key.now (Q.items table.now.entries)) }
-{
-    let mut steps = Steps::<L>::open(blank);
-    if near >= table.entries.len() {
-        return search(table, key, &mut steps);
-    }
-    match key.compare(&table.entries.item(near).0, &mut steps) {
-        Ordering::Less => search(table, key, &mut steps),
-        Ordering::Equal => Ok(near),
-        Ordering::Greater => walk(table, near + 1, key, &mut steps),
-    }
-}
-
-/// The same by a walk from an index on; all keys before it are lesser.
-fn walk<L: Ledger, K: Key, V: Copy, Q: Sequence<K, V>>(
-    table: &SortedTable<K, V, Q>,
-    start: usize,
-    key: &K,
-    steps: &mut Steps<L>,
-) -> Result<usize, usize>
-    requires within { start ≤ length (Q.items table.now.entries) }
-    requires lesser { are_lesser K.order key.now (take start (Q.items table.now.entries)) ≡ true }
-    ensures found { IfOk result (IsAt key.now (Q.items table.now.entries)) }
-    ensures missing { IfErr result (IsGap K.order key.now (Q.items table.now.entries)) }
-{
-    let len = table.entries.len();
-    for index in start..len {
-        if index.wrapping_sub(start) > FAR {
-            return search(table, key, steps);
-        }
-        match key.compare(&table.entries.item(index).0, steps) {
-            Ordering::Less => return Err(index),
-            Ordering::Equal => return Ok(index),
-            Ordering::Greater => {}
-        }
-    }
-    Err(len)
 }

@@ -5,19 +5,10 @@ ghost use Rattle.std.specs.FinMap.{find, put, is_sorted};
 ghost use Rattle.babel_table.specs.Entries.{revised_entries, without, with_value};
 ghost use Rattle.babel_table.specs.Places.{IsAt, IsGap};
 
-use crate::{Change, Full, Key, Memory, Revision, Sought, Steps};
+use crate::{Full, Key, Memory, Revision, Sought, Steps};
 use std::alloc::Global;
 use std::marker::Brand;
 use std::sync::ledger::{Blank, Ledger};
-
-/// What a value that is stored takes the place of.
-#[derive(Drop)]
-pub struct Stored<V: Copy> {
-    /// An index near that of the key: the next look-up may begin there.
-    pub near: usize,
-    /// The value that the key had before.
-    pub before: Option<V>,
-}
 
 /// A table: at most `room` values, each at a key of its own. Contracts see it as the list of its
 /// entries in the order of their keys.
@@ -48,15 +39,6 @@ pub trait Table<K: Key, V: Copy>: Drop {
         ensures err { OnErr result (entries self.new ≡ entries self.old) }
         ensures room { room self.new ≡ room self.old };
 
-    /// The same as `put`, and it returns an index near that of the key. The look-up begins at the
-    /// index `near`, which only matters for speed: keys that rise, each near the last one, are
-    /// stored in one pass.
-    fn put_near(&mut self, near: usize, key: K, value: V) -> Result<usize, Full>
-        ensures full { IsErr result ↔ (IsNone (find K.order key (entries self.old)) × (length (entries self.old) ≡ room self.old)) }
-        ensures ok { OnOk result (entries self.new ≡ put K.order key value (entries self.old)) }
-        ensures err { OnErr result (entries self.new ≡ entries self.old) }
-        ensures room { room self.new ≡ room self.old };
-
     /// Stores the value at the key, which the table has at the index. There is no look-up.
     fn replace(&mut self, place: usize, key: K, value: V)
         requires at { IsAt key (entries self.old) place }
@@ -69,21 +51,6 @@ pub trait Table<K: Key, V: Copy>: Drop {
         requires gap { IsGap K.order key (entries self.old) place }
         requires room { length (entries self.old) < room self.old }
         ensures entries { entries self.new ≡ put K.order key value (entries self.old) }
-        ensures room { room self.new ≡ room self.old };
-
-    /// Stores what the change makes of the value at the key, with one look-up, and returns what it
-    /// takes the place of. The look-up begins near an index, as that of `put_near`. `Full` as of
-    /// `put`.
-    fn change_near<C: Change<V>>(
-        &mut self,
-        near: usize,
-        key: K,
-        change: &C,
-    ) -> Result<Stored<V>, Full>
-        ensures full { IsErr result ↔ (IsNone (find K.order key (entries self.old)) × (length (entries self.old) ≡ room self.old)) }
-        ensures ok { OnOk result (entries self.new ≡ put K.order key (C.changed change.now (find K.order key (entries self.old))) (entries self.old)) }
-        ensures before { IfOk result (λ stored. stored.before ≡ find K.order key (entries self.old)) }
-        ensures err { OnErr result (entries self.new ≡ entries self.old) }
         ensures room { room self.new ≡ room self.old };
 
     /// Removes the entry of the key, if there is one.

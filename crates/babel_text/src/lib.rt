@@ -14,7 +14,7 @@ mod prefixes;
 mod router_ids;
 
 pub use errors::{LineFault, MAX_LINE_LEN};
-pub use fields::split_field;
+pub use fields::{split_event_word, split_field};
 pub use log_lines::{Action, Event, is_skipped, parse_line};
 pub use numbers::{parse_u8, parse_u16, parse_u64, split_number, split_u8, u8_of, u16_of, u64_of};
 pub use octets::parse_octets;

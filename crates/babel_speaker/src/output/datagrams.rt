@@ -107,7 +107,7 @@ fn add_item(
         return false;
     }
     let mut out = Outgoing::Nothing;
-    crate::output::messages::outgoing(core, item, &mut hints.cursor, &mut out);
+    crate::output::messages::outgoing(core, item, &mut hints.sending, &mut out);
     match out {
         Outgoing::Message(to, message) => {
             if !is_same_target(&target, &to) || !builder.add(&message) {
@@ -168,8 +168,7 @@ pub(crate) fn next_datagram(
 {
     items_mean_messages();
     out.clear();
-    hints.cursor = Cursor::new();
-    let Some((target, message)) = skip_silent(core, &mut hints.cursor) else {
+    let Some((target, message)) = skip_silent(core, &mut hints.sending) else {
         return None;
     };
     let Some(source) = crate::output::items::transport(core, target.iface) else {

@@ -73,7 +73,10 @@ fn apply_message(
             let source = Source { prefix, router };
             let sent = Distance { seqno, metric };
             let near = &mut cursor.source;
-            match core.sources.lower_near(departure.now, source, sent, near) {
+            let lowered = core.sources.lower_near(departure.now, source, sent, near);
+            // The next Update mostly is of the next source.
+            *near = near.wrapping_add(1);
+            match lowered {
                 Ok(Some(pair)) => Distance { seqno, metric }.better(pair),
                 // The source had no entry. The table isn't full.
                 Ok(None) | Err(_) => true,
@@ -118,11 +121,11 @@ pub fn send_message(core: &mut Core, departure: Departure, message: &Message, hi
     ensures marked { IsFalse hints.new.lowered → IsFalse hints.old.lowered }
     ensures saved { IsFalse hints.new.lowered → snapshot_of core.new ≡ snapshot_of core.old }
 {
-    if !apply_message(core, departure, message, &mut hints.cursor) {
+    if !apply_message(core, departure, message, &mut hints.sending) {
         return;
     }
     hints.lowered = true;
-    if hints.settled && !is_named_current(core, message, &mut hints.cursor) {
+    if hints.settled && !is_named_current(core, message, &mut hints.sending) {
         hints.settled = false;
     }
 }

@@ -77,8 +77,10 @@ pub fn queue_requests_to_unfeasible(
         seqno,
         hops,
     } = *request;
+    // The sources of a prefix are next to each other.
+    let mut near = usize::MAX;
     for route in routes.routes_of(&source.prefix) {
-        if is_unfeasible(&route, sources) {
+        if is_unfeasible_near(&route, sources, &mut near) {
             let peer = route.0.peer;
             pending.push(Item::Request {
                 peer,
@@ -116,7 +118,7 @@ fn queue_updates_of_selected(
         to: Some(peer.addr),
     };
     for prefix in prefixes {
-        queue_update(pending, target, prefix);
+        pending.push_update(&target, prefix);
     }
 }
 
@@ -137,7 +139,7 @@ pub fn queue_updates_of(
     let mut walk = Reachable::new(announced, routes);
     pending.make_room(walk.at_least());
     while let Some(prefix) = walk.next() {
-        queue_update(pending, target, prefix);
+        pending.push_update(&target, prefix);
         // A walk over selections alone is shorter.
         if let Some(rest) = walk.rest() {
             queue_updates_of_selected(pending, rest, peer);

@@ -141,29 +141,11 @@ fn is_of_choice(selection: &Selection, choice: &Choice) -> bool
         && entry.distance.seqno == choice.seqno
 }
 
-/// Whether this is what is reported of the prefix's selected route. `false` says nothing. The
-/// search begins at the index `near` of the selections, which becomes the one after the prefix, or
-/// that at which the prefix would be. No selection is copied.
-#[inline(always)]
-#[tactic(auto, unfolding(babel_state::specs::Calls::selected_route), using(crate::proofs::Choices::chosen))]
-fn reports_near(core: &Core, prefix: &Prefix, choice: &Choice, near: &mut usize) -> bool
-    ensures { IsTrue result → option_map choice_of (selected_route prefix.now core.now) ≡ Some choice.now }
-{
-    let Some(found) = core.routes.selection_near(prefix, near) else {
-        return false;
-    };
-    let selection = &found.1;
-    if !is_of_choice(selection, choice) {
-        return false;
-    }
-    let metric = selection.entry.distance.metric.add(core.cost(&choice.peer));
-    metric == choice.metric
-}
-
 /// What became of the choice that a log named last of the prefix. Mostly it is kept. The search
 /// begins at the index `near` of the selections, which becomes the one after the prefix, or that at
-/// which the prefix would be.
+/// which the prefix would be. No selection is copied.
 #[inline]
+#[tactic(auto, unfolding(babel_state::specs::Calls::selected_route), using(crate::proofs::Choices::chosen))]
 pub fn choice_near(
     core: &Core,
     prefix: &Prefix,
@@ -173,15 +155,23 @@ pub fn choice_near(
     ensures kept { result ≡ LastChoice.Kept → last.now ≡ option_map choice_of (selected_route prefix.now core.now) }
     ensures now { (choice : Option Choice) → result ≡ LastChoice.Now choice → choice ≡ option_map choice_of (selected_route prefix.now core.now) }
 {
+    let Some(found) = core.routes.selection_near(prefix, near) else {
+        return LastChoice::Now(None);
+    };
+    let selection = &found.1;
+    let entry = &selection.entry;
+    let metric = entry.distance.metric.add(core.cost(&selection.peer));
     if let Some(choice) = last {
-        if reports_near(core, prefix, choice, near) {
+        if metric == choice.metric && is_of_choice(selection, choice) {
             return LastChoice::Kept;
         }
     }
-    match selected_route_near(core, prefix, near) {
-        Some(selected) => LastChoice::Now(Some(selected.choice())),
-        None => LastChoice::Now(None),
-    }
+    LastChoice::Now(Some(Choice {
+        peer: selection.peer,
+        metric,
+        router: entry.router,
+        seqno: entry.distance.seqno,
+    }))
 }
 
 /// The entry of the prefix that exactly `index` others come before, with its neighbour and the cost

@@ -101,7 +101,7 @@ impl Core {
     pub fn is_neighbour(&self, peer: &Peer) -> bool
         ensures { result ≡ is_neighbour peer.now self.now }
     {
-        self.neighbours.known(*peer)
+        self.neighbours.is_known(peer)
     }
 
     /// The cost of receiving from the peer.

@@ -1,36 +1,41 @@
 //! The items that wait to be sent, the oldest first.
 
-ghost use Rattle.std.specs.Prelude.{◌≡◌, ◌≤◌, List, [], ◌∷◌, drop, length, slice_get, IfOk, IsTrue, IsFalse};
+ghost use Rattle.std.specs.Prelude.{◌≡◌, ◌≤◌, ◌<◌, ◌+◌, List, [], ◌∷◌, ◌++◌, map, drop, length, slice_get, IfOk, IsTrue, IsFalse};
 ghost use Rattle.babel_state.specs.Queueing.{queued};
+ghost use Rattle.babel_state.specs.Limits.{most_pending};
 ghost use Rattle.babel_state.specs.declared.items.Item.{Item};
+ghost use Rattle.babel_state.specs.declared.items.Item.TheVariants.{Update};
 
-use babel_state::{Item, MAX_PENDING};
-use circular_buffer::HeapCircularBuffer;
+use crate::tables::waiting::Waiting;
+use babel_state::{Item, MAX_PENDING, Target};
+use babel_value::{Addr, Prefix};
 use std::alloc::{AllocError, Global};
 use std::marker::Model;
 
 /// The pending items, at most 4,096, and how many were dropped since there was no room.
 ///
-/// An item that is removed stays at its place until all are, or until the place is needed. So the
-/// first places are used again and again, and the others are touched only if that many items wait.
+/// If nothing but Updates to one target is pending, their prefixes alone may be kept, which is
+/// a third of the octets. As soon as anything else is queued they are items like all others.
 #[derive(Drop)]
 pub struct PendingItems {
-    items: HeapCircularBuffer<Item>,
-    /// How many of the oldest were removed.
-    removed: usize,
+    items: Waiting<Item>,
+    /// The prefixes of Updates to the target. If there are any, there are no items.
+    run: Waiting<Prefix>,
+    /// Where the Updates of the run go.
+    target: Target,
     dropped: u64,
 }
 
 impl Model for PendingItems {
-    ghost use Rattle.std.specs.Prelude.{◌≡◌, ◌≤◌, drop, length};
+    ghost use Rattle.std.specs.Prelude.{◌≡◌, ◌<◌, [], ◌++◌, map, length};
     ghost use Rattle.babel_state.specs.Queueing.{Pending};
-    ghost use Rattle.babel_state.specs.Limits.{most_pending};
+    ghost use Rattle.babel_state.specs.declared.items.Item.TheVariants.{Update};
 
     ghost Value = { Pending };
 
-    ghost view = { λ p. record { items = drop p.removed p.items.items; dropped = p.dropped } };
+    ghost view = { λ p. record { items = p.items ++ map (Update p.target) p.run; dropped = p.dropped } };
 
-    ghost invariant = { λ p. (p.items.capacity ≡ most_pending) × (p.removed ≤ length p.items.items) };
+    ghost invariant = { λ p. 0 < length p.run → p.items ≡ [] };
 }
 
 impl PendingItems {
@@ -38,10 +43,12 @@ impl PendingItems {
     pub fn new(alloc: Global) -> Result<PendingItems, AllocError>
         ensures { IfOk result (λ pending. pending ≡ record { items = []; dropped = 0 }) }
     {
-        let items = HeapCircularBuffer::with_capacity(alloc, MAX_PENDING)?;
+        let items = Waiting::new(alloc)?;
+        let run = Waiting::new(alloc)?;
         Ok(PendingItems {
             items,
-            removed: 0,
+            run,
+            target: Target { iface: 0, to: None },
             dropped: 0,
         })
     }
@@ -51,17 +58,10 @@ impl PendingItems {
     pub fn push(&mut self, item: Item)
         ensures { self.new ≡ queued (item ∷ []) self.old }
     {
-        let full = self.items.len() == MAX_PENDING;
-        self.items.push_back(item);
-        if !full {
-            return;
+        end_run(&mut self.items, &self.target, &mut self.run);
+        if self.items.push(item) {
+            self.dropped = self.dropped.saturating_add(1);
         }
-        // The ring gave up its first item: one that was removed, or else the oldest one.
-        if self.removed > 0 {
-            self.removed -= 1;
-            return;
-        }
-        self.dropped = self.dropped.saturating_add(1);
     }
 
     /// The same if the ring has a place for the item. If it returns `false`, nothing has changed.
@@ -71,9 +71,46 @@ impl PendingItems {
         ensures queued { IsTrue result → self.new ≡ queued (item ∷ []) self.old }
         ensures full { IsFalse result → self.new ≡ self.old }
     {
-        match self.items.try_push_back(item) {
-            Ok(()) => true,
-            Err(_) => false,
+        if !self.run.is_empty() {
+            return false;
+        }
+        self.items.try_push_back(item)
+    }
+
+    /// Queues an Update. Many to one target are queued fastest while nothing else is pending.
+    #[inline(always)]
+    pub fn push_update(&mut self, target: &Target, prefix: Prefix)
+        ensures { self.new ≡ queued (Update target.now prefix ∷ []) self.old }
+    {
+        if self.items.is_empty() && is_same_target(&self.target, target) {
+            if self.run.try_push_back(prefix) {
+                return;
+            }
+        }
+        // The call takes a copy, so that the prefix itself needn't be in memory before.
+        let copy = prefix;
+        self.push_other_update(target, copy);
+    }
+
+    /// Queues an Update that isn't the next one of a run, or for which the ring has no place.
+    #[inline(never)]
+    fn push_other_update(&mut self, target: &Target, prefix: Prefix)
+        ensures { self.new ≡ queued (Update target.now prefix ∷ []) self.old }
+    {
+        if self.items.is_empty() && self.run.is_empty() {
+            self.target = *target;
+            self.run.push(prefix);
+            return;
+        }
+        if !self.items.is_empty() || !is_same_target(&self.target, target) {
+            self.push(Item::Update {
+                target: *target,
+                prefix,
+            });
+            return;
+        }
+        if self.run.push(prefix) {
+            self.dropped = self.dropped.saturating_add(1);
         }
     }
 
@@ -83,39 +120,32 @@ impl PendingItems {
     pub fn make_room(&mut self, count: usize)
         ensures { (xs : List Item) → count ≤ length xs → queued xs self.new ≡ queued xs self.old }
     {
-        let len = self.items.len();
         let room = MAX_PENDING.saturating_sub(count);
-        if len <= room {
-            return;
-        }
-        let gone = len - room;
-        self.items.truncate_front(room);
-        // Those that were removed already are the first to go.
-        if gone <= self.removed {
-            self.removed -= gone;
-            return;
-        }
-        self.dropped = self.dropped.saturating_add((gone - self.removed) as u64);
-        self.removed = 0;
+        let gone = self.items.keep_last(room) + self.run.keep_last(room);
+        self.dropped = self.dropped.saturating_add(gone as u64);
     }
 
     /// The oldest item.
     pub fn front(&self) -> Option<Item>
         ensures { result ≡ slice_get self.now.items 0 }
     {
-        self.items.get(self.removed).copied()
+        match self.run.front() {
+            Some(prefix) => Some(Item::Update {
+                target: self.target,
+                prefix,
+            }),
+            None => self.items.front(),
+        }
     }
 
     /// Removes the oldest item, if there is one.
     pub fn pop(&mut self)
         ensures { self.new ≡ record self.old { items = drop 1 self.old.items } }
     {
-        let left = self.items.len() - self.removed;
-        if left > 1 {
-            self.removed += 1;
+        if self.run.is_empty() {
+            self.items.pop();
         } else {
-            self.items.clear();
-            self.removed = 0;
+            self.run.pop();
         }
     }
 
@@ -124,7 +154,7 @@ impl PendingItems {
         ensures len { result ≡ length self.now.items }
         ensures within { result ≤ MAX_PENDING }
     {
-        self.items.len() - self.removed
+        self.items.len() + self.run.len()
     }
 
     /// How many items were dropped since there was no room.
@@ -132,5 +162,53 @@ impl PendingItems {
         ensures { result ≡ self.now.dropped }
     {
         self.dropped
+    }
+}
+
+/// Moves the Updates of a run after the items.
+#[inline(always)]
+fn end_run(items: &mut Waiting<Item>, target: &Target, run: &mut Waiting<Prefix>)
+    requires { 0 < length run.old → items.old ≡ [] }
+    ensures items { items.new ≡ items.old ++ map (Update target.now) run.old }
+    ensures run { run.new ≡ [] }
+{
+    if !run.is_empty() {
+        move_run(items, target, run);
+    }
+}
+
+/// The same.
+#[inline(never)]
+fn move_run(items: &mut Waiting<Item>, target: &Target, run: &mut Waiting<Prefix>)
+    requires { length items.old + length run.old ≤ most_pending }
+    ensures items { items.new ≡ items.old ++ map (Update target.now) run.old }
+    ensures run { run.new ≡ [] }
+{
+    while let Some(prefix) = run.front() {
+        items.push(Item::Update {
+            target: *target,
+            prefix,
+        });
+        run.pop();
+    }
+}
+
+/// Whether it is the same target.
+#[inline(always)]
+fn is_same_target(one: &Target, other: &Target) -> bool
+    ensures { IsTrue result → one.now ≡ other.now }
+{
+    one.iface == other.iface && is_same_receiver(&one.to, &other.to)
+}
+
+/// Whether it is the same address, or none.
+#[inline(always)]
+fn is_same_receiver(one: &Option<Addr>, other: &Option<Addr>) -> bool
+    ensures { IsTrue result → one.now ≡ other.now }
+{
+    match (one, other) {
+        (Some(one), Some(other)) => one.cmp(other).is_eq(),
+        (None, None) => true,
+        _ => false,
     }
 }

@@ -15,7 +15,7 @@ use crate::tables::{Announced, Prefixes};
 use babel_choice::Costs;
 use babel_route::{PREFIX_PLACES, Routes};
 use babel_sources::Sources;
-use babel_table::{SortedTable, Table};
+use babel_table::{SortedTable, Table, put_near};
 use babel_value::{Memory, Prefix};
 use std::alloc::Global;
 use std::marker::Model;
@@ -77,9 +77,7 @@ impl Scratch {
         ensures prefixes { self.new ≡ put prefix_cmp prefix tt self.old }
         ensures few { length self.new ≤ length self.old + 1 }
     {
-        if let Ok(near) = self.table.put_near(self.near, prefix, ()) {
-            self.near = near;
-        }
+        put_near(&mut self.table, &mut self.near, prefix, ());
     }
 
     /// Adds the prefix of each selection.

@@ -13,5 +13,5 @@ invariant_of-self g c =
     let old = c.self.inside in
     let entry : SourceEntry = record { distance = better_pair (option_map (λ e. e.distance) (find source_cmp c.args.source (g.T.Table.entries old.table))) c.args.sent; due = c.saturating_add-due.result } in (
       c.change_near.ensures.room ∙ c.self.invariant.0,
-      change_due c.change_near.result c.min-self-inside.result old.due c.args.source entry (g.T.Table.entries old.table) (g.T.Table.entries c.change_near.new.self) (omega (arith, c.min-self-inside.ensures)) (omega (arith, c.min-self-inside.ensures)) c.change_near.ensures.ok c.change_near.ensures.err c.self.invariant.1,
+      change_due c.change_near.result c.min-self-inside.result old.due c.args.source entry (g.T.Table.entries old.table) (g.T.Table.entries c.change_near.new.table) (omega (arith, c.min-self-inside.ensures)) (omega (arith, c.min-self-inside.ensures)) c.change_near.ensures.ok c.change_near.ensures.err c.self.invariant.1,
     )
