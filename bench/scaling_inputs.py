@@ -12,6 +12,8 @@ ROUTES = (16, 64, 256)
 NEIGHBOURS = (1, 16, 64)
 NODES = (4, 16, 64)
 MOST_ROUTES = 256
+# The prefixes to which each of 64 neighbours can have a route.
+SHARED_PREFIXES = 4
 MOST_BODY = 65_535
 INFINITY = 65_535
 # Intervals are as long as they can be, so that nothing expires while a log runs.
@@ -73,10 +75,20 @@ def line(time, neighbour, body):
 
 def introduction(neighbours, routes):
     """Each neighbour has a link of cost 96 and a route to each of the first prefixes, `routes` in all."""
+    return neighbours_with(neighbours, lambda _neighbour: range(routes // neighbours))
+
+
+def parted_introduction(neighbours, routes):
+    """Each neighbour has a link of cost 96, and the prefixes are parted among them."""
+    return neighbours_with(neighbours, lambda neighbour: range(routes * neighbour // neighbours, routes * (neighbour + 1) // neighbours))
+
+
+def neighbours_with(neighbours, prefixes_of):
+    """Neighbours with a link of cost 96, each with a route to each of its prefixes."""
     lines = []
     for neighbour in range(neighbours):
         lines += [line(0, neighbour, hello(0)), line(0, neighbour, hello(1) + ihu(96))]
-        updates = [update(prefix, neighbour % 2) for prefix in range(routes // neighbours)]
+        updates = [update(prefix, neighbour % 2) for prefix in prefixes_of(neighbour)]
         for first in range(0, len(updates), UPDATES_A_DATAGRAM):
             body = router(200) + b"".join(updates[first : first + UPDATES_A_DATAGRAM])
             lines.append(line(0, neighbour, body))
@@ -131,13 +143,14 @@ def refused_updates(index, neighbours, _routes):
     return line(index, index % neighbours, router(200) + body)
 
 
-def log_cell(size, make_line, neighbours, routes, counted):
-    lines = introduction(neighbours, routes)
+def log_cell(size, make_line, neighbours, routes, counted, introduce=introduction):
+    lines = introduce(neighbours, routes)
     lines += [make_line(index, neighbours, routes) for index in range(WARM + counted)]
     return Cell(size, CONFIG, "".join(lines[:-counted]), "".join(lines), counted)
 
 
 def log_rows():
+    """What grows along a row is the number of routes, or else of neighbours that have routes to the same four prefixes, and nothing else."""
     kinds = [
         ("an Update with another metric", flapping_metrics, COUNTED),
         ("an Update that repeats its route", repeated_updates, COUNTED),
@@ -149,9 +162,13 @@ def log_rows():
     ]
     for name, make_line, counted in kinds:
         yield Row("replay", f"{name}; 1 neighbour", "routes", [log_cell(size, make_line, 1, size, counted) for size in ROUTES])
-    for name, make_line, counted in [*kinds, ("60 Updates that full tables refuse", refused_updates, COUNTED // 4)]:
-        cells = [log_cell(size, make_line, size, MOST_ROUTES, counted) for size in NEIGHBOURS]
-        yield Row("replay", f"{name}; 256 routes", "neighbours", cells)
+    for name, make_line, counted in kinds:
+        cells = [log_cell(size, make_line, size, size * SHARED_PREFIXES, counted) for size in NEIGHBOURS]
+        yield Row("replay", f"{name}; {SHARED_PREFIXES} prefixes", "neighbours", cells)
+    # The tables are full for any number of neighbours: each of the prefixes is of one neighbour.
+    counted = COUNTED // 4
+    cells = [log_cell(size, refused_updates, size, MOST_ROUTES, counted, parted_introduction) for size in NEIGHBOURS]
+    yield Row("replay", "60 Updates that full tables refuse; 256 prefixes", "neighbours", cells)
 
 
 # Scenarios.

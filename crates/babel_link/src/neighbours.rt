@@ -411,7 +411,21 @@ impl Neighbours {
     pub fn cost(&self, peer: Peer, nominal: Metric) -> Metric
         ensures { result ≡ cost_of peer nominal self.now }
     {
-        self.cost_at(peer, self.search_near(&peer), nominal)
+        self.cost_to(&peer, nominal)
+    }
+
+    /// The same of a peer that isn't copied.
+    pub fn cost_to(&self, peer: &Peer, nominal: Metric) -> Metric
+        ensures { result ≡ cost_of peer.now nominal self.now }
+    {
+        self.cost_at(*peer, self.search_near(peer), nominal)
+    }
+
+    /// The same of a peer that mostly is the sender of the last message.
+    pub fn cost_to_sender(&self, peer: &Peer, nominal: Metric) -> Metric
+        ensures { result ≡ cost_of peer.now nominal self.now }
+    {
+        self.cost_at(*peer, self.search_sender(peer), nominal)
     }
 
     /// The same of a neighbour that mostly comes after the one that was looked up last, as the

@@ -119,26 +119,26 @@ impl Message {
         ensures text { line.new ≡ line.old ++ message_text self.now }
         ensures short { length line.new ≤ length line.old + 165 }
     {
-        match *self {
+        match self {
             Message::AckRequest { opaque, interval } => {
-                line.push_fields("ack-request opaque ", opaque, " interval ", interval);
+                line.push_fields("ack-request opaque ", *opaque, " interval ", *interval);
             }
-            Message::Ack { opaque } => line.push_field("ack opaque ", opaque),
+            Message::Ack { opaque } => line.push_field("ack opaque ", *opaque),
             Message::Hello {
                 unicast: true,
                 seqno,
                 interval,
-            } => line.push_fields("hello unicast seqno ", seqno.0, " interval ", interval),
+            } => line.push_fields("hello unicast seqno ", seqno.0, " interval ", *interval),
             Message::Hello {
                 unicast: false,
                 seqno,
                 interval,
-            } => line.push_fields("hello multicast seqno ", seqno.0, " interval ", interval),
+            } => line.push_fields("hello multicast seqno ", seqno.0, " interval ", *interval),
             Message::Ihu {
                 to,
                 rxcost,
                 interval,
-            } => push_ihu(line, &to, rxcost, interval),
+            } => push_ihu(line, to, *rxcost, *interval),
             Message::Update {
                 prefix,
                 router,
@@ -147,18 +147,20 @@ impl Message {
                 metric,
                 interval,
             } => {
-                push_route(line, &prefix, router, &next_hop);
-                push_numbers(line, seqno, metric, interval);
+                push_route(line, prefix, *router, next_hop);
+                push_numbers(line, *seqno, *metric, *interval);
             }
             Message::Retraction { prefix, interval } => {
                 line.push_str("retract ");
-                line.push_prefix(&prefix);
-                line.push_field(" interval ", interval);
+                line.push_prefix(prefix);
+                line.push_field(" interval ", *interval);
             }
-            Message::RetractAll { interval } => line.push_field("retract-all interval ", interval),
+            Message::RetractAll { interval } => {
+                line.push_field("retract-all interval ", *interval);
+            }
             Message::RouteRequest { prefix } => {
                 line.push_str("route-request ");
-                line.push_prefix(&prefix);
+                line.push_prefix(prefix);
             }
             Message::DumpRequest => line.push_str("dump-request"),
             Message::SeqnoRequest {
@@ -166,7 +168,7 @@ impl Message {
                 router,
                 seqno,
                 hops,
-            } => push_seqno_request(line, &prefix, router, seqno.0, u16::from(hops)),
+            } => push_seqno_request(line, prefix, *router, seqno.0, u16::from(*hops)),
         }
     }
 }

@@ -5,7 +5,7 @@ use babel_choice::Cursor;
 use babel_value::{Addr, Peer};
 
 /// For how many neighbours the place of their last update is known.
-const LANES: usize = 16;
+const LANES: usize = 64;
 
 /// The places of an update in the tables, or how far they are from those of another, modulo 65,536.
 /// Each table has fewer places.
@@ -111,7 +111,8 @@ impl Trail {
     }
 }
 
-/// The lane of a neighbour, by the last octet of its address. Two may share one.
+/// The lane of a neighbour, by the last octet of its address. Two may share one, but 64 whose
+/// addresses follow each other don't.
 fn lane_of(peer: &Peer) -> usize {
     let last = match &peer.addr {
         Addr::V4(octets) => octets[3],

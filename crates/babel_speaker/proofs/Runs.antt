@@ -9,6 +9,7 @@ use Rattle.babel_state.specs.declared.items.Item.{Item}
 use Rattle.babel_state.specs.declared.items.Item.TheVariants.{Update}
 use Rattle.babel_state.specs.declared.items.Target.{Target}
 use Rattle.babel_state.specs.Queueing.{Pending, counted, last_ones, queued}
+use Rattle.babel_speaker.specs.PendingItems.{updates_only}
 use Rattle.babel_speaker.proofs.Walking.{drop_at}
 
 -- What is pending: the items, and then the Updates of the run.
@@ -46,6 +47,16 @@ run_grows items own target run new prefix dropped after none same is counts =
     in
     let old : with_run items own run dropped ≡ with_run [] target run dropped = λ i. with_run (none i) (same i) run dropped in
     grown ∙ longer target run prefix dropped ∙ ap (queued (Update target prefix ∷ [])) (sym old)
+
+-- More Updates at the end of a run, if nothing else is pending.
+pub run_extends : (items : List Item) (own target : Target) (run new prefixes : List PrefixValue) (dropped after : ℕ) → items ≡ [] → own ≡ target →
+    updates_only own new after ≡ queued (map (Update own) prefixes) (updates_only own run dropped) →
+    with_run items own new after ≡ queued (map (Update target) prefixes) (with_run items own run dropped)
+run_extends items own target run new prefixes dropped after none same grown =
+    ap (λ l. with_run l own new after) none
+    ∙ grown
+    ∙ ap (λ t. queued (map (Update t) prefixes) (with_run [] own run dropped)) same
+    ∙ sym (ap (λ l. queued (map (Update target) prefixes) (with_run l own run dropped)) none)
 
 -- If no Update is left in a run, its target doesn't matter.
 pub any_target : (items : List Item) (own target : Target) (run : List PrefixValue) (dropped : ℕ) → run ≡ [] → with_run items target run dropped ≡ with_run items own run dropped

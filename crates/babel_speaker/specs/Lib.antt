@@ -13,6 +13,7 @@ pub mod StalePrefixes
 pub mod Intervals
 pub mod TickItems
 pub mod Making
+pub mod Messages
 pub mod SentMessages
 pub mod Deadlines
 pub use Rattle.babel_state.specs.Limits

@@ -481,7 +481,7 @@ impl Speaker {
     /// What became of the choice that a log named last of the prefix's selected route: `Kept` if
     /// that is what [`selected`](Speaker::selected) reports but for its next hop and the advertised
     /// metric, and then nothing is copied. The search is that of `selected_near`.
-    #[inline]
+    #[inline(always)]
     pub fn choice_near(
         &self,
         prefix: &Prefix,

@@ -10,6 +10,7 @@ pub mod prefixes;
 pub mod reachable;
 pub mod requests;
 pub mod scratch;
+pub mod targets;
 pub mod timers;
 pub mod waiting;
 
@@ -21,3 +22,4 @@ pub use prefixes::Prefixes;
 pub use reachable::{Reachable, SelectedPrefixes};
 pub use requests::{RequestTable, SeqnoRequest};
 pub use scratch::Scratch;
+pub use targets::is_same_target;

@@ -9,6 +9,7 @@ mod errors;
 mod hellos;
 mod keys;
 pub mod laws;
+mod line_parts;
 mod lines;
 mod metrics;
 mod moments;

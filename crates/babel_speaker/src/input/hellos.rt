@@ -148,17 +148,22 @@ impl Core {
     /// Handles an IHU (RFC 8966, section 3.4.2). A cost may change by it; then routes are selected
     /// again. After an IHU for this speaker all selections are current, and the speaker is settled.
     #[tactic(auto, unfolding(babel_state::specs::Hellos::handle_ihu))]
-    pub fn handle_ihu(&mut self, arrival: &Arrival, ihu: &ReceivedIhu, hints: &mut Hints) -> Verdict
+    pub fn handle_ihu(
+        &mut self,
+        arrival: &Arrival,
+        ihu: &ReceivedIhu<'_>,
+        hints: &mut Hints,
+    ) -> Verdict
         requires settled { IsTrue hints.old.settled → AreCurrent self.old }
-        ensures state { (self.new, result) ≡ handle_ihu arrival.now.time arrival.now.peer ihu.now.to ihu.now.rxcost ihu.now.interval self.old }
+        ensures state { (self.new, result) ≡ handle_ihu arrival.now.time arrival.now.peer ihu.now.to.now ihu.now.rxcost.now ihu.now.interval.now self.old }
         ensures current { IsFalse hints.old.settled → IsTrue hints.new.settled → AreCurrent self.new }
         ensures kept { IsFalse hints.new.changed → KeepsRoutes self.old self.new }
     {
         let peer = &arrival.peer;
-        if !self.is_for_interface(peer.iface, &ihu.to) {
+        if !self.is_for_interface(peer.iface, ihu.to) {
             return Verdict::OtherAddress;
         }
-        let change = self.hear_ihu(arrival.time, peer, ihu.rxcost, ihu.interval);
+        let change = self.hear_ihu(arrival.time, peer, *ihu.rxcost, *ihu.interval);
         hints.changed = self.reselect_link(change, arrival.time, peer, hints);
         Verdict::Taken
     }

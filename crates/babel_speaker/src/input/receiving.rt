@@ -1,16 +1,17 @@
 //! A datagram, from its octets to the notes of its TLVs.
 
-ghost use Rattle.std.specs.Prelude.{◌≡◌, ◌+◌, ◌≤◌, ◌<◌, ◌++◌, ◌∷◌, [], length, vec_len, vec_capacity, Ok, IfOk, IfErr, OnOk, OnErr, IsTrue, IsFalse};
+ghost use Rattle.std.specs.Prelude.{true, ◌≡◌, ◌+◌, ◌≤◌, ◌<◌, ◌++◌, ◌∷◌, [], length, vec_len, vec_capacity, Ok, IfOk, IfErr, OnOk, OnErr, IsTrue, IsFalse};
 ghost use Rattle.babel_value.specs.declared.keys.Peer.{Peer};
 ghost use Rattle.babel_state.specs.CurrentSelections.{AreCurrent};
 ghost use Rattle.babel_state.specs.KeptRoutes.{KeepsRoutes};
+ghost use Rattle.babel_state.specs.State.{is_neighbour};
 ghost use Rattle.babel_state.specs.Messages.{arrival_of, handle_content, after_places, notes_of, IsRecvFault, Receives};
 
 use crate::hints::Hints;
-use crate::input::messages::handle_content;
+use crate::input::messages::{handle_content, is_for_other_node};
 use crate::input::records::Arrival;
 use crate::state::Core;
-use babel_message::{Content, Message, Placed, Reason, Refusal};
+use babel_message::{Content, Placed, Reason, Refusal};
 use babel_packet::decode_into;
 use babel_state::{Note, RecvFault, Verdict};
 use babel_value::Distance;
@@ -29,40 +30,36 @@ fn push_note(notes: &mut Vec<Note>, offset: usize, verdict: Verdict)
     notes.push_reserved(Note { offset, verdict });
 }
 
-/// Whether it is an update of a prefix, or its retraction.
-fn is_update(content: &Content) -> bool {
-    matches!(
-        content,
-        Content::Message(Message::Update { .. }) | Content::Message(Message::Retraction { .. })
-    )
-}
-
-/// Whether an update with this verdict was looked for in the tables: it is there, or its place was
-/// found taken.
-fn is_placed(verdict: &Verdict) -> bool {
-    matches!(
-        verdict,
-        Verdict::Taken | Verdict::Unfeasible(_) | Verdict::TableFull
-    )
-}
-
-/// Handles one of the contents, as `handle_content`. An Update is looked for where it is likely to
-/// be.
-fn handle_next(core: &mut Core, arrival: &Arrival, content: &Content, hints: &mut Hints) -> Verdict
+/// Handles one of the contents, as `handle_content`. `is_known` says that the sender is known to be
+/// a neighbour, which isn't looked up again from one IHU for another node to the next.
+#[inline(always)]
+fn handle_place(
+    core: &mut Core,
+    arrival: &Arrival,
+    content: &Content,
+    hints: &mut Hints,
+    is_known: &mut bool,
+) -> Verdict
     requires settled { IsTrue hints.old.settled → AreCurrent core.old }
+    requires known { IsTrue is_known.old → is_neighbour arrival.now.peer core.old ≡ true }
+    ensures known { IsTrue is_known.new → is_neighbour arrival.now.peer core.new ≡ true }
     ensures state { (core.new, result) ≡ handle_content arrival.now.time arrival.now.peer content.now core.old }
     ensures current { IsTrue hints.new.settled → AreCurrent core.new }
     ensures kept { IsFalse hints.new.changed → KeepsRoutes core.old core.new }
+    ensures stays { IsFalse hints.new.changed → IsFalse hints.old.changed }
 {
-    let is_update = is_update(content);
-    if is_update {
-        hints.cursor = hints.trail.next();
+    if !is_for_other_node(core, &arrival.peer, content) {
+        *is_known = false;
+        return handle_content(core, arrival, content, hints);
     }
-    let verdict = handle_content(core, arrival, content, hints);
-    if is_update && is_placed(&verdict) {
-        hints.trail.push(&hints.cursor);
+    if !*is_known {
+        *is_known = core.is_neighbour(&arrival.peer);
     }
-    verdict
+    if *is_known {
+        Verdict::OtherAddress
+    } else {
+        Verdict::UnknownNeighbour
+    }
 }
 
 /// Handles the TLVs of a datagram, each wholly before the next, and writes a note for each.
@@ -81,11 +78,9 @@ fn handle_places(
     ensures kept { IsFalse hints.new.changed → KeepsRoutes core.old core.new }
 {
     hints.trail.begin(&arrival.peer);
+    let mut is_known = false;
     for place in placed {
-        let changed = hints.changed;
-        hints.changed = false;
-        let verdict = handle_next(core, arrival, &place.content, hints);
-        hints.changed = changed || hints.changed;
+        let verdict = handle_place(core, arrival, &place.content, hints, &mut is_known);
         push_note(notes, place.offset, verdict);
     }
 }

@@ -22,13 +22,14 @@ pub struct ReceivedHello {
     pub interval: u16,
 }
 
-/// An IHU (RFC 8966, section 4.6.6).
+/// An IHU (RFC 8966, section 4.6.6). Its fields are where they were read, since of one for another
+/// node no more is looked at.
 #[derive(Clone, Copy)]
-pub struct ReceivedIhu {
+pub struct ReceivedIhu<'a> {
     /// The address of the node that it is for, or `None` if it is for all.
-    pub to: Option<Addr>,
+    pub to: &'a Option<Addr>,
     /// The cost of receiving from that node.
-    pub rxcost: Metric,
+    pub rxcost: &'a Metric,
     /// Its interval, in centiseconds.
-    pub interval: u16,
+    pub interval: &'a u16,
 }

@@ -22,7 +22,7 @@ use crate::input::selection_changes::{is_selected_peer, seqno_after};
 use crate::output::queueing::{has_unfeasible, queue_requests_to_unfeasible, queue_updates_to_all};
 use crate::state::Core;
 use crate::tables::{KnownCost, KnownCosts, LinkChange, LinkCosts, Scratch, SeqnoRequest};
-use babel_choice::{Costs, Cursor, RouteKey};
+use babel_choice::{Cursor, RouteKey};
 use babel_route::{OriginChange, Report, SelectionChange};
 use babel_state::{Item, REQUEST_HOPS, Resend, Target};
 use babel_value::{Peer, Prefix, Seqno, Source};
@@ -343,37 +343,40 @@ impl Core {
     }
 
     /// The neighbour of the prefix's selection, if a reselection leaves that after a change of the
-    /// neighbour alone: of its routes, or of the link to it. `None` says nothing. The cursor is at
-    /// the neighbour's route, and goes to the selection.
+    /// neighbour of this cost alone: of its routes, or of the link to it. `None` says nothing. The
+    /// cursor is at the neighbour's route, and goes to the selection.
     #[inline(always)]
     pub(crate) fn kept_selection(
         &self,
         prefix: &Prefix,
-        peer: &Peer,
+        known: &KnownCost,
         cursor: &mut Cursor,
     ) -> Option<Peer>
-        requires others { IsCurrentButAt peer.now prefix.now self.now }
+        requires known { known.now.cost ≡ cost_at self.now known.now.peer }
+        requires others { IsCurrentButAt known.now.peer prefix.now self.now }
         ensures selection { IsSome result → result ≡ peer_before (selected_at prefix.now self.now) }
         ensures kept { IsSome result → self.now ≡ select prefix.now self.now }
     {
         let key = RouteKey {
             prefix: *prefix,
-            peer: *peer,
+            peer: known.peer,
         };
         let links = LinkCosts::new(&self.interfaces, &self.neighbours);
+        let costs = KnownCosts::new(links, known);
         self.routes
-            .kept_selection(&key, &self.sources, &links, cursor)
+            .kept_selection(&key, &self.sources, &costs, cursor)
     }
 
-    /// Whether the selection of the prefix stays after a change of the link to the neighbour.
-    /// `false` says nothing. The cursor is at that neighbour's route, and goes to the next prefix's
-    /// selection.
+    /// Whether the selection of the prefix stays after a change of the link to the neighbour of
+    /// this cost. `false` says nothing. The cursor is at that neighbour's route, and goes to the
+    /// next prefix's selection.
     #[inline(never)]
-    fn keeps_selection(&self, prefix: &Prefix, peer: &Peer, cursor: &mut Cursor) -> bool
-        requires others { IsCurrentButAt peer.now prefix.now self.now }
+    fn keeps_selection(&self, prefix: &Prefix, known: &KnownCost, cursor: &mut Cursor) -> bool
+        requires known { known.now.cost ≡ cost_at self.now known.now.peer }
+        requires others { IsCurrentButAt known.now.peer prefix.now self.now }
         ensures { IsTrue result → self.now ≡ select prefix.now self.now }
     {
-        if self.kept_selection(prefix, peer, cursor).is_none() {
+        if self.kept_selection(prefix, known, cursor).is_none() {
             return false;
         }
         // The next prefix is mostly the next one that has a selection.
@@ -381,15 +384,17 @@ impl Core {
         true
     }
 
-    /// The cost of the link to the neighbour now, which no reselection changes.
-    fn known_cost(&self, peer: &Peer) -> KnownCost
+    /// The cost of the link to the neighbour now, which no reselection changes. Mostly the
+    /// neighbour sent the last message.
+    #[inline(always)]
+    pub(crate) fn known_cost(&self, peer: &Peer) -> KnownCost
         ensures peer { result.peer ≡ peer.now }
         ensures known { result.cost ≡ cost_at self.now result.peer }
     {
-        let links = LinkCosts::new(&self.interfaces, &self.neighbours);
+        let nominal = self.interfaces.nominal_cost(peer.iface);
         KnownCost {
             peer: *peer,
-            cost: links.cost(peer),
+            cost: self.neighbours.cost_to_sender(peer, nominal),
         }
     }
 
@@ -412,7 +417,7 @@ impl Core {
     {
         if !self.routes.is_shared(cursor.entry) {
             self.reselect_changed(now, prefix, known, cursor);
-        } else if !self.keeps_selection(prefix, &known.peer, cursor) {
+        } else if !self.keeps_selection(prefix, known, cursor) {
             self.reselect_near(now, None, prefix, cursor);
         }
     }

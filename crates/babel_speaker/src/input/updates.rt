@@ -129,7 +129,8 @@ impl Core {
         ensures state { self.new ≡ select prefix.now self.old }
         ensures change { result ≡ selection_change (selected_at prefix.now self.old) (selected_at prefix.now self.new) }
     {
-        let kept = self.kept_selection(prefix, peer, cursor);
+        let known = self.known_cost(peer);
+        let kept = self.kept_selection(prefix, &known, cursor);
         if kept.is_some() {
             return SelectionChange::kept(kept);
         }

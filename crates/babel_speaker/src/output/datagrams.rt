@@ -8,7 +8,7 @@ ghost use Rattle.babel_build.specs.Built.{Built, HasEncoded};
 ghost use Rattle.babel_state.specs.Addresses.{transport_at};
 ghost use Rattle.babel_state.specs.CurrentSelections.{AreCurrent};
 ghost use Rattle.babel_state.specs.OutgoingMessages.{outgoing};
-ghost use Rattle.babel_state.specs.NextDatagram.{Fits, is_same_receiver, is_same_target, draft_with, drafted};
+ghost use Rattle.babel_state.specs.NextDatagram.{Fits, draft_with, drafted};
 ghost use Rattle.babel_state.specs.QueueLaws.{is_silent};
 ghost use Rattle.babel_state.specs.Restarts.{snapshot_of};
 ghost use Rattle.babel_speaker.specs.SentMessages.{HasRoomFor, no_draft};
@@ -18,6 +18,7 @@ ghost use Rattle.babel_speaker.specs.Versions.{KeepsSnapshot};
 use crate::hints::Hints;
 use crate::output::records::Departure;
 use crate::state::Core;
+use crate::tables::is_same_target;
 use arrayvec::ArrayVec;
 use babel_build::Builder;
 use babel_choice::Cursor;
@@ -25,25 +26,6 @@ use babel_message::Message;
 use babel_state::laws::items_mean_messages;
 use babel_state::{Item, Outgoing, Target};
 use babel_tlv::DATAGRAM_LEN;
-use babel_value::Addr;
-
-/// Whether two receivers are the same.
-fn is_same_receiver(a: &Option<Addr>, b: &Option<Addr>) -> bool
-    ensures { result ≡ is_same_receiver a.now b.now }
-{
-    match (a, b) {
-        (Some(a), Some(b)) => a.cmp(b).is_eq(),
-        (None, None) => true,
-        _ => false,
-    }
-}
-
-/// Whether two targets are the same.
-fn is_same_target(a: &Target, b: &Target) -> bool
-    ensures { result ≡ is_same_target a.now b.now }
-{
-    a.iface == b.iface && is_same_receiver(&a.to, &b.to)
-}
 
 /// Removes the oldest items up to the first that means a message, and returns that message and
 /// its target. `None`: no item is left.

@@ -8,7 +8,7 @@ ghost use Rattle.babel_state.specs.declared.items.Item.TheVariants.{Update};
 ghost use Rattle.babel_state.specs.Reselection.{update_to_all, update_to, request_items, is_unfeasible};
 ghost use Rattle.babel_speaker.specs.Reaching.{reachable_of};
 
-use crate::tables::{Announced, PendingItems, Reachable, SelectedPrefixes, SeqnoRequest};
+use crate::tables::{Announced, PendingItems, Reachable, SeqnoRequest};
 use babel_choice::{Cursor, Entry, RouteKey};
 use babel_route::Routes;
 use babel_sources::Sources;
@@ -103,25 +103,6 @@ fn queue_update(pending: &mut PendingItems, target: Target, prefix: Prefix)
     }
 }
 
-/// Queues an update of each of these prefixes to one neighbour.
-#[inline(never)]
-#[tactic(auto, unfolding(babel_state::specs::Queueing::queued))]
-fn queue_updates_of_selected(
-    pending: &mut PendingItems,
-    prefixes: SelectedPrefixes<'_>,
-    peer: &Peer,
-)
-    ensures { pending.new ≡ queued (map (update_to peer.now) prefixes.entry) pending.old }
-{
-    let target = Target {
-        iface: peer.iface,
-        to: Some(peer.addr),
-    };
-    for prefix in prefixes {
-        pending.push_update(&target, prefix);
-    }
-}
-
 /// Queues an update of each prefix that is announced or selected to one neighbour.
 #[tactic(auto, unfolding(babel_state::specs::Queueing::queued))]
 pub fn queue_updates_of(
@@ -142,7 +123,7 @@ pub fn queue_updates_of(
         pending.push_update(&target, prefix);
         // A walk over selections alone is shorter.
         if let Some(rest) = walk.rest() {
-            queue_updates_of_selected(pending, rest, peer);
+            pending.push_updates(&target, rest);
             return;
         }
     }

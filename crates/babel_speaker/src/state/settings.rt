@@ -1,11 +1,13 @@
 //! The calls that change a speaker without a datagram or a moment, and those that report its state.
 
 ghost use Rattle.std.specs.Prelude.{◌≡◌, ◌↔◌, true, false, Option, Some, slice_get, option_map, IsTrue, IsOk, IsErr, IsNone, IfErr, OnOk, OnErr, drop, map};
+ghost use Rattle.babel_value.specs.Metrics.{metric_sum};
+ghost use Rattle.babel_value.specs.Prefixes.{PrefixValue};
 ghost use Rattle.babel_choice.specs.Choices.{routes_of};
 ghost use Rattle.babel_state.specs.declared.selected.Choice.{Choice};
 ghost use Rattle.babel_state.specs.declared.selected.LastChoice.{LastChoice};
-ghost use Rattle.babel_state.specs.State.{announces};
-ghost use Rattle.babel_state.specs.Calls.{set_cost_fault, cost_set, is_prefix_too_many, announced_also, withdrawn, select_and_advertise, choice_of, selected_route, reported_entries, reported_entry};
+ghost use Rattle.babel_state.specs.State.{announces, cost_at};
+ghost use Rattle.babel_state.specs.Calls.{set_cost_fault, cost_set, is_prefix_too_many, announced_also, withdrawn, select_and_advertise, choice_of, reported_selected, selected_route, reported_entries, reported_entry};
 
 use crate::output::messages::interface_entry;
 use crate::state::Core;
@@ -141,11 +143,42 @@ fn is_of_choice(selection: &Selection, choice: &Choice) -> bool
         && entry.distance.seqno == choice.seqno
 }
 
-/// What became of the choice that a log named last of the prefix. Mostly it is kept. The search
-/// begins at the index `near` of the selections, which becomes the one after the prefix, or that at
-/// which the prefix would be. No selection is copied.
-#[inline]
-#[tactic(auto, unfolding(babel_state::specs::Calls::selected_route), using(crate::proofs::Choices::chosen))]
+/// Whether the selection is what the choice names: a route of this neighbour, router-id and seqno
+/// whose metric over the link is this now.
+#[inline(always)]
+fn is_choice(core: &Core, selection: &Selection, choice: &Choice) -> bool
+    ensures peer { IsTrue result → selection.now.peer ≡ choice.now.peer }
+    ensures router { IsTrue result → selection.now.entry.router ≡ choice.now.router }
+    ensures seqno { IsTrue result → selection.now.entry.distance.seqno ≡ choice.now.seqno }
+    ensures metric { IsTrue result → metric_sum selection.now.entry.distance.metric (cost_at core.now choice.now.peer) ≡ choice.now.metric }
+{
+    if !is_of_choice(selection, choice) {
+        return false;
+    }
+    // It is the same neighbour, and that of the choice is in memory already.
+    let cost = core.cost(&choice.peer);
+    selection.entry.distance.metric.add(cost) == choice.metric
+}
+
+/// What is named of the selection now.
+#[inline(never)]
+fn choice_now(core: &Core, selection: &Selection) -> Choice
+    ensures { (prefix : PrefixValue) → result ≡ choice_of (reported_selected prefix core.now selection.now) }
+{
+    let entry = &selection.entry;
+    Choice {
+        peer: selection.peer,
+        metric: entry.distance.metric.add(core.cost(&selection.peer)),
+        router: entry.router,
+        seqno: entry.distance.seqno,
+    }
+}
+
+/// What became of the choice that a log named last of the prefix. Mostly it is kept, and then no
+/// selection is copied. The search begins at the index `near` of the selections, which becomes the
+/// one after the prefix, or that at which the prefix would be.
+#[inline(always)]
+#[tactic(auto, unfolding(babel_state::specs::Calls::selected_route), using(crate::proofs::Choices::chosen, crate::proofs::Choices::named))]
 pub fn choice_near(
     core: &Core,
     prefix: &Prefix,
@@ -158,20 +191,14 @@ pub fn choice_near(
     let Some(found) = core.routes.selection_near(prefix, near) else {
         return LastChoice::Now(None);
     };
-    let selection = &found.1;
-    let entry = &selection.entry;
-    let metric = entry.distance.metric.add(core.cost(&selection.peer));
     if let Some(choice) = last {
-        if metric == choice.metric && is_of_choice(selection, choice) {
+        if is_choice(core, &found.1, choice) {
             return LastChoice::Kept;
         }
     }
-    LastChoice::Now(Some(Choice {
-        peer: selection.peer,
-        metric,
-        router: entry.router,
-        seqno: entry.distance.seqno,
-    }))
+    // The call takes a copy, so that the selection itself needn't be in memory before.
+    let copy = found.1;
+    LastChoice::Now(Some(choice_now(core, &copy)))
 }
 
 /// The entry of the prefix that exactly `index` others come before, with its neighbour and the cost

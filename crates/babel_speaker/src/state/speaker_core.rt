@@ -117,7 +117,7 @@ impl Core {
         ensures { result ≡ cost_at self.now peer.now }
     {
         let nominal = self.interfaces.nominal_cost(peer.iface);
-        self.neighbours.cost(*peer, nominal)
+        self.neighbours.cost_to(peer, nominal)
     }
 
     /// The feasibility distance of a source, if it has one (RFC 8966, section 3.2.5).

@@ -34,6 +34,7 @@ impl<'a> Costs for LinkCosts<'a> {
 
     fn cost(&self, peer: &Peer) -> Metric {
         let nominal = self.interfaces.nominal_cost(peer.iface);
+        // The call takes a copy, so that a route's key needn't be in memory before.
         self.neighbours.cost(*peer, nominal)
     }
 

@@ -5,10 +5,13 @@ ghost use Rattle.babel_state.specs.Queueing.{queued};
 ghost use Rattle.babel_state.specs.Limits.{most_pending};
 ghost use Rattle.babel_state.specs.declared.items.Item.{Item};
 ghost use Rattle.babel_state.specs.declared.items.Item.TheVariants.{Update};
+ghost use Rattle.babel_state.specs.declared.items.Target.{Target};
+ghost use Rattle.babel_speaker.specs.PendingItems.{updates_only};
 
 use crate::tables::waiting::Waiting;
+use crate::tables::{SelectedPrefixes, is_same_target};
 use babel_state::{Item, MAX_PENDING, Target};
-use babel_value::{Addr, Prefix};
+use babel_value::Prefix;
 use std::alloc::{AllocError, Global};
 use std::marker::Model;
 
@@ -77,8 +80,7 @@ impl PendingItems {
         self.items.try_push_back(item)
     }
 
-    /// Queues an Update. Many to one target are queued fastest while nothing else is pending.
-    #[inline(always)]
+    /// Queues an Update.
     pub fn push_update(&mut self, target: &Target, prefix: Prefix)
         ensures { self.new ≡ queued (Update target.now prefix ∷ []) self.old }
     {
@@ -111,6 +113,22 @@ impl PendingItems {
         }
         if self.run.push(prefix) {
             self.dropped = self.dropped.saturating_add(1);
+        }
+    }
+
+    /// Queues an Update of each of the prefixes. While nothing but Updates to the target is
+    /// pending, an Update is its prefix alone, and no target is compared.
+    #[inline(never)]
+    #[tactic(auto, unfolding(babel_state::specs::Queueing::queued))]
+    pub fn push_updates(&mut self, target: &Target, prefixes: SelectedPrefixes<'_>)
+        ensures { self.new ≡ queued (map (Update target.now) prefixes.entry) self.old }
+    {
+        if self.items.is_empty() && is_same_target(&self.target, target) {
+            push_to_run(&mut self.run, &mut self.dropped, prefixes);
+            return;
+        }
+        for prefix in prefixes {
+            self.push_other_update(target, prefix);
         }
     }
 
@@ -165,6 +183,43 @@ impl PendingItems {
     }
 }
 
+/// Queues an Update of each of the prefixes to the target of the run, while there are no items. An
+/// Update that is dropped is counted.
+#[inline(always)]
+#[tactic(auto, unfolding(babel_state::specs::Queueing::queued))]
+fn push_to_run(run: &mut Waiting<Prefix>, dropped: &mut u64, prefixes: SelectedPrefixes<'_>)
+    ensures { (target : Target) → updates_only target run.new dropped.new ≡ queued (map (Update target) prefixes.entry) (updates_only target run.old dropped.old) }
+{
+    for prefix in prefixes {
+        push_to_place(run, dropped, prefix);
+    }
+}
+
+/// The same of one Update.
+#[inline(always)]
+fn push_to_place(run: &mut Waiting<Prefix>, dropped: &mut u64, prefix: Prefix)
+    ensures { (target : Target) → updates_only target run.new dropped.new ≡ queued (Update target prefix ∷ []) (updates_only target run.old dropped.old) }
+{
+    // That it is a number of 64 bits is known of a count that is read.
+    let _count = *dropped;
+    if !run.try_push_back(prefix) {
+        // The call takes a copy, so that the prefix itself needn't be in memory before.
+        let copy = prefix;
+        push_to_full(run, dropped, copy);
+    }
+}
+
+/// The same where the ring may have no place for it.
+#[inline(never)]
+fn push_to_full(run: &mut Waiting<Prefix>, dropped: &mut u64, prefix: Prefix)
+    ensures { (target : Target) → updates_only target run.new dropped.new ≡ queued (Update target prefix ∷ []) (updates_only target run.old dropped.old) }
+{
+    let before = *dropped;
+    if run.push(prefix) {
+        *dropped = before.saturating_add(1);
+    }
+}
+
 /// Moves the Updates of a run after the items.
 #[inline(always)]
 fn end_run(items: &mut Waiting<Item>, target: &Target, run: &mut Waiting<Prefix>)
@@ -190,25 +245,5 @@ fn move_run(items: &mut Waiting<Item>, target: &Target, run: &mut Waiting<Prefix
             prefix,
         });
         run.pop();
-    }
-}
-
-/// Whether it is the same target.
-#[inline(always)]
-fn is_same_target(one: &Target, other: &Target) -> bool
-    ensures { IsTrue result → one.now ≡ other.now }
-{
-    one.iface == other.iface && is_same_receiver(&one.to, &other.to)
-}
-
-/// Whether it is the same address, or none.
-#[inline(always)]
-fn is_same_receiver(one: &Option<Addr>, other: &Option<Addr>) -> bool
-    ensures { IsTrue result → one.now ≡ other.now }
-{
-    match (one, other) {
-        (Some(one), Some(other)) => one.cmp(other).is_eq(),
-        (None, None) => true,
-        _ => false,
     }
 }

@@ -7,7 +7,7 @@ pub returns-else-not-add-clause-draft : goal.returns-else-not-add-clause-draft
 returns-else-not-add-clause-draft c = λ b ms has.
     let P : Built → Type 0 = λ u. true ≡ fits u c.in-Message.message in
     add_taken c.args.departure.now b c.args.departure.target c.in-Message.to c.args.core.now c.send_message.new.core ms c.in-Message.message _
-    (sym c.in-Message.is ∙ c.outgoing.ensures.message) (sym c.is_same_target.ensures ∙ c.if-not-is_same_target.false) (sym (subst P has c.if-not-add.ensures.fits)) c.send_message.ensures.state
+    (sym c.in-Message.is ∙ c.outgoing.ensures.message) (sym c.is_same_target.ensures.same ∙ c.if-not-is_same_target.false) (sym (subst P has c.if-not-add.ensures.fits)) c.send_message.ensures.state
 
 pub returns-else-not-add-clause-encoded : goal.returns-else-not-add-clause-encoded
 returns-else-not-add-clause-encoded c = λ ms has fits whole.

@@ -11,7 +11,7 @@ pub returns-clause-kept : goal.returns-clause-kept
 returns-clause-kept c = λ some.
     let inside = c.self.inside in
     let prefix = c.args.prefix.now in
-    let peer = c.args.peer.now in
+    let peer = c.args.known.now.peer in
     let s : State = record {
       router = inside.router;
       collects = inside.collects;
@@ -27,9 +27,11 @@ returns-clause-kept c = λ some.
       left_out = inside.left_out;
     } in
     let local = announces prefix s in
+    let interfaces = ap (λ l. l.interfaces.now) c.new-costs.ensures.links ∙ c.new-links.ensures.interfaces in
+    let neighbours = ap (λ l. l.neighbours.now) c.new-costs.ensures.links ∙ c.new-links.ensures.neighbours in
     let others : IsCurrentButAt peer prefix s = subst (IsCurrentButAt peer prefix) (sym c.self.view_is) c.requires.others in
-    let by_links = subst (λ cost. IsCurrentBut s.sources cost peer prefix local s.routes) (λ i q. link_cost (sym c.new-links.ensures.interfaces i) (sym c.new-links.ensures.neighbours i) q) others in
+    let by_links = subst (λ cost. IsCurrentBut s.sources cost peer prefix local s.routes) (λ i q. link_cost (sym interfaces i) (sym neighbours i) q) others in
     sym c.self.view_is
     ∙ ap (λ (routes : RoutesValue). record s { routes = routes }) (c.kept_selection.ensures.kept some local by_links)
-    ∙ (λ i. record s { routes = reselected s.sources (λ q. link_cost (c.new-links.ensures.interfaces i) (c.new-links.ensures.neighbours i) q) prefix local s.routes })
+    ∙ (λ i. record s { routes = reselected s.sources (λ q. link_cost (interfaces i) (neighbours i) q) prefix local s.routes })
     ∙ ap (select prefix) c.self.view_is

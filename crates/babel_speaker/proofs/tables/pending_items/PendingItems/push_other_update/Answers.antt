@@ -21,7 +21,7 @@ returns-then-push c =
     let target = c.args.target.now in
     run_grows old.items old.target target old.run c.push-2.new.self c.args.prefix old.dropped c.saturating_add-self-inside.result
     (c.is_empty-2.ensures.empty c.if-not-is_empty.false)
-    (c.is_same_target.ensures c.if-not-is_same_target.false)
+    (c.is_same_target.ensures.equal c.if-not-is_same_target.false)
     c.push-2.ensures.elements
     (omega (arith, c.saturating_add-self-inside.ensures, length-append old.run (c.args.prefix ∷ []), c.push-2.ensures.full c.if-push.true))
     ∙ ap (queued (Update target c.args.prefix ∷ [])) c.self.view_is
@@ -32,7 +32,7 @@ returns-else-push c =
     let target = c.args.target.now in
     run_grows old.items old.target target old.run c.push-2.new.self c.args.prefix old.dropped old.dropped
     (c.is_empty-2.ensures.empty c.if-not-is_empty.false)
-    (c.is_same_target.ensures c.if-not-is_same_target.false)
+    (c.is_same_target.ensures.equal c.if-not-is_same_target.false)
     c.push-2.ensures.elements
     (omega (arith, length-append old.run (c.args.prefix ∷ []), c.push-2.ensures.room c.if-push.false, c.self.ranges))
     ∙ ap (queued (Update target c.args.prefix ∷ [])) c.self.view_is

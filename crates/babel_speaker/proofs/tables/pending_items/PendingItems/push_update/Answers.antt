@@ -14,7 +14,7 @@ returns-then-try_push_back c =
     let room = c.try_push_back.ensures.room c.if-try_push_back.true in
     run_grows old.items old.target target old.run c.try_push_back.new.self c.args.prefix old.dropped old.dropped
     (c.is_empty.ensures.empty c.if-is_empty.true)
-    (c.is_same_target.ensures c.if-is_same_target.true)
+    (c.is_same_target.ensures.equal c.if-is_same_target.true)
     (c.try_push_back.ensures.queued c.if-try_push_back.true ∙ sym (all_kept 4096 all (omega (arith, long, room))))
     (omega (arith, long, room, c.self.ranges))
     ∙ ap (queued (Update target c.args.prefix ∷ [])) c.self.view_is

@@ -1,9 +1,0 @@
--- Up to five digits.
-use Rattle.babel_value.proofs.Digits.{decimal_of_one, decimal_of_five}
-use Rattle.babel_value.proofs.lines.Line.push_u16.Goals as goal
-
-pub returns-then-number-lt10-clause-text : goal.returns-then-number-lt10-clause-text
-returns-then-number-lt10-clause-text c = cc (decimal_of_one c.args.self.now c.args.number c.if-number-lt10.true)
-
-pub returns-clause-text : goal.returns-clause-text
-returns-clause-text c = cc (decimal_of_five c.args.self.now c.args.number c.ranges.number.fits)
