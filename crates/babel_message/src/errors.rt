@@ -4,7 +4,8 @@ ghost use Rattle.std.specs.Prelude.{◌≡◌, ◌+◌, ◌≤◌, ◌++◌, Som
 ghost use Rattle.babel_value.specs.Lines.{line_room};
 ghost use Rattle.babel_message.specs.Texts.{refusal_code};
 
-use babel_value::Line;
+use babel_value::line_parts::{put_str, put_u64};
+use babel_value::{Line, ShortText};
 use std::fmt;
 use std::fmt::Display;
 use thiserror::Error;
@@ -57,16 +58,26 @@ impl RefusalCode {
         ensures text { line.new ≡ line.old ++ refusal_code self.now.refusal }
         ensures short { length line.new ≤ length line.old + 23 }
     {
+        line.push(self);
+    }
+}
+
+impl ShortText for RefusalCode {
+    ghost text = { λ code. refusal_code code.refusal };
+
+    ghost most = { 23 };
+
+    fn put(&self, line: &mut [u8], len: usize) -> usize {
         match self.refusal {
-            Refusal::Short => line.push_str("P1"),
-            Refusal::Magic => line.push_str("P2"),
-            Refusal::Version => line.push_str("P3"),
-            Refusal::BodyLength => line.push_str("P4"),
+            Refusal::Short => put_str(line, len, "P1"),
+            Refusal::Magic => put_str(line, len, "P2"),
+            Refusal::Version => put_str(line, len, "P3"),
+            Refusal::BodyLength => put_str(line, len, "P4"),
             Refusal::Tlv(offset) => {
-                line.push_str("P5 ");
-                line.push_usize(offset);
+                let len = put_str(line, len, "P5 ");
+                put_u64(line, len, offset as u64)
             }
-            Refusal::Memory => line.push_str("P6"),
+            Refusal::Memory => put_str(line, len, "P6"),
         }
     }
 }

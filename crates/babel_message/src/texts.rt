@@ -1,14 +1,14 @@
-//! Messages, reasons and places as the program prints them. Each is put together in a [`Line`], and
-//! is written by one call.
+//! Messages, reasons and places as the program prints them: values with a text of few octets, which
+//! is put together before it is written.
 
-ghost use Rattle.std.specs.Prelude.{◌≡◌, ◌+◌, ◌≤◌, ◌++◌, Some, codes, length};
-ghost use Rattle.std.specs.Fmt.{decimal};
+ghost use Rattle.std.specs.Prelude.{◌≡◌, ◌+◌, ◌≤◌, ◌++◌, Some, codes, length, take};
 ghost use Rattle.babel_value.specs.Texts.{prefix_text, router_text};
 ghost use Rattle.babel_value.specs.Lines.{line_room};
-ghost use Rattle.babel_message.specs.Texts.{content_text, message_text, placed_text, reason_text, receiver_text, route_text};
+ghost use Rattle.babel_message.specs.Texts.{content_text, message_text, placed_text, reason_text, receiver_text};
 
 use crate::{Content, Message, Placed, Reason};
-use babel_value::{Addr, Line, Metric, Prefix, RouterId, Seqno};
+use babel_value::line_parts::{put_addr, put_field, put_prefix, put_router_id, put_str, put_u64};
+use babel_value::{Addr, Line, Prefix, RouterId, ShortText};
 use std::fmt;
 use std::fmt::Display;
 
@@ -63,9 +63,19 @@ impl Placed {
         ensures text { line.new ≡ line.old ++ placed_text self.now }
         ensures short { length line.new ≤ length line.old + 186 }
     {
-        line.push_usize(self.offset);
-        line.push_str(" ");
-        self.content.push_to(line);
+        line.push(self);
+    }
+}
+
+impl ShortText for Placed {
+    ghost text = { placed_text };
+
+    ghost most = { 186 };
+
+    fn put(&self, line: &mut [u8], len: usize) -> usize {
+        let len = put_u64(line, len, self.offset as u64);
+        let len = put_str(line, len, " ");
+        self.content.put(line, len)
     }
 }
 
@@ -76,12 +86,22 @@ impl Content {
         ensures text { line.new ≡ line.old ++ content_text self.now }
         ensures short { length line.new ≤ length line.old + 165 }
     {
+        line.push(self);
+    }
+}
+
+impl ShortText for Content {
+    ghost text = { content_text };
+
+    ghost most = { 165 };
+
+    fn put(&self, line: &mut [u8], len: usize) -> usize {
         match self {
-            Content::Message(message) => message.push_to(line),
-            Content::State => line.push_str("state"),
+            Content::Message(message) => message.put(line, len),
+            Content::State => put_str(line, len, "state"),
             Content::Ignored(reason) => {
-                line.push_str("ignored ");
-                reason.push_to(line);
+                let len = put_str(line, len, "ignored ");
+                reason.put(line, len)
             }
         }
     }
@@ -94,20 +114,30 @@ impl Reason {
         ensures text { line.new ≡ line.old ++ reason_text self.now }
         ensures short { length line.new ≤ length line.old + 8 }
     {
+        line.push(self);
+    }
+}
+
+impl ShortText for Reason {
+    ghost text = { reason_text };
+
+    ghost most = { 8 };
+
+    fn put(&self, line: &mut [u8], len: usize) -> usize {
         match self {
-            Reason::Padding => line.push_str("I1"),
-            Reason::UnknownType => line.push_str("I2"),
-            Reason::Unreadable => line.push_str("I3"),
-            Reason::TailOverrun => line.push_str("I4"),
-            Reason::MandatorySubTlv(kind) => line.push_field("I5 ", u16::from(*kind)),
-            Reason::UnknownEncoding => line.push_str("I6"),
-            Reason::NoDefaultPrefix => line.push_str("I7"),
-            Reason::NoRouterId => line.push_str("I8"),
-            Reason::NoNextHop => line.push_str("I9"),
-            Reason::ZeroInterval => line.push_str("I10"),
-            Reason::ZeroRxcost => line.push_str("I11"),
-            Reason::Wildcard => line.push_str("I12"),
-            Reason::NoHops => line.push_str("I13"),
+            Reason::Padding => put_str(line, len, "I1"),
+            Reason::UnknownType => put_str(line, len, "I2"),
+            Reason::Unreadable => put_str(line, len, "I3"),
+            Reason::TailOverrun => put_str(line, len, "I4"),
+            Reason::MandatorySubTlv(kind) => put_field(line, len, "I5 ", u16::from(*kind)),
+            Reason::UnknownEncoding => put_str(line, len, "I6"),
+            Reason::NoDefaultPrefix => put_str(line, len, "I7"),
+            Reason::NoRouterId => put_str(line, len, "I8"),
+            Reason::NoNextHop => put_str(line, len, "I9"),
+            Reason::ZeroInterval => put_str(line, len, "I10"),
+            Reason::ZeroRxcost => put_str(line, len, "I11"),
+            Reason::Wildcard => put_str(line, len, "I12"),
+            Reason::NoHops => put_str(line, len, "I13"),
         }
     }
 }
@@ -119,26 +149,48 @@ impl Message {
         ensures text { line.new ≡ line.old ++ message_text self.now }
         ensures short { length line.new ≤ length line.old + 165 }
     {
+        line.push(self);
+    }
+}
+
+impl ShortText for Message {
+    ghost text = { message_text };
+
+    ghost most = { 165 };
+
+    fn put(&self, line: &mut [u8], len: usize) -> usize {
         match self {
             Message::AckRequest { opaque, interval } => {
-                line.push_fields("ack-request opaque ", *opaque, " interval ", *interval);
+                let len = put_field(line, len, "ack-request opaque ", *opaque);
+                put_field(line, len, " interval ", *interval)
             }
-            Message::Ack { opaque } => line.push_field("ack opaque ", *opaque),
+            Message::Ack { opaque } => put_field(line, len, "ack opaque ", *opaque),
             Message::Hello {
                 unicast: true,
                 seqno,
                 interval,
-            } => line.push_fields("hello unicast seqno ", seqno.0, " interval ", *interval),
+            } => {
+                let len = put_field(line, len, "hello unicast seqno ", seqno.0);
+                put_field(line, len, " interval ", *interval)
+            }
             Message::Hello {
                 unicast: false,
                 seqno,
                 interval,
-            } => line.push_fields("hello multicast seqno ", seqno.0, " interval ", *interval),
+            } => {
+                let len = put_field(line, len, "hello multicast seqno ", seqno.0);
+                put_field(line, len, " interval ", *interval)
+            }
             Message::Ihu {
                 to,
                 rxcost,
                 interval,
-            } => push_ihu(line, to, *rxcost, *interval),
+            } => {
+                let len = put_str(line, len, "ihu to ");
+                let len = put_receiver(line, len, to);
+                let len = put_field(line, len, " rxcost ", rxcost.0);
+                put_field(line, len, " interval ", *interval)
+            }
             Message::Update {
                 prefix,
                 router,
@@ -147,95 +199,62 @@ impl Message {
                 metric,
                 interval,
             } => {
-                push_route(line, prefix, *router, next_hop);
-                push_numbers(line, *seqno, *metric, *interval);
+                let len = put_source(line, len, "update ", prefix, router);
+                let len = put_str(line, len, " next-hop ");
+                let len = put_addr(line, len, next_hop);
+                let len = put_field(line, len, " seqno ", seqno.0);
+                let len = put_field(line, len, " metric ", metric.0);
+                put_field(line, len, " interval ", *interval)
             }
             Message::Retraction { prefix, interval } => {
-                line.push_str("retract ");
-                line.push_prefix(prefix);
-                line.push_field(" interval ", *interval);
+                let len = put_str(line, len, "retract ");
+                let len = put_prefix(line, len, prefix);
+                put_field(line, len, " interval ", *interval)
             }
             Message::RetractAll { interval } => {
-                line.push_field("retract-all interval ", *interval);
+                put_field(line, len, "retract-all interval ", *interval)
             }
             Message::RouteRequest { prefix } => {
-                line.push_str("route-request ");
-                line.push_prefix(prefix);
+                let len = put_str(line, len, "route-request ");
+                put_prefix(line, len, prefix)
             }
-            Message::DumpRequest => line.push_str("dump-request"),
+            Message::DumpRequest => put_str(line, len, "dump-request"),
             Message::SeqnoRequest {
                 prefix,
                 router,
                 seqno,
                 hops,
-            } => push_seqno_request(line, prefix, *router, seqno.0, u16::from(*hops)),
+            } => {
+                let len = put_source(line, len, "seqno-request ", prefix, router);
+                let len = put_field(line, len, " seqno ", seqno.0);
+                put_field(line, len, " hops ", u16::from(*hops))
+            }
         }
     }
 }
 
-fn push_ihu(line: &mut Line, to: &Option<Addr>, rxcost: Metric, interval: u16)
-    requires room { length line.old + 74 ≤ line_room }
-    ensures text { line.new ≡ line.old ++ message_text (Message.Ihu to.now rxcost interval) }
-    ensures short { length line.new ≤ length line.old + 74 }
-{
-    line.push_str("ihu to ");
-    push_receiver(line, to);
-    line.push_fields(" rxcost ", rxcost.0, " interval ", interval);
-}
-
-/// Appends the receiver of an IHU.
-fn push_receiver(line: &mut Line, to: &Option<Addr>)
-    requires room { length line.old + 39 ≤ line_room }
-    ensures text { line.new ≡ line.old ++ receiver_text to.now }
-    ensures short { length line.new ≤ length line.old + 39 }
+/// Writes the receiver of an IHU.
+fn put_receiver(line: &mut [u8], len: usize, to: &Option<Addr>) -> usize
+    requires room { len + 39 ≤ length line.old }
+    ensures text { take result line.new ≡ take len line.old ++ receiver_text to.now }
+    ensures short { result ≤ len + 39 }
 {
     match to {
-        Some(addr) => line.push_addr(addr),
-        None => line.push_str("any"),
+        Some(addr) => put_addr(line, len, addr),
+        None => put_str(line, len, "any"),
     }
 }
 
-/// Appends a name, and a prefix with its router-id. It is compiled into its callers, where the name
+/// Writes a name, and a prefix with its router-id. It is compiled into its callers, where the name
 /// is a constant.
 #[inline(always)]
-fn push_source(line: &mut Line, name: &str, prefix: &Prefix, router: RouterId)
-    requires room { length line.old + length name.now + 69 ≤ line_room }
-    ensures text { line.new ≡ line.old ++ (name.now ++ prefix_text prefix.now ++ codes " router " ++ router_text router) }
-    ensures short { length line.new ≤ length line.old + length name.now + 69 }
+fn put_source(line: &mut [u8], len: usize, name: &str, prefix: &Prefix, router: &RouterId) -> usize
+    requires room { len + length name.now + 69 ≤ length line.old }
+    ensures text { take result line.new ≡ take len line.old ++ name.now ++ prefix_text prefix.now ++ codes " router " ++ router_text router.now }
+    ensures short { result ≤ len + length name.now + 69 }
 {
-    line.push_str(name);
-    line.push_prefix(prefix);
-    line.push_str(" router ");
-    line.push_router_id(router);
-}
-
-/// Appends the prefix, router-id and next hop of an Update, after its name.
-fn push_route(line: &mut Line, prefix: &Prefix, router: RouterId, next_hop: &Addr)
-    requires room { length line.old + 125 ≤ line_room }
-    ensures text { line.new ≡ line.old ++ (codes "update " ++ route_text prefix.now router next_hop.now) }
-    ensures short { length line.new ≤ length line.old + 125 }
-{
-    push_source(line, "update ", prefix, router);
-    line.push_str(" next-hop ");
-    line.push_addr(next_hop);
-}
-
-/// Appends the numbers of an Update.
-fn push_numbers(line: &mut Line, seqno: Seqno, metric: Metric, interval: u16)
-    requires room { length line.old + 40 ≤ line_room }
-    ensures text { line.new ≡ line.old ++ (codes " seqno " ++ decimal seqno ++ codes " metric " ++ decimal metric ++ codes " interval " ++ decimal interval) }
-    ensures short { length line.new ≤ length line.old + 40 }
-{
-    line.push_field(" seqno ", seqno.0);
-    line.push_field(" metric ", metric.0);
-    line.push_field(" interval ", interval);
-}
-
-fn push_seqno_request(line: &mut Line, prefix: &Prefix, router: RouterId, seqno: u16, hops: u16)
-    requires room { length line.old + 106 ≤ line_room }
-    ensures text { line.new ≡ line.old ++ message_text (Message.SeqnoRequest prefix.now router seqno hops) }
-    ensures short { length line.new ≤ length line.old + 106 }
-{
-    push_source(line, "seqno-request ", prefix, router);
-    line.push_fields(" seqno ", seqno, " hops ", hops);
+    let len = put_str(line, len, name);
+    let len = put_prefix(line, len, prefix);
+    let len = put_str(line, len, " router ");
+    put_router_id(line, len, router)
 }

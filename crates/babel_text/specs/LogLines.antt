@@ -1,5 +1,5 @@
 -- The lines of a log (profile): `<time> in <iface> <source> <hex>`, `<time> tick` or `<time> cost <iface> <n>`. One blank separates two fields.
-use Rattle.std.specs.Prelude.{◌≡◌, ◌<◌, ◌==◌, ◌||◌, ◌⊎◌, ℕ, Bool, true, List, length, slice_index, Some, None, codes, nat_eq, IsUtf8}
+use Rattle.std.specs.Prelude.{◌≡◌, ◌==◌, ◌||◌, ◌⊎◌, ℕ, Bool, true, List, length, slice_index, Some, None, codes, nat_eq, IsUtf8}
 use Rattle.std.specs.Cmp.Lexicographic.{pointwise}
 use Rattle.babel_value.specs.declared.addresses.Addr.{Addr}
 use Rattle.babel_value.specs.Texts.{IsAddrText}

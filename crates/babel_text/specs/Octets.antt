@@ -1,7 +1,7 @@
 -- Octets as hexadecimal digits (profile): two digits each, of either case, the high one first.
 use Rattle.std.specs.Prelude.{◌==◌, ◌||◌, ◌/◌, ℕ, List, [], Option, Some, None, Result, Ok, Err, length, codes, nat_eq, nat_lt, if◌then◌else◌}
 use Rattle.std.specs.Cmp.Lexicographic.{pointwise}
-use Rattle.hex.specs.Hex.{decode_sized}
+use Rattle.hex.specs.Hex.{decode_sized, hex_digit_value}
 use Rattle.hex.specs.declared.error.FromHexError.{FromHexError}
 
 abbrev pub octets_or_none : Result (List ℕ) FromHexError → Option (List ℕ)
@@ -15,7 +15,10 @@ hex_octets room text =
     else if length text / 2 == 0 || nat_lt room (length text / 2) then None
     else octets_or_none (decode_sized text (length text / 2))
 
--- The value of a digit, and more than that of two digits for what isn't one.
-abbrev pub value_or_more : Option ℕ → ℕ
-value_or_more (Some value) = value
-value_or_more None = 256
+-- The value of a digit, and 255 for what isn't one.
+abbrev pub value_or_255 : Option ℕ → ℕ
+value_or_255 (Some value) = value
+value_or_255 None = 255
+
+abbrev pub digit_number : ℕ → ℕ
+digit_number octet = value_or_255 (hex_digit_value octet)

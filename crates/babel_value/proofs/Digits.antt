@@ -1,8 +1,9 @@
 -- The digits of a number: up to five decimal ones, and up to four hexadecimal ones.
 use Rattle.std.proofs.Common.{◌≡◌, ℕ, suc, ⊎_elim, append-nil, ◌+◌, ◌/◌, ◌%◌, ◌^◌, ◌<◌, ◌≤◌, Bool, true, false, cond, eqb, List, [], ◌∷◌, ◌++◌, refl, sym, ap, ◌∙◌, arith, append_assoc}
 use Rattle.std.proofs.lemmas.Fmt.{decimal_digit, decimal_step}
-use Rattle.std.proofs.lemmas.Bool.{ne_eqb, cases_lt, lt-ltb}
-use Rattle.std.specs.Prelude.{nat_lt, if◌then◌else◌}
+use Rattle.std.proofs.lemmas.Bool.{agree_below_at, cases_lt, eqb-true, lt-ltb, ne_eqb}
+use Rattle.std.specs.Prelude.{nat_lt, slice_index, if◌then◌else◌}
+use Rattle.hex.specs.Hex.{lower_digits}
 use Rattle.babel_value.specs.Lines.{last_digit, last_hex_digit}
 use Rattle.std.specs.Fmt.{decimal, digits, digits_onto, digit_glyph}
 
@@ -147,3 +148,8 @@ module _ (xs : List ℕ) (n : ℕ) where
   hex_of_four high = ⊎_elim one_digit
       (λ two. ⊎_elim (two_digits two) (λ three. ⊎_elim (three_digits three) (λ four. four_digits four high) (cases_lt n 4096)) (cases_lt n 256))
       (cases_lt n 16)
+
+-- ---- the table of `hex`
+
+pub glyph_is_lower : (digit : ℕ) → digit < 16 → digit_glyph false digit ≡ slice_index lower_digits digit
+glyph_is_lower digit small = eqb-true _ _ (agree_below_at (λ d. eqb (digit_glyph false d) (slice_index lower_digits d)) (λ _. true) 16 digit refl small)

@@ -2,3 +2,4 @@ pub mod OrderLaws
 pub mod PrefixLaws
 pub mod Numbers
 pub mod Digits
+pub mod Groups

@@ -1,13 +1,14 @@
 //! Lines of text, put together before they are written at once.
 
-ghost use Rattle.std.specs.Prelude.{if◌then◌else◌, ◌≡◌, ◌+◌, ◌*◌, ◌/◌, ◌%◌, ◌<◌, ◌≤◌, [], ◌∷◌, ◌++◌, false, Some, codes, length, nat_lt, slice_index, take};
-ghost use Rattle.std.specs.Fmt.{decimal, digits, digit_glyph};
-ghost use Rattle.babel_value.specs.Texts.{addr_text, ipv4_text, groups_text, group_text, prefix_text, router_text};
-ghost use Rattle.babel_value.specs.Lines.{line_room, last_digit, last_hex_digit};
+ghost use Rattle.std.specs.Prelude.{◌≡◌, ◌+◌, ◌≤◌, [], ◌++◌, Some, length, take};
+ghost use Rattle.std.specs.Fmt.{decimal};
+ghost use Rattle.babel_value.specs.Texts.{addr_text, prefix_text, router_text};
+ghost use Rattle.babel_value.specs.Lines.{line_room};
 
-use crate::line_parts::{put_addr, put_octets, put_prefix, put_u8, put_u16};
-use crate::{Addr, Prefix, RouterId};
-use itoa::Buffer;
+use crate::line_parts::{
+    put_addr, put_field, put_prefix, put_router_id, put_str, put_u8, put_u16, put_u64,
+};
+use crate::{Addr, Prefix, RouterId, ShortText};
 use std::cmp::min;
 use std::fmt;
 use std::marker::Model;
@@ -52,7 +53,17 @@ impl Line {
         requires room { length self.old + length text.now ≤ line_room }
         ensures text { self.new ≡ self.old ++ text.now }
     {
-        self.len = put_octets(&mut self.octets, self.len, text.as_bytes());
+        self.len = put_str(&mut self.octets, self.len, text);
+    }
+
+    /// Appends the text of a value.
+    #[inline]
+    pub fn push<T: ShortText>(&mut self, value: &T)
+        requires room { length self.old + T.most ≤ line_room }
+        ensures text { self.new ≡ self.old ++ T.text value.now }
+        ensures short { length self.new ≤ length self.old + T.most }
+    {
+        self.len = value.put(&mut self.octets, self.len);
     }
 
     /// The octets of the line.
@@ -87,10 +98,7 @@ impl Line {
         ensures text { self.new ≡ self.old ++ decimal number }
         ensures short { length self.new ≤ length self.old + 20 }
     {
-        match u16::try_from(number) {
-            Ok(number) => self.push_u16(number),
-            Err(_) => self.push_str(Buffer::new().format(number)),
-        }
+        self.len = put_u64(&mut self.octets, self.len, number);
     }
 
     /// Appends a number in decimal.
@@ -119,8 +127,7 @@ impl Line {
         ensures text { self.new ≡ self.old ++ name.now ++ decimal number }
         ensures short { length self.new ≤ length self.old + length name.now + 5 }
     {
-        let len = put_octets(&mut self.octets, self.len, name.as_bytes());
-        self.len = put_u16(&mut self.octets, len, number);
+        self.len = put_field(&mut self.octets, self.len, name, number);
     }
 
     /// Appends two texts, such as the names of fields, each with a number in decimal.
@@ -160,10 +167,7 @@ impl Line {
         ensures text { self.new ≡ self.old ++ router_text router }
         ensures short { length self.new ≤ length self.old + 16 }
     {
-        let mut digits = [0; 16];
-        // It succeeds, since there are twice as many digits as octets.
-        let _ = hex::encode_to_slice(router.octets().as_slice(), &mut digits);
-        self.len = put_octets(&mut self.octets, self.len, &digits);
+        self.len = put_router_id(&mut self.octets, self.len, &router);
     }
 }
 

@@ -48,7 +48,7 @@ pub(crate) fn compare16(one: &[u8; 16], other: &[u8; 16]) -> Ordering
 
 #[inline]
 #[tactic(auto, using(crate::proofs::Numbers::first_eight))]
-fn first_half(octets: &[u8; 16]) -> [u8; 8]
+pub(crate) fn first_half(octets: &[u8; 16]) -> [u8; 8]
     ensures { result ≡ take 8 octets.now }
 {
     let [a, b, c, d, e, f, g, h, ..] = *octets;
@@ -57,7 +57,7 @@ fn first_half(octets: &[u8; 16]) -> [u8; 8]
 
 #[inline]
 #[tactic(auto, using(crate::proofs::Numbers::last_eight))]
-fn last_half(octets: &[u8; 16]) -> [u8; 8]
+pub(crate) fn last_half(octets: &[u8; 16]) -> [u8; 8]
     ensures { result ≡ drop 8 octets.now }
 {
     let [.., a, b, c, d, e, f, g, h] = *octets;

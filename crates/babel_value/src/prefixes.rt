@@ -62,6 +62,14 @@ impl Prefix {
         self.addr
     }
 
+    /// The address where it is.
+    #[inline]
+    pub(crate) fn addr_ref(&self) -> &Addr
+        ensures { result.now ≡ self.now.addr }
+    {
+        &self.addr
+    }
+
     /// How many bits count.
     pub fn length(&self) -> u8
         ensures value { result ≡ self.now.length }

@@ -72,6 +72,14 @@ impl RouterId {
         Some(RouterId { octets })
     }
 
+    /// The octets where they are.
+    #[inline]
+    pub(crate) fn octets_ref(&self) -> &[u8; 8]
+        ensures { result.now ≡ self.now }
+    {
+        &self.octets
+    }
+
     /// The octets, in the order of the wire.
     pub fn octets(self) -> [u8; 8]
         ensures value { result ≡ self }

@@ -1,16 +1,17 @@
 //! `babel show --stdin`: what many datagrams mean, one a line.
 
 use crate::showing::explaining::{Origin, explain_places, explain_refusal};
-use crate::showing::one::{read_source, write_places, write_refusal};
-use crate::showing::reading::{flush_before_waiting, is_skipped, parse_line, read_line, skip_line};
+use crate::showing::one::{PAGE_LEN, read_source, write_places, write_refusal};
+use crate::showing::reading::{is_skipped, parse_line, read_line, skip_line};
 use crate::showing::{Details, LineCode, READ_LEN, Status, refuse, report};
 use babel_line_details::{LineDetail, LineProblem, SeenCodes, explain_shown_line};
 use babel_message::{Placed, Refusal};
 use babel_packet::decode_into;
 use babel_text::{LineFault, MAX_LINE_LEN, parse_octets};
-use babel_value::{Addr, Line};
+use babel_value::Addr;
+use memchr::memchr;
 use std::alloc::Global;
-use std::io::{BufReader, Read, Write};
+use std::io::{BufRead, BufReader, Read, Write};
 
 /// What becomes of a line that can't be read.
 #[derive(Clone, Copy)]
@@ -76,7 +77,7 @@ impl Heads {
     /// Writes what comes before a datagram.
     fn write<W: Write>(&mut self, number: u64, source: Addr, out: &mut W) -> Result<(), LineFault> {
         if !self.is_first {
-            writeln!(out, "").map_err(LineFault::of_writing)?;
+            out.write_all(b"\n").map_err(LineFault::of_writing)?;
         }
         self.is_first = false;
         if self.header {
@@ -90,48 +91,43 @@ impl Heads {
 #[derive(Drop)]
 struct Shower {
     alloc: Global,
+    bad_lines: BadLines,
+    /// Whether a line couldn't be read.
+    has_bad_line: bool,
+    /// A line that didn't come at once, or that can't be read.
+    line: Vec<u8>,
+    lines: LineShower,
+}
+
+/// Shows the datagram of a line.
+#[derive(Drop)]
+struct LineShower {
     /// The source address of a line that has none.
     source: Addr,
     heads: Heads,
-    bad_lines: BadLines,
     details: Details,
     /// The codes that were explained.
     seen: SeenCodes,
-    /// The number of the line that is read, and 0 before the first.
+    /// The number of the line, and 0 before the first.
     number: u64,
-    /// Whether a line couldn't be read.
-    has_bad_line: bool,
-    /// The line that is read.
-    line: Vec<u8>,
     /// Room for the octets of its datagram.
     octets: Vec<u8>,
     /// What its datagram means.
     placed: Vec<Placed>,
-    /// A line of what is shown.
-    shown: Line,
+    /// Room for lines of what is shown.
+    page: [u8; PAGE_LEN],
 }
 
 impl Shower {
     fn new(alloc: Global, options: LineOptions<'_>) -> Result<Shower, LineFault> {
-        let source = read_source(options.source)?;
+        let lines = LineShower::new(alloc, options)?;
         let line = Vec::with_capacity(alloc, MAX_LINE_LEN + 1)?;
-        let octets = vec![in alloc; 0u8; MAX_LINE_LEN / 2]?;
         Ok(Shower {
             alloc,
-            source,
-            heads: Heads {
-                header: options.header,
-                is_first: true,
-            },
             bad_lines: options.bad_lines,
-            details: options.details,
-            seen: SeenCodes::new(),
-            number: 0,
             has_bad_line: false,
             line,
-            octets,
-            placed: Vec::new(alloc),
-            shown: Line::new(),
+            lines,
         })
     }
 
@@ -165,8 +161,7 @@ impl Shower {
             LineFault::of_reading,
         )?;
         for turn in 1..u64::MAX {
-            self.number = turn;
-            flush_before_waiting(&input, out)?;
+            self.lines.number = turn;
             if !self.show_next(&mut input, out, err)? {
                 break;
             }
@@ -196,17 +191,41 @@ impl Shower {
         }
     }
 
+    /// A line of which all was read already is shown where it is. Before another is waited for,
+    /// what was shown is flushed.
     fn try_show_next<R: Read + Drop, W: Write, E: Write>(
         &mut self,
         input: &mut BufReader<R>,
         out: &mut W,
         err: &mut E,
     ) -> Result<bool, LineFault> {
+        if let Some(len) = memchr(b'\n', input.buffer()) {
+            let outcome = self.show_part(&input.buffer()[..len], out, err);
+            input.consume(len + 1);
+            return outcome;
+        }
+        out.flush().map_err(LineFault::of_writing)?;
         if !read_line(input, &mut self.line)? {
             return Ok(false);
         }
-        self.show_line(out, err)?;
+        self.lines.show(self.line.as_slice(), out, err)?;
         Ok(true)
+    }
+
+    /// Shows the datagram of a line of the buffer, which is kept if it can't be read: the sentence
+    /// on it quotes it.
+    fn show_part<W: Write, E: Write>(
+        &mut self,
+        line: &[u8],
+        out: &mut W,
+        err: &mut E,
+    ) -> Result<bool, LineFault> {
+        let outcome = self.lines.show(line, out, err);
+        if outcome.is_err() {
+            self.line.clear();
+            self.line.extend_from_slice(line)?;
+        }
+        outcome.map(|()| true)
     }
 
     /// Whether the next line can be shown after a line with this fault.
@@ -218,12 +237,53 @@ impl Shower {
         matches!(self.bad_lines, BadLines::GoOn) && is_of_input
     }
 
+    /// Writes the line's number and code, and the sentence if it is wanted. If writing fails, the
+    /// status still reports the fault.
+    fn report<E: Write>(&self, fault: LineFault, err: &mut E) {
+        let number = self.lines.number;
+        let _ = match number {
+            0 => report(fault, err),
+            _ => refuse(&LineCode { number, fault }, err),
+        };
+        // Why writing failed is known to the writer alone.
+        if self.lines.details == Details::Hidden || fault == LineFault::Write {
+            return;
+        }
+        let detail: LineDetail<'_> = explain_shown_line(self.line.as_slice(), fault);
+        let _ = writeln!(err, "standard input:{number}{detail}");
+    }
+}
+
+impl LineShower {
+    fn new(alloc: Global, options: LineOptions<'_>) -> Result<LineShower, LineFault> {
+        let source = read_source(options.source)?;
+        let octets = vec![in alloc; 0u8; MAX_LINE_LEN / 2]?;
+        Ok(LineShower {
+            source,
+            heads: Heads {
+                header: options.header,
+                is_first: true,
+            },
+            details: options.details,
+            seen: SeenCodes::new(),
+            number: 0,
+            octets,
+            placed: Vec::new(alloc),
+            page: [0; PAGE_LEN],
+        })
+    }
+
     /// Shows the datagram of the line, if it has one.
-    fn show_line<W: Write, E: Write>(&mut self, out: &mut W, err: &mut E) -> Result<(), LineFault> {
-        if is_skipped(self.line.as_slice()) {
+    fn show<W: Write, E: Write>(
+        &mut self,
+        line: &[u8],
+        out: &mut W,
+        err: &mut E,
+    ) -> Result<(), LineFault> {
+        if is_skipped(line) {
             return Ok(());
         }
-        let (source, hex) = parse_line(self.line.as_slice(), self.source)?;
+        let (source, hex) = parse_line(line, self.source)?;
         let Some(datagram) = parse_octets(hex, self.octets.as_mut_slice()) else {
             return Err(LineFault::Hex);
         };
@@ -242,7 +302,7 @@ impl Shower {
         out: &mut W,
         err: &mut E,
     ) -> Result<(), LineFault> {
-        write_places(self.placed.as_slice(), &mut self.shown, out)?;
+        write_places(self.placed.as_slice(), &mut self.page, out)?;
         if self.details == Details::Hidden {
             return Ok(());
         }
@@ -264,21 +324,5 @@ impl Shower {
         }
         let origin = Origin::Line(self.number);
         explain_refusal(refusal, origin, &mut self.seen, out, err)
-    }
-
-    /// Writes the line's number and code, and the sentence if it is wanted. If writing fails, the
-    /// status still reports the fault.
-    fn report<E: Write>(&self, fault: LineFault, err: &mut E) {
-        let number = self.number;
-        let _ = match number {
-            0 => report(fault, err),
-            _ => refuse(&LineCode { number, fault }, err),
-        };
-        // Why writing failed is known to the writer alone.
-        if self.details == Details::Hidden || fault == LineFault::Write {
-            return;
-        }
-        let detail: LineDetail<'_> = explain_shown_line(self.line.as_slice(), fault);
-        let _ = writeln!(err, "standard input:{number}{detail}");
     }
 }

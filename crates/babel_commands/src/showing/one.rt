@@ -6,12 +6,16 @@ use babel_line_details::SeenCodes;
 use babel_message::{Placed, Refusal};
 use babel_packet::decode;
 use babel_text::LineFault;
-use babel_value::{Addr, Line};
+use babel_value::line_parts::put_str;
+use babel_value::{Addr, LINE_ROOM, ShortText};
 use std::alloc::Global;
 use std::io::Write;
 
 /// The text of no octets: an empty text is bad hexadecimal.
 const NO_OCTETS: &str = "-";
+
+/// How many octets of lines are put together before they are written.
+pub(crate) const PAGE_LEN: usize = 4096;
 
 /// Writes what a datagram means: a line for each TLV, or `refused` and the code. `source` is the
 /// address that it came from, `hex` its octets in hexadecimal. A fault of the arguments is written
@@ -107,30 +111,28 @@ fn write_meaning<W: Write>(
     out: &mut W,
 ) -> Result<(), LineFault> {
     match meaning {
-        Ok(placed) => write_places(placed.as_slice(), &mut Line::new(), out),
+        Ok(placed) => write_places(placed.as_slice(), &mut [0; PAGE_LEN], out),
         Err(refusal) => write_refusal(*refusal, out),
     }
 }
 
-/// Writes a line for each place. Each is put together in `line` and written as octets, since a text
-/// would be tested for UTF-8.
+/// Writes a line for each place. They are put together in `page`, and written as octets, since a
+/// text would be tested for UTF-8.
 pub(crate) fn write_places<W: Write>(
     placed: &[Placed],
-    line: &mut Line,
+    page: &mut [u8; PAGE_LEN],
     out: &mut W,
 ) -> Result<(), LineFault> {
+    let mut len = 0;
     for place in placed {
-        set_place(line, place);
-        out.write_all(line.octets()).map_err(LineFault::of_writing)?;
+        if len > PAGE_LEN - LINE_ROOM {
+            out.write_all(&page[..len]).map_err(LineFault::of_writing)?;
+            len = 0;
+        }
+        len = place.put(page, len);
+        len = put_str(page, len, "\n");
     }
-    Ok(())
-}
-
-/// Sets the line of a place, with its line feed.
-fn set_place(line: &mut Line, place: &Placed) {
-    line.truncate(0);
-    place.push_to(line);
-    line.push_str("\n");
+    out.write_all(&page[..len]).map_err(LineFault::of_writing)
 }
 
 /// Writes the line of a refused datagram.

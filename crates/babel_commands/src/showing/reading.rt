@@ -4,21 +4,10 @@ use crate::showing::one::read_source;
 use babel_text::{LineFault, MAX_LINE_LEN};
 use babel_value::Addr;
 use memchr::memchr;
-use std::io::{BufRead, BufReader, ErrorKind, Read, Write};
+use std::io::{BufRead, ErrorKind};
 
 /// How many octets a command reads at a time.
 pub const READ_LEN: usize = 65_536;
-
-/// Flushes what was shown, unless the whole of the next line was read already.
-pub(crate) fn flush_before_waiting<R: Read, W: Write>(
-    input: &BufReader<R>,
-    out: &mut W,
-) -> Result<(), LineFault> {
-    if memchr(b'\n', input.buffer()).is_some() {
-        return Ok(());
-    }
-    out.flush().map_err(LineFault::of_writing)
-}
 
 /// Reads a line without its line feed, and returns whether there was one. The end of the input ends
 /// the last line.

@@ -7,7 +7,7 @@ use Rattle.babel_value.proofs.line_parts.put_hex.Goals as goal
 
 pub returns-then-number-eq0-clause-text : goal.returns-then-number-eq0-clause-text
 returns-then-number-eq0-clause-text c =
-    rw c.if-number-eq0.true (c.put_octets.ensures.text ∙ ap (λ (t : List ℕ). (take c.args.len c.args.line.now) ++ t) (sym (hex_one 0 (omega arith))))
+    rw c.if-number-eq0.true (c.put_str.ensures.text ∙ ap (λ (t : List ℕ). (take c.args.len c.args.line.now) ++ t) (sym (hex_one 0 (omega arith))))
 
 pub returns-clause-text : goal.returns-clause-text
 returns-clause-text c = cc (hex_of_four (take c.args.len c.args.line.now) c.args.number c.ranges.number.fits)
