@@ -181,24 +181,24 @@ selection_fits_new p (e ∷ es) ss sorted has none room =
     omega (arith, room, longer, selections_within (e ∷ es) (put prefix_cmp p x ss) (sorted_put prefix_cmp prefix_total p x ss sorted), orphans_select_but p x (e ∷ es) ss has, orphans_are (e ∷ es) ss)
 
 -- ---- all places at once
-pub revised_within : (f : RouteKey → Entry → Option Entry) (old new : RouteEntries) (ss : Selections) → is_sorted prefix_cmp ss ≡ true → new ≡ revised_entries f old → length old + orphans old ss ≤ 256 → length new + orphans new ss ≤ 256
-revised_within f old new ss sorted is room =
-    subst (λ es. length es + orphans es ss ≤ 256) (sym is) (omega (arith, room_revised f old ss sorted, room))
+pub revised_within : (most : ℕ) (f : RouteKey → Entry → Option Entry) (old new : RouteEntries) (ss : Selections) → is_sorted prefix_cmp ss ≡ true → new ≡ revised_entries f old → length old + orphans old ss ≤ most → length new + orphans new ss ≤ most
+revised_within most f old new ss sorted is room =
+    subst (λ es. length es + orphans es ss ≤ most) (sym is) (omega (arith, room_revised f old ss sorted, room))
 
-pub put_within : (k : RouteKey) (v : Entry) (old new : RouteEntries) (ss : Selections) → is_sorted route_cmp old ≡ true → new ≡ put route_cmp k v old → (IsNone (find route_cmp k old) → length old + orphans old ss < 256) → length old + orphans old ss ≤ 256 → length new + orphans new ss ≤ 256
-put_within k v old new ss sorted is new_fits room =
-    subst (λ es. length es + orphans es ss ≤ 256) (sym is)
+pub put_within : (most : ℕ) (k : RouteKey) (v : Entry) (old new : RouteEntries) (ss : Selections) → is_sorted route_cmp old ≡ true → new ≡ put route_cmp k v old → (IsNone (find route_cmp k old) → length old + orphans old ss < most) → length old + orphans old ss ≤ most → length new + orphans new ss ≤ most
+put_within most k v old new ss sorted is new_fits room =
+    subst (λ es. length es + orphans es ss ≤ most) (sym is)
     (by (find route_cmp k old) new_fits (length-put route_cmp route_total k v old (holds (is_sorted route_cmp old) sorted)))
   where
-    by : (found : Option Entry) → (IsNone found → length old + orphans old ss < 256) → length (put route_cmp k v old) ≡ cond (is_some found) (length old) (length old + 1) → length (put route_cmp k v old) + orphans (put route_cmp k v old) ss ≤ 256
+    by : (found : Option Entry) → (IsNone found → length old + orphans old ss < most) → length (put route_cmp k v old) ≡ cond (is_some found) (length old) (length old + 1) → length (put route_cmp k v old) + orphans (put route_cmp k v old) ss ≤ most
     by None fits len = omega (arith, fits refl, len, orphans_put k v old ss)
     by (Some e) fits len = omega (arith, room, len, orphans_put k v old ss)
 
-pub selected_within : (p : PrefixValue) (o : Option Selection) (es : RouteEntries) (old new : Selections) → (IsSome o → has_entry es p ≡ true) → new ≡ with_value prefix_cmp p o old → length es + orphans es old ≤ 256 → length es + orphans es new ≤ 256
-selected_within p None es old new has is room =
-    subst (λ ss. length es + orphans es ss ≤ 256) (sym is) (omega (arith, orphans_without p es old, room))
-selected_within p (Some x) es old new has is room =
-    subst (λ ss. length es + orphans es ss ≤ 256) (sym is) (omega (arith, orphans_select p x es old (has refl), room))
+pub selected_within : (most : ℕ) (p : PrefixValue) (o : Option Selection) (es : RouteEntries) (old new : Selections) → (IsSome o → has_entry es p ≡ true) → new ≡ with_value prefix_cmp p o old → length es + orphans es old ≤ most → length es + orphans es new ≤ most
+selected_within most p None es old new has is room =
+    subst (λ ss. length es + orphans es ss ≤ most) (sym is) (omega (arith, orphans_without p es old, room))
+selected_within most p (Some x) es old new has is room =
+    subst (λ ss. length es + orphans es ss ≤ most) (sym is) (omega (arith, orphans_select p x es old (has refl), room))
 
 -- ---- as the code counts
 
@@ -214,11 +214,3 @@ orphans_from es ss i b is = rw (add-one i) (subst (λ c. orphans es (drop i ss) 
     from [] (suc i) = refl
     from (s ∷ ts) zero = here s ts (has_entry es s.0)
     from (s ∷ ts) (suc i) = from ts i
-
-pub few_orphans : (es : RouteEntries) (ss : Selections) → orphans es ss ≤ length ss
-few_orphans es [] = omega arith
-few_orphans es (s ∷ ss) = by (has_entry es s.0) (few_orphans es ss)
-  where
-    by : (b : Bool) → orphans es ss ≤ length ss → length (cond (not b) (s ∷ filter (λ t. not (has_entry es t.0)) ss) (filter (λ t. not (has_entry es t.0)) ss)) ≤ suc (length ss)
-    by true rest = omega (arith, rest)
-    by false rest = omega (arith, rest)

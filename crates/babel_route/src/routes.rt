@@ -48,6 +48,8 @@ pub struct RoutesOver<E: Table<RouteKey, Entry>, S: Table<Prefix, Selection>> {
     selections: S,
     /// No route is due before this moment.
     due: u64,
+    /// No more places are taken than this.
+    taken: usize,
 }
 
 /// The route table of a speaker.
@@ -63,7 +65,7 @@ impl<E: Table<RouteKey, Entry>, S: Table<Prefix, Selection>> Model for RoutesOve
 
     ghost view = { λ r. record { entries = E.entries r.entries; selections = S.entries r.selections } };
 
-    ghost invariant = { λ r. (E.room r.entries ≡ most_routes) × (S.room r.selections ≡ most_routes) × (places_taken (record { entries = E.entries r.entries; selections = S.entries r.selections }) ≤ most_routes) × AreDueFrom (λ e. e.deadline) r.due (E.entries r.entries) };
+    ghost invariant = { λ r. (E.room r.entries ≡ most_routes) × (S.room r.selections ≡ most_routes) × (places_taken (record { entries = E.entries r.entries; selections = S.entries r.selections }) ≤ r.taken) × AreDueFrom (λ e. e.deadline) r.due (E.entries r.entries) × (r.taken ≤ most_routes) };
 }
 
 impl<E: Table<RouteKey, Entry>, S: Table<Prefix, Selection>> RoutesOver<E, S> {
@@ -77,6 +79,7 @@ impl<E: Table<RouteKey, Entry>, S: Table<Prefix, Selection>> RoutesOver<E, S> {
             entries,
             selections,
             due: u64::MAX,
+            taken: 0,
         })
     }
 

@@ -1,17 +1,22 @@
 -- What leaves the selected routes as they are.
-use Rattle.std.specs.Prelude.{◌≡◌, ℕ, Bool, true, false, not, IsTrue, IsFalse, List, []}
-use Rattle.std.proofs.Common.{refl, ◌∙◌, ap, true≢false}
+use Rattle.std.specs.Prelude.{◌≡◌, ℕ, Bool, true, false, not, IsTrue, IsFalse, List, [], slice_get}
+use Rattle.std.specs.Option.{option_map_or}
+use Rattle.std.proofs.Common.{refl, sym, ◌∙◌, ap, subst, true≢false}
 use Rattle.babel_value.specs.declared.keys.Peer.{Peer}
+use Rattle.babel_value.specs.Metrics.{infinity}
 use Rattle.babel_value.specs.Prefixes.{PrefixValue}
 use Rattle.babel_link.specs.Neighbours.{Links, cost_of}
 use Rattle.babel_route.specs.declared.routes.changes.Report.TheVariants.{Alike}
 use Rattle.babel_route.specs.declared.routes.changes.SelectionChange.{SelectionChange}
 use Rattle.babel_route.specs.SelectionChanges.{selection_change}
 use Rattle.babel_choice.specs.Routes.{RouteEntries}
+use Rattle.babel_route.specs.Selections.{selection_at}
 use Rattle.babel_state.specs.State.{State, PrefixSet, prefixes_in, nominal_cost, cost_at, selected_at, with_entries}
-use Rattle.babel_state.specs.Reselection.{select, reselect_each}
-use Rattle.babel_state.specs.Ticks.{forget_each, requests_ticked, interfaces_ticked, sources_ticked}
+use Rattle.babel_state.specs.declared.items.Item.{Item}
+use Rattle.babel_state.specs.Reselection.{queue, select, reselect_each}
+use Rattle.babel_state.specs.Ticks.{forget_each, routes_ticked, requests_ticked, interfaces_ticked, sources_ticked}
 use Rattle.babel_state.specs.KeptRoutes.{KeepsRoutes}
+use Rattle.babel_speaker.proofs.RequestsKept.{queue_kept_routes}
 use Rattle.babel_speaker.proofs.SelectionChanges.{alike_of}
 use Rattle.babel_state.proofs.KeptRoutes.{parts_routes, routes_through, selected_routes, timers_routes}
 
@@ -24,6 +29,12 @@ so false is = absurd (true≢false is)
 pub none_reselected : (now : ℕ) (s t : State) (set : PrefixSet) → t ≡ reselect_each now (prefixes_in set) s → set ≡ [] → t ≡ s
 none_reselected now s t set is none = is ∙ ap (λ (ps : PrefixSet). reselect_each now (prefixes_in ps) s) none
 
+-- No finite route is due, so that nothing is reselected.
+pub expired_routes : (now : ℕ) (s t u : State) (set : PrefixSet) → t ≡ routes_ticked now s → u ≡ reselect_each now (prefixes_in set) t → set ≡ [] → KeepsRoutes s u
+unfolding routes_ticked
+expired_routes now s t u set expires reselects none =
+    subst (KeepsRoutes s) (sym (none_reselected now t u set reselects none ∙ expires)) (parts_routes s (routes_ticked now s) (λ prefix. refl) refl)
+
 -- An update was stored, and its prefix selected again. The same is reported of the new selection; what follows changes no route.
 pub stored_routes : (prefix : PrefixValue) (entries : RouteEntries) (s t u : State) (change : SelectionChange) → t ≡ select prefix (with_entries entries s) →
     change ≡ selection_change (selected_at prefix s) (selected_at prefix t) → change.report ≡ Alike → KeepsRoutes t u → KeepsRoutes s u
@@ -31,6 +42,18 @@ stored_routes prefix entries s t u change is changed alike kept =
     let old = selected_at prefix s in
     let new = selected_at prefix t in
     routes_through s t u (selected_routes prefix entries s t old new is refl refl (alike_of old new change changed alike)) kept
+
+-- A prefix is announced, or no longer, and its route selected again. The same is reported of the new selection.
+pub advertised_routes : (prefix : PrefixValue) (s t u : State) (xs : List Item) (change : SelectionChange) → t ≡ select prefix s →
+    change ≡ selection_change (selected_at prefix s) (selected_at prefix t) → change.report ≡ Alike → u ≡ queue xs t → KeepsRoutes s u
+advertised_routes prefix s t u xs change selects changed alike queues =
+    stored_routes prefix s.routes.entries s t u change selects changed alike (queue_kept_routes xs t u queues)
+
+-- Neither the routes nor what their costs depend on changed before.
+pub same_before : (s t u : State) → t.routes ≡ s.routes → t.interfaces ≡ s.interfaces → t.neighbours ≡ s.neighbours → KeepsRoutes t u → KeepsRoutes s u
+same_before s t u routes interfaces neighbours kept =
+    let costs : cost_at t ≡ cost_at s = λ i peer. cost_of peer (option_map_or (λ n. n.cost) (slice_get (interfaces i) peer.iface) infinity) (neighbours i) in
+    routes_through s t u (parts_routes s t (λ prefix. ap (selection_at prefix) routes) costs) kept
 
 -- A tick flushes no neighbour and changes no cost.
 pub ticked_routes : (s t : State) (links : Links) (gone : List Peer) → t ≡ forget_each gone (record s { neighbours = links }) →

@@ -39,7 +39,7 @@ use crate::output::datagrams::next_datagram;
 use crate::state::Core;
 use crate::state::making::make;
 use crate::state::restarts::restore;
-use crate::versions::{counted, has_grown, own_seqno};
+use crate::versions::{counted, has_grown, is_other, own_seqno};
 use arrayvec::ArrayVec;
 use babel_build::Builder;
 use babel_choice::{Entry, Selection};
@@ -348,7 +348,6 @@ impl Speaker {
         states_are_well_formed();
         calls_move();
         selections_stay_current();
-        self.hints.settled = false;
         self.core.raise();
         self.snapshot = counted(self.snapshot, true);
     }
@@ -367,14 +366,8 @@ impl Speaker {
         states_are_well_formed();
         calls_move();
         selections_stay_current();
-        self.hints.settled = false;
-        match crate::state::settings::set_cost(&mut self.core, iface, cost) {
-            Ok(()) => {
-                self.routes = counted(self.routes, true);
-                Ok(())
-            }
-            Err(fault) => Err(fault),
-        }
+        crate::state::settings::set_cost(&mut self.core, iface, cost)?;
+        Ok(())
     }
 
     /// Announces a prefix (RFC 8966, section 3.7): E3 if and only if it is new and 64 others are
@@ -390,10 +383,9 @@ impl Speaker {
         states_are_well_formed();
         calls_move();
         selections_stay_current();
-        self.hints.settled = false;
         match crate::state::settings::announce(&mut self.core, &prefix) {
-            Ok(()) => {
-                self.routes = counted(self.routes, true);
+            Ok(report) => {
+                self.routes = counted(self.routes, is_other(report));
                 Ok(())
             }
             Err(fault) => Err(fault),
@@ -412,10 +404,9 @@ impl Speaker {
         states_are_well_formed();
         calls_move();
         selections_stay_current();
-        self.hints.settled = false;
         match crate::state::settings::withdraw(&mut self.core, &prefix) {
-            Ok(()) => {
-                self.routes = counted(self.routes, true);
+            Ok(report) => {
+                self.routes = counted(self.routes, is_other(report));
                 Ok(())
             }
             Err(fault) => Err(fault),

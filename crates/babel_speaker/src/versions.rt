@@ -1,9 +1,11 @@
 //! Counts of what may have changed.
 
 ghost use Rattle.std.specs.Prelude.{◌≡◌, ◌≤◌, ◌<◌, IsFalse};
+ghost use Rattle.babel_route.specs.declared.routes.changes.Report.{Report};
 ghost use Rattle.babel_speaker.specs.Versions.{greatest_version};
 
 use crate::state::Core;
+use babel_route::Report;
 use babel_value::Seqno;
 
 /// The count of what may have changed, one greater if there may be a change. It stops at the
@@ -16,6 +18,16 @@ pub(crate) fn counted(count: u64, changed: bool) -> u64
         count.saturating_add(1)
     } else {
         count
+    }
+}
+
+/// Whether a route is reported otherwise than before.
+pub(crate) fn is_other(report: Report) -> bool
+    ensures { IsFalse result → report ≡ Report.Alike }
+{
+    match report {
+        Report::Alike => false,
+        Report::Other => true,
     }
 }
 

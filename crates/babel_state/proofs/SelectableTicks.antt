@@ -103,13 +103,34 @@ finite_nominal peer a b links low high = by (find peer_cmp peer links)
     by None = refl
     by (Some link) = up (is_up_history link.multicast || is_up_history link.unicast) link
 
+same_nominal : (iface cost : ℕ) (s : State) → set_cost_fault iface cost s ≡ None → AreTables s →
+    (peer : Peer) (i : InterfaceEntry) → interface_at iface s ≡ Some i → cost_of peer i.cost s.neighbours ≡ cost_of peer cost s.neighbours
+same_nominal iface cost s free t peer i at =
+    let within = cost_free cost i (sym (ap (set_cost_fault_on cost) at) ∙ free) in
+    finite_nominal peer i.cost cost s.neighbours (usable_at iface s i at t).cost.1 (leb-true cost 65534 (and_parts (nat_le 1 cost) (nat_le cost 65534) within).1)
+
 pub cost_good : (iface cost : ℕ) (s : State) → set_cost_fault iface cost s ≡ None → AreTables s → IsGoodStep s (cost_set iface cost s)
 unfolding cost_set
-cost_good iface cost s free t =
-    interface_good iface (λ i. record i { cost = cost }) s
-    (λ peer i at.
-    let within = cost_free cost i (sym (ap (set_cost_fault_on cost) at) ∙ free) in
-    finite_nominal peer i.cost cost s.neighbours (usable_at iface s i at t).cost.1 (leb-true cost 65534 (and_parts (nat_le 1 cost) (nat_le cost 65534) within).1))
+cost_good iface cost s free t = interface_good iface (λ i. record i { cost = cost }) s (same_nominal iface cost s free t)
+
+-- so no link costs more or less
+pub same_costs : (iface cost : ℕ) (s : State) → set_cost_fault iface cost s ≡ None → AreTables s → cost_at (cost_set iface cost s) ≡ cost_at s
+unfolding cost_set
+same_costs iface cost s free t = by (interface_at iface s) refl
+  where
+    by : (m : Option InterfaceEntry) → interface_at iface s ≡ m → cost_at (option_map_or (λ i. record s { interfaces = slice_set s.interfaces iface (record i { cost = cost }) }) m s) ≡ cost_at s
+    by None at = refl
+    by (Some i) at =
+        λ j peer. sym (set_costs peer s.neighbours s.interfaces iface (record i { cost = cost }) i peer.iface at (same_nominal iface cost s free t peer i at)) j
+
+-- and no selection is another
+pub same_selections : (iface cost : ℕ) (s : State) (prefix : PrefixValue) → selected_at prefix (cost_set iface cost s) ≡ selected_at prefix s
+unfolding cost_set
+same_selections iface cost s prefix = by (interface_at iface s)
+  where
+    by : (m : Option InterfaceEntry) → selected_at prefix (option_map_or (λ i. record s { interfaces = slice_set s.interfaces iface (record i { cost = cost }) }) m s) ≡ selected_at prefix s
+    by None = refl
+    by (Some i) = refl
 
 -- ---- a tick
 

@@ -1,10 +1,12 @@
 -- Each step keeps a state well formed.
 use Rattle.babel_state.specs.CurrentSelections.{MessagesKeepCurrent, AnnouncingKeepsCurrent, WithdrawingKeepsCurrent, RaisingKeepsCurrent}
-use Rattle.babel_state.specs.Invariants.{CostsKeepCurrent, MessagesKeepWellFormed, TicksKeepWellFormed, CostsKeepWellFormed, AnnouncingKeepsWellFormed, WithdrawingKeepsWellFormed, RaisingKeepsWellFormed}
+use Rattle.babel_state.specs.Invariants.{CostsKeepCurrent, CostsKeepRoutes, MessagesKeepWellFormed, TicksKeepWellFormed, CostsKeepWellFormed, AnnouncingKeepsWellFormed, WithdrawingKeepsWellFormed, RaisingKeepsWellFormed}
+use Rattle.babel_state.specs.Calls.{cost_set}
 use Rattle.babel_state.proofs.TableLaws.{message_tables, raised_tables}
 use Rattle.babel_state.proofs.TickTables.{tick_tables, cost_tables, announced_also_tables, withdrawn_tables}
 use Rattle.babel_state.proofs.SelectableSteps.{message_good, announced_good, withdrawn_good}
-use Rattle.babel_state.proofs.SelectableTicks.{cost_good, tick_selectable}
+use Rattle.babel_state.proofs.SelectableTicks.{cost_good, same_costs, same_selections, tick_selectable}
+use Rattle.babel_state.proofs.KeptRoutes.{parts_routes}
 
 pub message_well : MessagesKeepWellFormed
 message_well now peer message s encodable well = record {
@@ -52,3 +54,7 @@ raised_current s prefix current = current
 
 pub cost_current : CostsKeepCurrent
 cost_current iface cost s free well = (cost_good iface cost s free well.tables).current
+
+pub cost_routes : CostsKeepRoutes
+cost_routes iface cost s free well =
+    parts_routes s (cost_set iface cost s) (same_selections iface cost s) (same_costs iface cost s free well.tables)

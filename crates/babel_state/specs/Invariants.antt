@@ -34,6 +34,7 @@ use Rattle.babel_state.specs.NextDatagram.{Fits, next_datagram}
 use Rattle.babel_state.specs.SeqnoRequests.{raised}
 use Rattle.babel_state.specs.Calls.{first_state, set_cost_fault, cost_set, is_prefix_too_many, announced_also, withdrawn}
 use Rattle.babel_state.specs.CurrentSelections.{is_selection_candidate, IsCurrentAt, KeepsCurrent, KeepsSelections, AreInHalf}
+use Rattle.babel_state.specs.KeptRoutes.{KeepsRoutes}
 
 -- ---- each table
 
@@ -155,6 +156,10 @@ RaisingKeepsWellFormed = (s : State) → IsWellFormed s → IsWellFormed (raised
 -- A change of a nominal cost changes no link's cost, so that what is current stays current.
 abbrev pub CostsKeepCurrent : Type 0
 CostsKeepCurrent = (iface cost : ℕ) (s : State) → set_cost_fault iface cost s ≡ None → IsWellFormed s → KeepsCurrent s (cost_set iface cost s)
+
+-- So the same is reported of each selected route, too.
+abbrev pub CostsKeepRoutes : Type 0
+CostsKeepRoutes = (iface cost : ℕ) (s : State) → set_cost_fault iface cost s ≡ None → IsWellFormed s → KeepsRoutes s (cost_set iface cost s)
 
 -- A datagram changes no selection, and each selected route is a candidate after it.
 abbrev pub SendingKeepsSelected : Type 0

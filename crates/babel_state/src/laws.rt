@@ -3,7 +3,7 @@
 ghost use Rattle.std.specs.Prelude.{◌≡◌, ◌<◌, ◌≤◌, ◌^◌, List, length};
 ghost use Rattle.babel_state.specs.declared.items.Item.{Item};
 ghost use Rattle.babel_state.specs.Limits.{most_pending};
-ghost use Rattle.babel_state.specs.Invariants.{CostsKeepCurrent, SendingKeepsSelected, SendingKeepsSelections, SendingKeepsCurrentInHalf, NewSpeakersAreWellFormed, MessagesKeepWellFormed, TicksKeepWellFormed, SendingKeepsWellFormed, CostsKeepWellFormed, AnnouncingKeepsWellFormed, WithdrawingKeepsWellFormed, RaisingKeepsWellFormed};
+ghost use Rattle.babel_state.specs.Invariants.{CostsKeepCurrent, CostsKeepRoutes, SendingKeepsSelected, SendingKeepsSelections, SendingKeepsCurrentInHalf, NewSpeakersAreWellFormed, MessagesKeepWellFormed, TicksKeepWellFormed, SendingKeepsWellFormed, CostsKeepWellFormed, AnnouncingKeepsWellFormed, WithdrawingKeepsWellFormed, RaisingKeepsWellFormed};
 ghost use Rattle.babel_state.specs.Queueing.{Pending, queued, queued_at_once};
 ghost use Rattle.babel_state.specs.QueueLaws.{QueueingAppends, NothingIsSkipped, NoneIfNothingPending, ItemsAreEncodable, DatagramsAreEncodable, ItemsHaveInterfaces};
 ghost use Rattle.babel_state.specs.Restarts.{SnapshotsAreSeen, RestartsAreSeen, SnapshotsAreWhole, RestoredAreWellFormed, RestartsAreWellFormed, RestoredAreCurrent};
@@ -103,8 +103,9 @@ pub fn datagrams_send()
     ensures none { NoDatagramChangesNothing }
 {}
 
-/// Messages, new costs, own prefixes and raises keep each selection that is current. The next
-/// datagram changes no selection, and leaves each selected route a candidate. It keeps a current
+/// Messages, new costs, own prefixes and raises keep each selection that is current. A new cost
+/// changes nothing that is reported of a selected route: a link that is up costs what its neighbour
+/// reports (RFC 8966, appendix A.2.1). The next datagram changes no selection, and leaves each selected route a candidate. It keeps a current
 /// selection, unless an unfeasible route of the prefix becomes feasible. That can't be while the
 /// seqnos of the prefix lie in one half of the circle.
 #[inline]
@@ -112,6 +113,7 @@ pub fn selections_stay_current()
     ensures messages { MessagesKeepCurrent }
     ensures datagrams { PlacesKeepCurrent }
     ensures set_cost { CostsKeepCurrent }
+    ensures set_cost_routes { CostsKeepRoutes }
     ensures announce { AnnouncingKeepsCurrent }
     ensures withdraw { WithdrawingKeepsCurrent }
     ensures raise { RaisingKeepsCurrent }

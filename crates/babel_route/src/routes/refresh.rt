@@ -17,10 +17,10 @@ ghost use Rattle.babel_route.specs.Repeats.{is_repeated, refreshed};
 ghost use Rattle.babel_route.specs.SelectionChanges.{selection_change};
 ghost use Rattle.babel_choice.specs.Choices.{peer_before};
 
-use super::RoutesOver;
 use super::changes::SelectionChange;
 use super::current::is_same_entry;
-use super::room::is_crowded;
+use super::room::places_within;
+use super::{ROUTE_PLACES, RoutesOver};
 use babel_choice::{Cursor, Entry, ReceivedUpdate, RouteKey, Selection};
 use babel_table::{Full, Table, find_near};
 use babel_value::{Peer, Prefix, hold_time};
@@ -95,9 +95,11 @@ impl<E: Table<RouteKey, Entry>, S: Table<Prefix, Selection>> RoutesOver<E, S> {
         ensures ok { OnOk result (self.new ≡ record self.old { entries = put route_cmp key entry self.old.entries }) }
         ensures err { OnErr result (self.new ≡ self.old) }
     {
-        if is_crowded(&self.entries, &self.selections) {
+        let taken = places_within(&self.entries, &self.selections, self.taken);
+        if taken >= ROUTE_PLACES {
             return Err(Full);
         }
+        self.taken = taken + 1;
         self.due = self.due.min(entry.deadline);
         self.entries.insert(place, key, entry);
         Ok(())

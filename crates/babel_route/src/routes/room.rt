@@ -1,6 +1,7 @@
-//! How many places of a route table are taken.
+//! How many places of a route table are taken: one for each entry, and one for each prefix that
+//! has a selection but no entry.
 
-ghost use Rattle.std.specs.Prelude.{◌≡◌, ◌+◌, ◌≤◌, false, not, length, slice_get, nat_le};
+ghost use Rattle.std.specs.Prelude.{◌≡◌, ◌+◌, ◌≤◌, false, not, length, slice_get};
 ghost use Rattle.std.specs.Option.{option_map_or};
 ghost use Rattle.babel_route.specs.Rooms.{most_routes};
 ghost use Rattle.babel_choice.specs.Choices.{has_entry};
@@ -11,24 +12,26 @@ use babel_choice::{Entry, PrefixRoutes, RouteKey, Selection};
 use babel_table::Table;
 use babel_value::Prefix;
 
-/// Whether all places are taken: one for each entry, and one for each prefix that has a selection
-/// but no entry. Those prefixes are counted only if they decide it: the entries don't take all
-/// places, and would with as many of them as there are selections.
-pub(crate) fn is_crowded<E: Table<RouteKey, Entry>, S: Table<Prefix, Selection>>(
+/// How many places may be taken, by a number that is no less than those that are. If the result is
+/// all places, all are taken. What removes entries leaves the number as it was, so the places are
+/// counted here if it is all of them: once for any number of removals, and never if the entries
+/// alone take all.
+pub(crate) fn places_within<E: Table<RouteKey, Entry>, S: Table<Prefix, Selection>>(
     entries: &E,
     selections: &S,
-) -> bool
-    requires entries { E.room entries.now ≡ most_routes }
+    most: usize,
+) -> usize
     requires selections { S.room selections.now ≡ most_routes }
-    ensures { result ≡ nat_le most_routes (length (E.entries entries.now) + orphans (E.entries entries.now) (S.entries selections.now)) }
+    requires within { length (E.entries entries.now) + orphans (E.entries entries.now) (S.entries selections.now) ≤ most }
+    requires most { most ≤ most_routes }
+    ensures within { length (E.entries entries.now) + orphans (E.entries entries.now) (S.entries selections.now) ≤ result }
+    ensures most { result ≤ most_routes }
+    ensures exact { most_routes ≤ result → result ≡ length (E.entries entries.now) + orphans (E.entries entries.now) (S.entries selections.now) }
 {
-    if entries.len() >= ROUTE_PLACES {
-        return true;
+    if most < ROUTE_PLACES || entries.len() >= ROUTE_PLACES {
+        return most;
     }
-    if entries.len() + selections.len() < ROUTE_PLACES {
-        return false;
-    }
-    entries.len() + count_orphans(entries, selections) >= ROUTE_PLACES
+    entries.len() + count_orphans(entries, selections)
 }
 
 /// How many prefixes have a selection but no entry: one walk over both tables.

@@ -17,6 +17,7 @@ use crate::hints::Hints;
 use crate::input::causes::UnfeasibleUpdate;
 use crate::state::Core;
 use crate::tables::Scratch;
+use crate::versions::is_other;
 use babel_choice::{Cursor, ReceivedUpdate, RouteKey};
 use babel_route::{Full, OnRepeat, Refreshed, Report, SelectionChange};
 use babel_state::Verdict;
@@ -29,16 +30,6 @@ fn is_feasible(pair: &Distance, update: &Distance) -> bool
     let (pair, update) = (*pair, *update);
     let metric = update.metric;
     !metric.is_finite() || update.better(pair)
-}
-
-/// Whether a route is reported otherwise than before.
-fn is_other(report: Report) -> bool
-    ensures { IsFalse result → report ≡ Report.Alike }
-{
-    match report {
-        Report::Alike => false,
-        Report::Other => true,
-    }
 }
 
 impl Core {

@@ -1,17 +1,20 @@
 //! The calls that change a speaker without a datagram or a moment, and those that report its state.
 
-ghost use Rattle.std.specs.Prelude.{◌≡◌, ◌↔◌, true, false, Option, Some, slice_get, option_map, IsTrue, IsOk, IsErr, IsNone, IfErr, OnOk, OnErr, drop, map};
+ghost use Rattle.std.specs.Prelude.{◌≡◌, ◌↔◌, true, false, Option, Some, slice_get, option_map, IsTrue, IsOk, IsErr, IsNone, IfOk, IfErr, OnOk, OnErr, drop, map};
 ghost use Rattle.babel_value.specs.Metrics.{metric_sum};
 ghost use Rattle.babel_value.specs.Prefixes.{PrefixValue};
 ghost use Rattle.babel_choice.specs.Choices.{routes_of};
+ghost use Rattle.babel_route.specs.declared.routes.changes.Report.{Report};
 ghost use Rattle.babel_state.specs.declared.selected.Choice.{Choice};
 ghost use Rattle.babel_state.specs.declared.selected.LastChoice.{LastChoice};
+ghost use Rattle.babel_state.specs.KeptRoutes.{KeepsRoutes};
 ghost use Rattle.babel_state.specs.State.{announces, cost_at};
 ghost use Rattle.babel_state.specs.Calls.{set_cost_fault, cost_set, is_prefix_too_many, announced_also, withdrawn, select_and_advertise, choice_of, reported_selected, selected_route, reported_entries, reported_entry};
 
 use crate::output::messages::interface_entry;
 use crate::state::Core;
-use babel_choice::{Entry, Selection};
+use babel_choice::{Cursor, Entry, Selection};
+use babel_route::Report;
 use babel_state::{
     Choice, LastChoice, MAX_COST, NotAnnounced, Selected, SetCostFault, TooManyPrefixes,
 };
@@ -36,44 +39,51 @@ pub fn set_cost(core: &mut Core, iface: u8, cost: u16) -> Result<(), SetCostFaul
     Ok(())
 }
 
-/// Selects the route of the prefix again, and queues an update of it to all.
-fn select_and_advertise(core: &mut Core, prefix: &Prefix)
-    ensures { core.new ≡ select_and_advertise prefix.now core.old }
+/// Selects the route of the prefix again, and queues an update of it to all. Returns whether the
+/// selected route is reported as before.
+fn select_and_advertise(core: &mut Core, prefix: &Prefix) -> Report
+    ensures state { core.new ≡ select_and_advertise prefix.now core.old }
+    ensures kept { result ≡ Report.Alike → KeepsRoutes core.old core.new }
 {
-    core.select(prefix);
+    let mut cursor = Cursor::new();
+    let change = core.select_near(prefix, &mut cursor);
     core.queue_updates_to_all(prefix);
+    change.report
 }
 
-/// Announces a prefix (RFC 8966, section 3.7).
+/// Announces a prefix (RFC 8966, section 3.7). Returns whether the selected routes are reported as
+/// before.
 #[tactic(auto, unfolding(babel_state::specs::Calls::announced_also))]
-pub fn announce(core: &mut Core, prefix: &Prefix) -> Result<(), TooManyPrefixes>
+pub fn announce(core: &mut Core, prefix: &Prefix) -> Result<Report, TooManyPrefixes>
     ensures full { IsErr result ↔ (is_prefix_too_many prefix.now core.old ≡ true) }
     ensures ok { OnOk result (core.new ≡ announced_also prefix.now core.old) }
     ensures err { OnErr result (core.new ≡ core.old) }
+    ensures kept { IfOk result (λ report. report ≡ Report.Alike → KeepsRoutes core.old core.new) }
 {
     if core.announces(prefix) {
-        return Ok(());
+        return Ok(Report::Alike);
     }
     if core.announced.insert(*prefix).is_err() {
         return Err(TooManyPrefixes);
     }
-    select_and_advertise(core, prefix);
-    Ok(())
+    let report = select_and_advertise(core, prefix);
+    Ok(report)
 }
 
-/// Announces a prefix no longer.
+/// Announces a prefix no longer. Returns whether the selected routes are reported as before.
 #[tactic(auto, unfolding(babel_state::specs::Calls::withdrawn))]
-pub fn withdraw(core: &mut Core, prefix: &Prefix) -> Result<(), NotAnnounced>
+pub fn withdraw(core: &mut Core, prefix: &Prefix) -> Result<Report, NotAnnounced>
     ensures unknown { IsErr result ↔ (announces prefix.now core.old ≡ false) }
     ensures ok { OnOk result (core.new ≡ withdrawn prefix.now core.old) }
     ensures err { OnErr result (core.new ≡ core.old) }
+    ensures kept { IfOk result (λ report. report ≡ Report.Alike → KeepsRoutes core.old core.new) }
 {
     if !core.announces(prefix) {
         return Err(NotAnnounced);
     }
     core.announced.remove(prefix);
-    select_and_advertise(core, prefix);
-    Ok(())
+    let report = select_and_advertise(core, prefix);
+    Ok(report)
 }
 
 /// The selected route of the prefix, with its metric by the present cost of the link (RFC 8966,

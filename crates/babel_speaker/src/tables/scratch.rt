@@ -1,6 +1,6 @@
 //! Room for a list of prefixes in ascending order, which some calls need while they run.
 
-ghost use Rattle.std.specs.Prelude.{◌≡◌, ◌↔◌, ◌≤◌, ◌<◌, ◌+◌, ◌++◌, [], length, map, IfOk, IsTrue};
+ghost use Rattle.std.specs.Prelude.{◌≡◌, ◌↔◌, ◌≤◌, ◌<◌, ◌+◌, ◌++◌, [], length, map, IfOk, IsTrue, if◌then◌else◌};
 ghost use Rattle.std.specs.FinMap.{put, is_sorted};
 ghost use Rattle.babel_value.specs.Orders.{prefix_cmp};
 ghost use Rattle.babel_value.specs.Prefixes.{PrefixValue};
@@ -8,11 +8,11 @@ ghost use Rattle.babel_route.specs.Rooms.{most_listed_prefixes, most_routes};
 ghost use Rattle.babel_choice.specs.RouteKeys.{route_cmp};
 ghost use Rattle.babel_state.specs.Sameness.{has_prefix};
 ghost use Rattle.babel_state.specs.State.{gathered, prefixes_in};
-ghost use Rattle.babel_speaker.specs.DueRoutes.{prefixes_due};
+ghost use Rattle.babel_speaker.specs.DueRoutes.{is_finite_route, prefixes_expiring};
 ghost use Rattle.babel_speaker.specs.StalePrefixes.{is_stale};
 
 use crate::tables::{Announced, Prefixes};
-use babel_choice::Costs;
+use babel_choice::{Costs, Entry, RouteKey};
 use babel_route::{PREFIX_PLACES, Routes};
 use babel_sources::Sources;
 use babel_table::{SortedTable, Table, put_near};
@@ -90,13 +90,24 @@ impl Scratch {
         }
     }
 
-    /// Adds the prefix of each route that is due.
-    fn insert_due(&mut self, routes: &Routes, now: u64)
+    /// Adds the prefix of the route if it is finite.
+    fn insert_finite(&mut self, route: &(RouteKey, Entry))
+        requires room { length self.old < most_listed_prefixes }
+        ensures prefixes { self.new ≡ if is_finite_route route.now then put prefix_cmp route.now.0.prefix tt self.old else self.old }
+        ensures few { length self.new ≤ length self.old + 1 }
+    {
+        if route.1.distance.metric.is_finite() {
+            self.insert(route.0.prefix);
+        }
+    }
+
+    /// Adds the prefix of each finite route that is due.
+    fn insert_expiring(&mut self, routes: &Routes, now: u64)
         requires room { length self.old + most_routes ≤ most_listed_prefixes }
-        ensures { self.new ≡ gathered (prefixes_due now routes.now.entries) self.old }
+        ensures { self.new ≡ gathered (prefixes_expiring now routes.now.entries) self.old }
     {
         for route in routes.due(now) {
-            self.insert(route.0.prefix);
+            self.insert_finite(&route);
         }
     }
 
@@ -152,12 +163,12 @@ impl Scratch {
         self.insert_stale(routes, announced, sources, costs);
     }
 
-    /// Makes the set that of the prefixes that have a route which is due.
+    /// Makes the set that of the prefixes that have a finite route which is due.
     pub fn gather_expiring(&mut self, routes: &Routes, now: u64)
-        ensures { self.new ≡ gathered (prefixes_due now routes.now.entries) [] }
+        ensures { self.new ≡ gathered (prefixes_expiring now routes.now.entries) [] }
     {
         self.clear();
-        self.insert_due(routes, now);
+        self.insert_expiring(routes, now);
     }
 
     /// Makes the set that of the prefixes that are announced or selected.

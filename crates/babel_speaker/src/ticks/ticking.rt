@@ -10,7 +10,7 @@ ghost use Rattle.babel_state.specs.KeptRoutes.{KeepsRoutes};
 ghost use Rattle.babel_state.specs.Restarts.{snapshot_of};
 ghost use Rattle.babel_speaker.specs.LinkChanges.{AreOthersCurrent};
 ghost use Rattle.babel_speaker.specs.TickItems.{all_timers_of};
-ghost use Rattle.babel_speaker.specs.DueRoutes.{prefixes_due};
+ghost use Rattle.babel_speaker.specs.DueRoutes.{prefixes_expiring};
 ghost use Rattle.babel_state.specs.Reselection.{reselect_all};
 ghost use Rattle.babel_state.specs.State.{gathered, prefixes_in};
 ghost use Rattle.babel_state.specs.Ticks.{all_timer_items, routes_selected, forget_each, links_ticked, routes_ticked, requests_ticked, interfaces_ticked, sources_ticked, ticked};
@@ -82,9 +82,9 @@ impl Core {
         }
     }
 
-    /// Makes the set that of the prefixes that have a route which is due.
+    /// Makes the set that of the prefixes that have a finite route which is due.
     fn gather_expiring(&self, now: u64, scratch: &mut Scratch)
-        ensures { scratch.new ≡ gathered (prefixes_due now self.now.routes.entries) [] }
+        ensures { scratch.new ≡ gathered (prefixes_expiring now self.now.routes.entries) [] }
     {
         scratch.gather_expiring(&self.routes, now);
     }
@@ -100,22 +100,23 @@ impl Core {
         self.routes.expire(now)
     }
 
-    /// Takes the deadlines of routes, and selects the routes of their prefixes again. All other
-    /// selections stay current, so that this leaves what a reselection of all leaves. If it returns
-    /// `false`, no route is due, and nothing changed.
+    /// Takes the deadlines of routes, and selects the routes of the prefixes again of which a finite
+    /// route is due. All other selections stay current, since an infinite route is no candidate. So
+    /// this leaves what a reselection of all leaves. If it returns `false`, no finite route is due,
+    /// and the selected routes are reported as before.
     #[tactic(auto, using(crate::proofs::Expiries::expired_reselected, crate::proofs::Expiries::nothing_reselected, crate::proofs::Expiries::expired_current))]
     fn expire_routes(&mut self, now: u64, scratch: &mut Scratch) -> bool
         requires current { AreCurrent self.old }
         ensures state { self.new ≡ reselect_all now (routes_ticked now self.old) }
         ensures current { AreCurrent self.new }
-        ensures quiet { IsFalse result → self.new ≡ self.old }
+        ensures kept { IsFalse result → KeepsRoutes self.old self.new }
     {
         self.gather_expiring(now, scratch);
         if !self.tick_routes(now) {
             return false;
         }
         self.reselect_each(now, scratch);
-        true
+        !scratch.is_empty()
     }
 
     /// Collects the entries of the source table whose time has come, if the speaker does so (RFC

@@ -1,4 +1,4 @@
-use Rattle.babel_state.proofs.WellFormed.{message_current, cost_current, announced_current, withdrawn_current, raised_current}
+use Rattle.babel_state.proofs.WellFormed.{message_current, cost_current, cost_routes, announced_current, withdrawn_current, raised_current}
 use Rattle.babel_state.proofs.DatagramsSent.{selected_stay}
 use Rattle.babel_state.proofs.HalfCircle.{half_current, sending_selections}
 use Rattle.babel_state.proofs.PlacesCurrent.{places_current}
@@ -9,6 +9,9 @@ returns-clause-messages c = message_current
 
 pub returns-clause-set_cost : goal.returns-clause-set_cost
 returns-clause-set_cost c = cost_current
+
+pub returns-clause-set_cost_routes : goal.returns-clause-set_cost_routes
+returns-clause-set_cost_routes c = cost_routes
 
 pub returns-clause-announce : goal.returns-clause-announce
 returns-clause-announce c = announced_current

@@ -10,7 +10,7 @@ pub invariant_of-self : goal.invariant_of-self
 invariant_of-self g c =
     let old = c.self.inside in
     let kept = c.self.invariant in
-    (c.revise_dues-self-inside.ensures.room ∙ kept.0, kept.1, revised_within (expired_entry c.args.now) (g.E.Table.entries old.entries) (g.E.Table.entries c.revise_dues-self-inside.new.table) (g.S.Table.entries old.selections) (g.met.S.Table.ordered old.selections) c.revise_dues-self-inside.ensures.entries kept.2, c.revise_dues-self-inside.ensures.due)
+    (c.revise_dues-self-inside.ensures.room ∙ kept.0, kept.1, revised_within old.taken (expired_entry c.args.now) (g.E.Table.entries old.entries) (g.E.Table.entries c.revise_dues-self-inside.new.table) (g.S.Table.entries old.selections) (g.met.S.Table.ordered old.selections) c.revise_dues-self-inside.ensures.entries kept.2, c.revise_dues-self-inside.ensures.due, kept.4)
 
 pub returns-then-now-self-clause-routes : goal.returns-then-now-self-clause-routes
 returns-then-now-self-clause-routes g c =

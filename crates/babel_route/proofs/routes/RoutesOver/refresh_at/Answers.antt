@@ -26,11 +26,11 @@ invariant_of-self g c =
     let new_es = g.E.Table.entries c.replace.new.self in
     let new_ss = g.S.Table.entries c.refresh_selection-before.new.selections in
     let repeated : is_repeated entry (find route_cmp key es) ≡ true = subst (λ (r : RoutesValue). is_repeated entry (find route_cmp key r.entries) ≡ true) (sym c.self.view_is) c.requires.repeated in
-    let within = put_within key entry es new_es ss (g.met.E.Table.ordered old.entries) c.replace.ensures.entries (λ none. absurd (true≢false (sym (repeated_is_known entry (find route_cmp key es) repeated) ∙ none))) kept.2 in
+    let within = put_within old.taken key entry es new_es ss (g.met.E.Table.ordered old.entries) c.replace.ensures.entries (λ none. absurd (true≢false (sym (repeated_is_known entry (find route_cmp key es) repeated) ∙ none))) kept.2 in
     let has = subst (λ (rs : RouteEntries). has_entry rs key.prefix ≡ true) (sym c.replace.ensures.entries) (put_has_entry key.prefix key.peer entry es) in
-    let selected = selected_within key.prefix (option_map (refreshed key.peer entry.deadline) (find prefix_cmp key.prefix ss)) new_es ss new_ss (λ some. has) c.refresh_selection-before.ensures.entries within in
+    let selected = selected_within old.taken key.prefix (option_map (refreshed key.peer entry.deadline) (find prefix_cmp key.prefix ss)) new_es ss new_ss (λ some. has) c.refresh_selection-before.ensures.entries within in
     let quiet = put_due c.min-self-inside.result old.due key entry es new_es (omega (arith, c.min-self-inside.ensures)) (omega (arith, c.min-self-inside.ensures)) c.replace.ensures.entries kept.3 in
-    (c.replace.ensures.room ∙ kept.0, c.refresh_selection-before.ensures.room ∙ kept.1, selected, quiet)
+    (c.replace.ensures.room ∙ kept.0, c.refresh_selection-before.ensures.room ∙ kept.1, selected, quiet, kept.4)
 
 pub returns-clause-change : goal.returns-clause-change
 returns-clause-change g c =

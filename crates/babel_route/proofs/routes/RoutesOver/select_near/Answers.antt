@@ -1,6 +1,6 @@
 -- A selection takes no place, since its prefix has an entry.
 use Rattle.std.specs.FinMap.{find}
-use Rattle.std.proofs.Common.{◌∙◌, sym, ap, subst, length, ◌<◌}
+use Rattle.std.proofs.Common.{arith, ◌∙◌, sym, ap, subst, length, ◌<◌}
 use Rattle.babel_value.specs.Orders.{prefix_cmp}
 use Rattle.babel_table.specs.Entries.{with_value}
 use Rattle.babel_choice.specs.Choices.{Selections, choice}
@@ -14,13 +14,13 @@ pub replace_near-requires : goal.replace_near-requires
 replace_near-requires g c =
     let old = c.self.inside in
     let kept = c.self.invariant in
-    record { before = c.find_near-before.ensures.value; at = c.find_near-before.ensures.at; gap = c.find_near-before.ensures.gap; room = λ some none. subst (λ room. length (g.S.Table.entries old.selections) < room) (sym kept.1) (selection_fits_new c.args.prefix.now (g.E.Table.entries old.entries) (g.S.Table.entries old.selections) (g.met.S.Table.ordered old.selections) (c.choose-after.ensures.known some) none kept.2) }
+    record { before = c.find_near-before.ensures.value; at = c.find_near-before.ensures.at; gap = c.find_near-before.ensures.gap; room = λ some none. subst (λ room. length (g.S.Table.entries old.selections) < room) (sym kept.1) (selection_fits_new c.args.prefix.now (g.E.Table.entries old.entries) (g.S.Table.entries old.selections) (g.met.S.Table.ordered old.selections) (c.choose-after.ensures.known some) none (omega (arith, kept.2, kept.4))) }
 
 pub invariant_of-self : goal.invariant_of-self
 invariant_of-self g c =
     let old = c.self.inside in
     let kept = c.self.invariant in
-    (kept.0, c.replace_near.ensures.room ∙ kept.1, selected_within c.args.prefix.now c.choose-after.result (g.E.Table.entries old.entries) (g.S.Table.entries old.selections) (g.S.Table.entries c.replace_near.new.selections) c.choose-after.ensures.known c.replace_near.ensures.entries kept.2, kept.3)
+    (kept.0, c.replace_near.ensures.room ∙ kept.1, selected_within old.taken c.args.prefix.now c.choose-after.result (g.E.Table.entries old.entries) (g.S.Table.entries old.selections) (g.S.Table.entries c.replace_near.new.selections) c.choose-after.ensures.known c.replace_near.ensures.entries kept.2, kept.3, kept.4)
 
 pub returns-clause-first : goal.returns-clause-first
 returns-clause-first g c =

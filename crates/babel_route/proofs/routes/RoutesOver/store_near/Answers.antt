@@ -15,6 +15,6 @@ invariant_of-self g c =
     let key = key_of update.source.prefix update.peer in
     let es = g.E.Table.entries old.entries in
     let new_es = g.E.Table.entries c.replace.new.self in
-    let within = put_within key entry es new_es (g.S.Table.entries old.selections) (g.met.E.Table.ordered old.entries) c.replace.ensures.entries (λ none. absurd (true≢false (ap is_some c.in-Some.ensures.value ∙ none))) kept.2 in
+    let within = put_within old.taken key entry es new_es (g.S.Table.entries old.selections) (g.met.E.Table.ordered old.entries) c.replace.ensures.entries (λ none. absurd (true≢false (ap is_some c.in-Some.ensures.value ∙ none))) kept.2 in
     let quiet = put_due c.min-self-inside.result old.due key entry es new_es (omega (arith, c.min-self-inside.ensures)) (omega (arith, c.min-self-inside.ensures)) c.replace.ensures.entries kept.3 in
-    (c.replace.ensures.room ∙ kept.0, kept.1, within, quiet)
+    (c.replace.ensures.room ∙ kept.0, kept.1, within, quiet, kept.4)
