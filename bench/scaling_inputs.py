@@ -51,9 +51,9 @@ def router(host):
     return b"\x06\x0a\0\0" + bytes(7) + bytes([host])
 
 
-def update(prefix, metric, seqno=0):
+def update(prefix, metric, seqno=0, interval=LONG):
     """An Update of 10.0.PREFIX.0/24, or, above 255, of a net that follows."""
-    return b"\x08\x0d\x01\0\x18\0" + LONG + number(seqno) + number(metric) + b"\x0a" + number(prefix)
+    return b"\x08\x0d\x01\0\x18\0" + interval + number(seqno) + number(metric) + b"\x0a" + number(prefix)
 
 
 RETRACT_ALL = b"\x08\x0a\0\0\0\0" + LONG + b"\0\0\xff\xff"
@@ -83,12 +83,12 @@ def parted_introduction(neighbours, routes):
     return neighbours_with(neighbours, lambda neighbour: range(routes * neighbour // neighbours, routes * (neighbour + 1) // neighbours))
 
 
-def neighbours_with(neighbours, prefixes_of):
+def neighbours_with(neighbours, prefixes_of, interval=LONG):
     """Neighbours with a link of cost 96, each with a route to each of its prefixes."""
     lines = []
     for neighbour in range(neighbours):
         lines += [line(0, neighbour, hello(0)), line(0, neighbour, hello(1) + ihu(96))]
-        updates = [update(prefix, neighbour % 2) for prefix in prefixes_of(neighbour)]
+        updates = [update(prefix, neighbour % 2, interval=interval) for prefix in prefixes_of(neighbour)]
         for first in range(0, len(updates), UPDATES_A_DATAGRAM):
             body = router(200) + b"".join(updates[first : first + UPDATES_A_DATAGRAM])
             lines.append(line(0, neighbour, body))
@@ -143,6 +143,28 @@ def refused_updates(index, neighbours, _routes):
     return line(index, index % neighbours, router(200) + body)
 
 
+def nominal_costs(index, _neighbours, _routes):
+    return f"{index} cost 0 {100 + index % 2}\n"
+
+
+def front_cell(size, front, more, units):
+    """What is counted are the lines `more` after those of the front."""
+    return Cell(size, CONFIG, "".join(front), "".join(front + more), units)
+
+
+def new_routes_cell(size):
+    """The last quarter of the routes come, each in a line of its own."""
+    known = size - size // 4
+    return front_cell(size, introduction(1, known), [update_line(0, prefix, 1, size, 1) for prefix in range(known, size)], size - known)
+
+
+def expiry_cell(size, ticks):
+    """The last of the ticks is counted for each route: the first finds that all routes are too old, and by the second all have gone."""
+    front = neighbours_with(1, lambda _neighbour: range(size), interval=number(100))
+    lines = [f"{1_000 * (turn + 1)} tick\n" for turn in range(ticks)]
+    return front_cell(size, front + lines[:-1], lines[-1:], size)
+
+
 def log_cell(size, make_line, neighbours, routes, counted, introduce=introduction):
     lines = introduce(neighbours, routes)
     lines += [make_line(index, neighbours, routes) for index in range(WARM + counted)]
@@ -159,9 +181,13 @@ def log_rows():
         ("a Hello and an IHU that change nothing", settled_hellos, COUNTED),
         ("a request for all routes", dump_requests, COUNTED // 4),
         ("a tick", idle_ticks, COUNTED),
+        ("a nominal cost", nominal_costs, COUNTED),
     ]
     for name, make_line, counted in kinds:
         yield Row("replay", f"{name}; 1 neighbour", "routes", [log_cell(size, make_line, 1, size, counted) for size in ROUTES])
+    yield Row("replay", "an Update of a new route; 1 neighbour", "routes", [new_routes_cell(size) for size in ROUTES])
+    yield Row("replay", "a route of those that a tick retracts; 1 neighbour", "routes", [expiry_cell(size, 1) for size in ROUTES])
+    yield Row("replay", "a route of those that a tick removes; 1 neighbour", "routes", [expiry_cell(size, 2) for size in ROUTES])
     for name, make_line, counted in kinds:
         cells = [log_cell(size, make_line, size, size * SHARED_PREFIXES, counted) for size in NEIGHBOURS]
         yield Row("replay", f"{name}; {SHARED_PREFIXES} prefixes", "neighbours", cells)
@@ -174,6 +200,8 @@ def log_rows():
 # Scenarios.
 
 HELLO = 400
+# Events of one kind that are counted in a settled network.
+CALLS = 2_048
 Shape = collections.namedtuple("Shape", ["name", "receivers", "warm", "counted"])
 
 
@@ -220,6 +248,30 @@ def scenario_cell(shape, nodes, announcers):
     return Cell(nodes, None, short, long, sum(map(len, turns[shape.warm :])))
 
 
+def calls_cell(shape, nodes, make_event):
+    """Calls of the nodes of a settled network in which all announce."""
+    turns = [turn_events(turn, nodes, shape.receivers) for turn in range(shape.warm)]
+    time = shape.warm * HELLO
+    calls = [make_event(index, nodes, time) for index in range(CALLS)]
+    tables = "".join(node_table(node, True) for node in range(nodes))
+    return Cell(nodes, None, scenario(turns, tables), scenario([*turns, calls], tables), CALLS)
+
+
+def nominal_cost_of_node(index, nodes, _time):
+    return f"cost {index % nodes} 0 {96 + index // nodes % 2}"
+
+
+def own_prefix_of_node(index, nodes, _time):
+    """The prefix is withdrawn, and with the next event announced again."""
+    node = index // 2 % nodes
+    return f"{('withdraw', 'announce')[index % 2]} {node} 10.{node}.0.0/16"
+
+
+def silent_tick(index, nodes, time):
+    """A tick of each node each second, while no datagram comes."""
+    return f"tick {index % nodes} {time + 100 * (index // nodes)}"
+
+
 def scenario(turns, tables):
     events = "".join(f'  "{event}",\n' for turn in turns for event in turn)
     return f"events = [\n{events}]\n{tables}"
@@ -233,6 +285,12 @@ def scenario_rows():
         ):
             cells = [scenario_cell(shape, nodes, announcers(nodes)) for nodes in NODES]
             yield Row("net", f"an event in {shape.name}, {words}", "nodes", cells)
+        for words, make_event in (
+            ("a nominal cost", nominal_cost_of_node),
+            ("an own prefix, withdrawn or announced", own_prefix_of_node),
+            ("a tick while no datagram comes", silent_tick),
+        ):
+            yield Row("net", f"{words}, in {shape.name}", "nodes", [calls_cell(shape, nodes, make_event) for nodes in NODES])
 
 
 def rows():

@@ -1,8 +1,8 @@
 //! What is known of one neighbour (RFC 8966, section 3.2.4).
 
-ghost use Rattle.std.specs.Prelude.{◌≡◌, ◌↔◌, ◌<◌, ℕ, false, Some, None, is_some, IsTrue};
+ghost use Rattle.std.specs.Prelude.{◌≡◌, ◌↔◌, ◌<◌, ◌||◌, ℕ, true, false, Some, None, is_some, IsTrue, IsFalse, IsSome};
 ghost use Rattle.std.specs.Option.{option_and_then, option_map_or};
-ghost use Rattle.babel_link.specs.Links.{new_link, history_of, with_history, hello_timer, first_history, later_history, next_history, fired_history, link_verdict, hello_link, ihu_link, unless_silent, fired_link, expired_link, ticked_link, link_rxcost, link_cost, is_heard, is_up_history, is_txcost_due, IsQuietUntil, KeepsCost};
+ghost use Rattle.babel_link.specs.Links.{new_link, history_of, with_history, hello_timer, first_history, later_history, next_history, fired_history, link_verdict, hello_link, ihu_link, fired_link, expired_link, ticked_link, link_rxcost, link_cost, is_heard, is_up_history, is_txcost_due, IsQuietUntil, KeepsCost};
 ghost use Rattle.babel_value.specs.Hellos.{is_unicast};
 ghost use Rattle.babel_value.specs.Moments.{later, hold_time};
 ghost use Rattle.babel_link.specs.Moments.{hello_patience};
@@ -88,20 +88,33 @@ impl History {
         heard
     }
 
-    /// The history after its deadline fired, if that is due.
+    /// Handles its deadline, if that is due. Returns whether it was.
     #[tactic(auto, unfolding(crate::specs::Links::fired_history))]
-    fn fired(self, now: u64) -> Option<History>
-        ensures { result ≡ fired_history now self }
+    fn fire(&mut self, now: u64) -> bool
+        ensures fired { IsTrue result → fired_history now self.old ≡ Some self.new }
+        ensures kept { IsFalse result → (fired_history now self.old ≡ None) × (self.new ≡ self.old) }
     {
-        let timer = self.timer?;
+        let Some(timer) = self.timer else {
+            return false;
+        };
         if now < timer.due {
-            return None;
+            return false;
         }
-        let mut marks = self.marks;
-        marks.missed();
+        self.marks.missed();
         let due = later_by(now, u64::from(timer.interval));
-        let timer = Some(Timer { due, ..timer });
-        Some(History { marks, timer })
+        self.timer = Some(Timer { due, ..timer });
+        true
+    }
+}
+
+/// Handles the deadline of the Hellos of a kind, if that is due. Returns whether it was.
+fn fire_history(history: &mut Option<History>, now: u64) -> bool
+    ensures fired { IsTrue result → (option_and_then (fired_history now) history.old ≡ history.new) × IsSome history.new }
+    ensures kept { IsFalse result → (option_and_then (fired_history now) history.old ≡ None) × (history.new ≡ history.old) }
+{
+    match history {
+        Some(history) => history.fire(now),
+        None => false,
     }
 }
 
@@ -135,8 +148,8 @@ fn hello_due(history: Option<History>) -> u64
 }
 
 /// Whether a Hello of the history is remembered.
-fn has_received(history: Option<History>) -> bool
-    ensures { result ≡ is_heard history }
+fn has_received(history: &Option<History>) -> bool
+    ensures { result ≡ is_heard history.now }
 {
     match history {
         Some(history) => history.marks.has_received(),
@@ -164,31 +177,6 @@ impl Link {
             unicast: None,
             txcost: Metric::INFINITE,
             txcost_due: None,
-        }
-    }
-
-    fn history(&self, kind: HelloKind) -> Option<History>
-        ensures { result ≡ history_of (is_unicast kind) self.now }
-    {
-        match kind {
-            HelloKind::Unicast => self.unicast,
-            HelloKind::Multicast => self.multicast,
-        }
-    }
-
-    fn with(self, kind: HelloKind, history: History) -> Link
-        ensures { result ≡ with_history (is_unicast kind) (Some history) self }
-    {
-        let history = Some(history);
-        match kind {
-            HelloKind::Unicast => Link {
-                unicast: history,
-                ..self
-            },
-            HelloKind::Multicast => Link {
-                multicast: history,
-                ..self
-            },
         }
     }
 
@@ -257,73 +245,75 @@ impl Link {
         self.cost_since(before)
     }
 
-    /// The link, if a Hello of either kind is remembered.
-    #[tactic(auto, unfolding(crate::specs::Links::unless_silent))]
-    fn unless_silent(self) -> Option<Link>
-        ensures { result ≡ unless_silent self }
+    /// Whether a Hello of either kind is remembered.
+    fn is_heard(&self) -> bool
+        ensures { result ≡ (is_heard self.now.multicast || is_heard self.now.unicast) }
     {
-        if has_received(self.multicast) || has_received(self.unicast) {
-            Some(self)
+        has_received(&self.multicast) || has_received(&self.unicast)
+    }
+
+    /// Handles the deadline of the multicast Hellos. Returns whether the neighbour stays.
+    #[tactic(auto, unfolding(crate::specs::Links::fired_link, crate::specs::Links::unless_silent))]
+    fn fire_multicast(&mut self, now: u64) -> bool
+        ensures stays { IsTrue result → fired_link now false self.old ≡ Some self.new }
+        ensures flushed { IsFalse result → fired_link now false self.old ≡ None }
+    {
+        if fire_history(&mut self.multicast, now) {
+            self.is_heard()
         } else {
-            None
+            true
         }
     }
 
-    /// The link after one kind's deadline was handled; `None` if that flushes the neighbour.
-    #[tactic(auto, unfolding(crate::specs::Links::fired_link))]
-    fn fired(self, now: u64, kind: HelloKind) -> Option<Link>
-        ensures { result ≡ fired_link now (is_unicast kind) self }
+    /// The same of the unicast Hellos.
+    #[tactic(auto, unfolding(crate::specs::Links::fired_link, crate::specs::Links::unless_silent))]
+    fn fire_unicast(&mut self, now: u64) -> bool
+        ensures stays { IsTrue result → fired_link now true self.old ≡ Some self.new }
+        ensures flushed { IsFalse result → fired_link now true self.old ≡ None }
     {
-        let Some(history) = self.history(kind) else {
-            return Some(self);
-        };
-        match history.fired(now) {
-            Some(history) => self.with(kind, history).unless_silent(),
-            None => Some(self),
+        if fire_history(&mut self.unicast, now) {
+            self.is_heard()
+        } else {
+            true
         }
     }
 
-    /// The link after the deadline of the txcost was handled.
+    /// Handles the deadline of the txcost.
     #[tactic(auto, unfolding(crate::specs::Links::expired_link))]
-    fn expired(self, now: u64) -> Link
-        ensures { result ≡ expired_link now self }
+    fn expire(&mut self, now: u64)
+        ensures { self.new ≡ expired_link now self.old }
     {
-        match self.txcost_due {
-            Some(due) if due <= now => Link {
-                txcost: Metric::INFINITE,
-                txcost_due: None,
-                ..self
-            },
-            _ => self,
+        if let Some(due) = self.txcost_due {
+            if due <= now {
+                self.txcost = Metric::INFINITE;
+                self.txcost_due = None;
+            }
         }
     }
 
-    /// The link after the deadlines that are due were handled; `None` if that flushes the
-    /// neighbour.
+    /// Handles the deadlines that are due. Returns whether the neighbour stays: if it is flushed,
+    /// nothing is promised of the link.
     #[tactic(auto, unfolding(crate::specs::Links::ticked_link))]
-    fn handled(self, now: u64) -> Option<Link>
-        ensures { result ≡ ticked_link now self }
+    pub(crate) fn tick(&mut self, now: u64) -> bool
+        ensures stays { IsTrue result → ticked_link now self.old ≡ Some self.new }
+        ensures flushed { IsFalse result → ticked_link now self.old ≡ None }
     {
-        let link = self.fired(now, HelloKind::Multicast)?;
-        let link = link.fired(now, HelloKind::Unicast)?;
-        Some(link.expired(now))
-    }
-
-    /// The link after a tick; `None` if that flushes the neighbour.
-    pub(crate) fn ticked(self, now: u64) -> Option<Link>
-        ensures { result ≡ ticked_link now self }
-    {
-        if now < self.due() {
-            return Some(self);
+        if !self.fire_multicast(now) {
+            return false;
         }
-        self.handled(now)
+        if !self.fire_unicast(now) {
+            return false;
+        }
+        self.expire(now);
+        true
     }
 
     /// Whether a tick leaves the neighbour: it isn't flushed.
     pub(crate) fn stays(&self, now: u64) -> bool
         ensures { result ≡ is_some (ticked_link now self.now) }
     {
-        self.ticked(now).is_some()
+        let mut after = *self;
+        after.tick(now)
     }
 
     /// The moment from which the txcost is too old; the greatest one if there is none.
@@ -395,9 +385,10 @@ impl Link {
         if now < self.due() {
             return true;
         }
-        match self.handled(now) {
-            Some(after) => after.finite_cost().0 == self.finite_cost().0,
-            None => false,
+        let mut after = *self;
+        if !after.tick(now) {
+            return false;
         }
+        after.finite_cost().0 == self.finite_cost().0
     }
 }

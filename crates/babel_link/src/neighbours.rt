@@ -86,14 +86,13 @@ fn tick_links(
             kept += 1;
             continue;
         }
-        let (peer, link) = links[place];
-        match link.ticked(now) {
-            Some(link) => {
-                due = due.min(link.due());
-                links[kept] = (peer, link);
-                kept += 1;
-            }
-            None => gone.push(peer),
+        let (peer, mut link) = links[place];
+        if link.tick(now) {
+            due = due.min(link.due());
+            links[kept] = (peer, link);
+            kept += 1;
+        } else {
+            gone.push(peer);
         }
     }
     links.truncate(kept);

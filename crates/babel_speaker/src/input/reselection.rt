@@ -27,6 +27,15 @@ use babel_route::{OriginChange, Report, SelectionChange};
 use babel_state::{Item, REQUEST_HOPS, Resend, Target};
 use babel_value::{Peer, Prefix, Seqno, Source};
 
+/// A cursor at the same indices, for searches that go back to where another one began.
+fn copy_of(cursor: &Cursor) -> Cursor {
+    Cursor {
+        entry: cursor.entry,
+        selection: cursor.selection,
+        source: cursor.source,
+    }
+}
+
 impl Core {
     /// Queues an item.
     pub fn queue(&mut self, item: Item)
@@ -256,8 +265,9 @@ impl Core {
         ensures state { self.new ≡ reselect now cause prefix.now self.old }
         ensures kept { result ≡ Report.Alike → KeepsRoutes self.old self.new }
     {
+        let mut first = copy_of(cursor);
         let change = self.select_near(prefix, cursor);
-        self.follow_up(now, cause, prefix, &change, cursor);
+        self.follow_up(now, cause, prefix, &change, &mut first);
         change.report
     }
 
@@ -284,6 +294,16 @@ impl Core {
         scratch.gather_stale(&self.routes, &self.announced, &self.sources, &links);
         self.reselect_each(now, scratch);
         !scratch.is_empty()
+    }
+
+    /// The same, where most selections may be no longer current. So none is tested before, and the
+    /// choice of each prefix is made once.
+    pub(crate) fn reselect_routed(&mut self, now: u64, scratch: &mut Scratch)
+        ensures state { self.new ≡ reselect_all now self.old }
+        ensures current { AreCurrent self.new }
+    {
+        scratch.gather_routed(&self.routes);
+        self.reselect_each(now, scratch);
     }
 
     /// The same. If the speaker is settled, all selections are current, and there is nothing to do.
@@ -338,8 +358,9 @@ impl Core {
         ensures entries { self.new.routes.entries ≡ self.old.routes.entries }
         ensures known { known.now.cost ≡ cost_at self.new known.now.peer }
     {
+        let mut first = copy_of(cursor);
         let change = self.select_changed(prefix, known, cursor);
-        self.follow_origin(now, prefix, change.origin, cursor);
+        self.follow_origin(now, prefix, change.origin, &mut first);
     }
 
     /// The neighbour of the prefix's selection, if a reselection leaves that after a change of the

@@ -5,6 +5,7 @@ ghost use Rattle.std.specs.FinMap.{put, is_sorted};
 ghost use Rattle.babel_value.specs.Orders.{prefix_cmp};
 ghost use Rattle.babel_value.specs.Prefixes.{PrefixValue};
 ghost use Rattle.babel_route.specs.Rooms.{most_listed_prefixes, most_routes};
+ghost use Rattle.babel_route.specs.Selections.{prefixes_of};
 ghost use Rattle.babel_choice.specs.RouteKeys.{route_cmp};
 ghost use Rattle.babel_state.specs.Sameness.{has_prefix};
 ghost use Rattle.babel_state.specs.State.{gathered, prefixes_in};
@@ -90,6 +91,19 @@ impl Scratch {
         }
     }
 
+    /// Adds the prefix of each route.
+    fn insert_routes(&mut self, routes: &Routes)
+        requires room { length self.old + most_routes ≤ most_listed_prefixes }
+        ensures prefixes { self.new ≡ gathered (map (λ e. e.0.prefix) routes.now.entries) self.old }
+        ensures few { length self.new ≤ length self.old + most_routes }
+    {
+        // There are no more routes than room for them.
+        let _count = routes.len();
+        for route in routes.routes() {
+            self.insert(route.0.prefix);
+        }
+    }
+
     /// Adds the prefix of the route if it is finite.
     fn insert_finite(&mut self, route: &(RouteKey, Entry))
         requires room { length self.old < most_listed_prefixes }
@@ -161,6 +175,19 @@ impl Scratch {
     {
         self.clear();
         self.insert_stale(routes, announced, sources, costs);
+    }
+
+    /// Makes the set that of the prefixes that have a route or a selection.
+    #[tactic(auto, using(crate::proofs::Gathering::gathered_both))]
+    pub fn gather_routed(&mut self, routes: &Routes)
+        ensures prefixes { self.new ≡ gathered (prefixes_of routes.now) [] }
+        ensures routes_in_order { IsTrue (is_sorted route_cmp routes.now.entries) }
+    {
+        // The routes are in order.
+        let _count = routes.len();
+        self.clear();
+        self.insert_routes(routes);
+        self.insert_selections(routes);
     }
 
     /// Makes the set that of the prefixes that have a finite route which is due.

@@ -76,7 +76,7 @@ impl Core {
             }
             CostChanges::One(peer) => self.reselect_link(LinkChange::Cost, now, &peer, hints),
             CostChanges::Several => {
-                self.reselect_all(now, &mut hints.scratch);
+                self.reselect_routed(now, &mut hints.scratch);
                 true
             }
         }

@@ -1,11 +1,11 @@
 -- One more neighbour is left where it is, written after those that stay, or added to those that are gone.
-use Rattle.std.proofs.Common.{◌≡◌, ◌<◌, ◌+◌, Some, None, length, sym, subst, ◌∙◌, take, arith}
+use Rattle.std.proofs.Common.{◌≡◌, ◌<◌, ◌+◌, Some, None, length, refl, subst, ◌∙◌, take, arith}
 use Rattle.babel_link.specs.Links.{ticked_link}
 use Rattle.babel_link.specs.Neighbours.{Links, AreQuietUntil}
 use Rattle.babel_link.proofs.TickLemmas.{stays_more, goes_same, set_here, stays_here, goes_none, stays_same, goes_more, stays_all, goes_all}
 use Rattle.babel_link.proofs.DueLemmas.{quiet_earlier, are_quiet_earlier, quiet_kept}
 use Rattle.babel_link.proofs.neighbours.tick_links.Goals as goal
-use Rattle.babel_link.proofs.neighbours.tick_links.Goals.{in-Some, in-None}
+use Rattle.babel_link.proofs.neighbours.tick_links.Goals.{then-tick, else-tick}
 
 pub loop-place-preserved : goal.loop-place-preserved
 loop-place-preserved c =
@@ -14,10 +14,10 @@ loop-place-preserved c =
     let e = c.index-in-loop-place.result.now in
     let ok = c.loop-place.links.ok.0 in
     let within : c.loop-place.place < length items = omega arith in
-    elim c.match-ticked.branch [
-      | in-Some w ↦
-          let link = w.in-Some.link in
-          let stays : ticked_link now e.1 ≡ Some link = sym c.ticked.ensures ∙ w.in-Some.is in
+    elim c.if-tick.branch [
+      | then-tick w ↦
+          let link = c.tick.new.self in
+          let stays : ticked_link now e.1 ≡ Some link = w.if-tick.ensures.stays refl in
           record {
             stays = rw (w.links-is, w.kept-is) (stays_more now items c.loop-place.place e within c.index-in-loop-place.ensures c.loop-place.kept link _ c.loop-place.invariant.late stays c.loop-place.invariant.stays);
             goes = rw (w.links-is, w.gone-is) (goes_same now items c.loop-place.place e within c.index-in-loop-place.ensures c.loop-place.kept link _ _ c.loop-place.invariant.late stays c.loop-place.invariant.goes);
@@ -25,10 +25,10 @@ loop-place-preserved c =
             same_len = rw w.links-is c.loop-place.invariant.same_len;
             few = rw w.gone-is (omega arith);
             capacity = rw w.links-is c.loop-place.invariant.capacity;
-            quiet = rw (w.links-is, w.kept-is, w.due-is) (quiet_kept w.min-due-in-Some.result items c.loop-place.kept e.0 link (omega arith) (quiet_earlier w.due.result w.min-due-in-Some.result link (omega arith) w.due.ensures) (are_quiet_earlier c.loop-place.due w.min-due-in-Some.result (take c.loop-place.kept items) (omega arith) c.loop-place.invariant.quiet));
+            quiet = rw (w.links-is, w.kept-is, w.due-is) (quiet_kept w.min-due-then-tick.result items c.loop-place.kept e.0 link (omega arith) (quiet_earlier w.due.result w.min-due-then-tick.result link (omega arith) w.due.ensures) (are_quiet_earlier c.loop-place.due w.min-due-then-tick.result (take c.loop-place.kept items) (omega arith) c.loop-place.invariant.quiet));
           }
-      | in-None w ↦
-          let goes : ticked_link now e.1 ≡ None = sym c.ticked.ensures ∙ w.in-None.is in
+      | else-tick w ↦
+          let goes : ticked_link now e.1 ≡ None = w.if-tick.ensures.flushed refl in
           record {
             stays = rw (w.links-is, w.kept-is) (stays_same now items c.loop-place.place e within c.index-in-loop-place.ensures _ _ goes c.loop-place.invariant.stays);
             goes = rw (w.links-is, w.gone-is, w.push.ensures.items) (goes_more now items c.loop-place.place e within c.index-in-loop-place.ensures _ _ goes c.loop-place.invariant.goes);
