@@ -23,7 +23,7 @@ use Rattle.babel_table.proofs.LookupLemmas.{eq_turned}
 use Rattle.babel_choice.specs.declared.entries.Selection.{Selection}
 use Rattle.babel_choice.specs.declared.entries.Entry.{Entry}
 use Rattle.babel_choice.specs.RouteKeys.{route_cmp}
-use Rattle.babel_choice.specs.Routes.{Route, RouteEntries, key_of, is_from, routes_but, retracted, retracted_entry, updated, entry_of_update, all_forgotten}
+use Rattle.babel_choice.specs.Routes.{Route, RouteEntries, key_of, is_from, routes_but, retracted, retracted_all, retracted_entry, updated, entry_of_update, all_forgotten}
 use Rattle.babel_sources.specs.Sources.{Sources}
 use Rattle.babel_choice.specs.Choices.{is_of, routes_of, is_candidate, is_feasible_route, preference, rank_cmp, is_change, selection_of, peer_before, choice}
 use Rattle.babel_route.specs.Selections.{IsCurrentBut}
@@ -146,6 +146,48 @@ retracted_but now peer prefix s t is current =
     same : (found : Option Entry) → routes_but peer (option_map_or (λ e. put route_cmp (key_of prefix peer) (retracted_entry now e) es) found es) ≡ routes_but peer es
     same None = refl
     same (Some e) = routes_but_put peer prefix (retracted_entry now e) es
+
+-- A retraction of all routes of the neighbour.
+module _ (now : ℕ) (peer : Peer) where
+  all_but : (es : RouteEntries) → routes_but peer (retracted_all now peer es) ≡ routes_but peer es
+  all_but [] = refl
+  all_but (e ∷ es) = by (is_from peer e.0) (all_but es)
+    where
+      by : (b : Bool) → routes_but peer (retracted_all now peer es) ≡ routes_but peer es →
+          cond (not b) ((e.0, if b then retracted_entry now e.1 else e.1) ∷ routes_but peer (retracted_all now peer es)) (routes_but peer (retracted_all now peer es)) ≡ cond (not b) (e ∷ routes_but peer es) (routes_but peer es)
+      by true rest = rest
+      by false rest = ap (λ xs. e ∷ xs) rest
+
+  -- a prefix to which the neighbour has no route
+  others_stay : (p : PrefixValue) (es : RouteEntries) → has_prefix p (prefixes_from peer (retracted_all now peer es)) ≡ false → routes_of p (retracted_all now peer es) ≡ routes_of p es
+  others_stay p [] none = refl
+  others_stay p (e ∷ es) none = by (is_from peer e.0) (is_of p e) refl none (others_stay p es)
+    where
+      after : RouteEntries
+      after = retracted_all now peer es
+
+      rest : RouteEntries
+      rest = filter (λ f. is_from peer f.0) after
+
+      by : (from of : Bool) → is_of p e ≡ of → has_prefix p (map (λ f. f.0.prefix) (cond from ((e.0, if from then retracted_entry now e.1 else e.1) ∷ rest) rest)) ≡ false →
+          (has_prefix p (prefixes_from peer after) ≡ false → routes_of p after ≡ routes_of p es) →
+          cond of ((e.0, if from then retracted_entry now e.1 else e.1) ∷ routes_of p after) (routes_of p after) ≡ cond of (e ∷ routes_of p es) (routes_of p es)
+      by true true of none later =
+          let parts = or_parts (eq_by_cmp prefix_cmp p e.0.prefix) (has_prefix p (map (λ f. f.0.prefix) rest)) none in
+          absurd (false≢true (sym parts.0 ∙ eq_turned prefix_cmp prefix_total p e.0.prefix ∙ of))
+      by true false of none later = later (or_parts (eq_by_cmp prefix_cmp p e.0.prefix) (has_prefix p (map (λ f. f.0.prefix) rest)) none).1
+      by false true of none later = ap (λ xs. e ∷ xs) (later none)
+      by false false of none later = later none
+
+pub all_retracted_others : (now : ℕ) (peer : Peer) (s t : State) → t ≡ with_entries (retracted_all now peer s.routes.entries) s → AreCurrent s → AreOthersCurrent peer t
+all_retracted_others now peer s t is current =
+    subst (AreOthersCurrent peer) (sym is) (
+      λ p none.
+          current p
+          ∙ ap (λ (rs : RouteEntries). option_map selection_of (first_of (preference (cost_at s) (peer_before (selected_at p s))) (if announces p s then [] else filter (is_candidate s.sources (cost_at s)) rs)))
+          (sym (others_stay now peer p s.routes.entries none)),
+      entries_but peer (retracted_all now peer s.routes.entries) s (all_but now peer s.routes.entries) current,
+    )
 
 -- ---- after a Hello or an IHU
 

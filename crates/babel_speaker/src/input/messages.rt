@@ -135,8 +135,9 @@ fn handle_from_neighbour(
     match message {
         Message::Retraction { prefix, .. } => handle_retraction(core, arrival, prefix, hints),
         Message::RetractAll { .. } => {
+            let verdict = core.handle_retract_all(arrival.time, &arrival.peer, hints);
             hints.changed = true;
-            core.handle_retract_all(arrival.time, &arrival.peer, &mut hints.scratch)
+            verdict
         }
         Message::RouteRequest { prefix } => core.handle_route_request(&arrival.peer, prefix),
         Message::DumpRequest => core.handle_dump_request(&arrival.peer),

@@ -27,10 +27,11 @@ use babel_route::{OriginChange, Report, SelectionChange};
 use babel_state::{Item, REQUEST_HOPS, Resend, Target};
 use babel_value::{Peer, Prefix, Seqno, Source};
 
-/// A cursor at the same indices, for searches that go back to where another one began.
-fn copy_of(cursor: &Cursor) -> Cursor {
+/// A cursor from which the routes of the next prefix are mostly found at once, also after the other
+/// one has gone past them.
+fn at_next_prefix(cursor: &Cursor) -> Cursor {
     Cursor {
-        entry: cursor.entry,
+        entry: cursor.entry.wrapping_add(1),
         selection: cursor.selection,
         source: cursor.source,
     }
@@ -265,9 +266,11 @@ impl Core {
         ensures state { self.new ≡ reselect now cause prefix.now self.old }
         ensures kept { result ≡ Report.Alike → KeepsRoutes self.old self.new }
     {
-        let mut first = copy_of(cursor);
+        let mut first = at_next_prefix(cursor);
         let change = self.select_near(prefix, cursor);
+        first.source = cursor.source;
         self.follow_up(now, cause, prefix, &change, &mut first);
+        cursor.source = first.source;
         change.report
     }
 
@@ -358,9 +361,8 @@ impl Core {
         ensures entries { self.new.routes.entries ≡ self.old.routes.entries }
         ensures known { known.now.cost ≡ cost_at self.new known.now.peer }
     {
-        let mut first = copy_of(cursor);
         let change = self.select_changed(prefix, known, cursor);
-        self.follow_origin(now, prefix, change.origin, &mut first);
+        self.follow_origin(now, prefix, change.origin, cursor);
     }
 
     /// The neighbour of the prefix's selection, if a reselection leaves that after a change of the
@@ -446,7 +448,7 @@ impl Core {
     /// Selects the route of each prefix again to which the neighbour has a route, in one walk over
     /// the table. If all other selections are current, that leaves what a reselection of all
     /// leaves.
-    fn reselect_from(&mut self, now: u64, peer: &Peer)
+    pub(crate) fn reselect_from(&mut self, now: u64, peer: &Peer)
         requires others { AreOthersCurrent peer.now self.old }
         ensures state { self.new ≡ reselect_all now self.old }
         ensures current { AreCurrent self.new }

@@ -1,7 +1,7 @@
 //! Updates and retractions of a neighbour (RFC 8966, section 3.5.3).
 
 ghost use Rattle.std.specs.Prelude.{◌≡◌, false, Some, IsTrue, IsFalse, IsSome, IsNone, IfSome, IfOk, OnErr, is_err, is_none, is_some, if◌then◌else◌};
-ghost use Rattle.babel_choice.specs.Routes.{retracted};
+ghost use Rattle.babel_choice.specs.Routes.{has_routes_from, retracted, retracted_all};
 ghost use Rattle.babel_route.specs.declared.routes.changes.Report.{Report};
 ghost use Rattle.babel_route.specs.SelectionChanges.{selection_change};
 ghost use Rattle.babel_sources.specs.Distances.{is_feasible};
@@ -16,7 +16,6 @@ ghost use Rattle.babel_speaker.specs.LinkChanges.{IsCurrentButAt};
 use crate::hints::Hints;
 use crate::input::causes::UnfeasibleUpdate;
 use crate::state::Core;
-use crate::tables::Scratch;
 use crate::versions::is_other;
 use babel_choice::{Cursor, ReceivedUpdate, RouteKey};
 use babel_route::{Full, OnRepeat, Refreshed, Report, SelectionChange};
@@ -275,16 +274,30 @@ impl Core {
         }
     }
 
-    /// Handles a retraction of all that a neighbour advertised (RFC 8966, section 4.6.9).
-    #[tactic(auto, using(crate::proofs::Retractions::retracted_none), unfolding(babel_state::specs::Updates::handle_retract_all))]
-    pub fn handle_retract_all(&mut self, now: u64, peer: &Peer, scratch: &mut Scratch) -> Verdict
-        ensures { (self.new, result) ≡ handle_retract_all now peer.now self.old }
+    /// Makes the metric of each route of the neighbour infinite. `false` if it has none.
+    fn store_retractions(&mut self, now: u64, peer: &Peer) -> bool
+        ensures found { result ≡ has_routes_from peer.now self.old.routes.entries }
+        ensures state { self.new ≡ with_entries (retracted_all now peer.now self.old.routes.entries) self.old }
     {
-        if self.routes.retract_all(now, peer) {
-            self.reselect_all(now, scratch);
-            Verdict::Taken
-        } else {
-            Verdict::NoEntry
+        self.routes.retract_all(now, peer)
+    }
+
+    /// Handles a retraction of all that a neighbour advertised (RFC 8966, section 4.6.9). If the
+    /// speaker is settled, it looks only at the prefixes to which the neighbour has a route.
+    #[tactic(auto, using(crate::proofs::Retractions::retracted_none), unfolding(babel_state::specs::Updates::handle_retract_all))]
+    pub fn handle_retract_all(&mut self, now: u64, peer: &Peer, hints: &mut Hints) -> Verdict
+        requires settled { IsTrue hints.old.settled → AreCurrent self.old }
+        ensures settled { hints.new.settled ≡ hints.old.settled }
+        ensures state { (self.new, result) ≡ handle_retract_all now peer.now self.old }
+    {
+        if !self.store_retractions(now, peer) {
+            return Verdict::NoEntry;
         }
+        if hints.settled {
+            self.reselect_from(now, peer);
+        } else {
+            self.reselect_all(now, &mut hints.scratch);
+        }
+        Verdict::Taken
     }
 }
