@@ -200,8 +200,9 @@ def log_rows():
 # Scenarios.
 
 HELLO = 400
-# Events of one kind that are counted in a settled network.
+# Events of one kind that are counted in a settled network, and ticks of each node while no datagram comes.
 CALLS = 2_048
+SILENT_TICKS = 64
 Shape = collections.namedtuple("Shape", ["name", "receivers", "warm", "counted"])
 
 
@@ -248,28 +249,27 @@ def scenario_cell(shape, nodes, announcers):
     return Cell(nodes, None, short, long, sum(map(len, turns[shape.warm :])))
 
 
-def calls_cell(shape, nodes, make_event):
-    """Calls of the nodes of a settled network in which all announce."""
+def settled_cell(shape, nodes, make_events):
+    """Events of the nodes of a settled network in which all announce."""
     turns = [turn_events(turn, nodes, shape.receivers) for turn in range(shape.warm)]
-    time = shape.warm * HELLO
-    calls = [make_event(index, nodes, time) for index in range(CALLS)]
+    events = list(make_events(nodes, shape.warm * HELLO))
     tables = "".join(node_table(node, True) for node in range(nodes))
-    return Cell(nodes, None, scenario(turns, tables), scenario([*turns, calls], tables), CALLS)
+    return Cell(nodes, None, scenario(turns, tables), scenario([*turns, events], tables), len(events))
 
 
-def nominal_cost_of_node(index, nodes, _time):
-    return f"cost {index % nodes} 0 {96 + index // nodes % 2}"
+def nominal_cost_events(nodes, _time):
+    return (f"cost {index % nodes} 0 {96 + index // nodes % 2}" for index in range(CALLS))
 
 
-def own_prefix_of_node(index, nodes, _time):
-    """The prefix is withdrawn, and with the next event announced again."""
-    node = index // 2 % nodes
-    return f"{('withdraw', 'announce')[index % 2]} {node} 10.{node}.0.0/16"
+def own_prefix_events(nodes, _time):
+    """Each prefix is withdrawn, and with the next event announced again."""
+    pairs = ((index % 2, index // 2 % nodes) for index in range(CALLS))
+    return (f"{('withdraw', 'announce')[again]} {node} 10.{node}.0.0/16" for again, node in pairs)
 
 
-def silent_tick(index, nodes, time):
-    """A tick of each node each second, while no datagram comes."""
-    return f"tick {index % nodes} {time + 100 * (index // nodes)}"
+def silent_ticks(nodes, time):
+    """A tick of each node each second, while no datagram comes: all links are lost, and then all routes."""
+    return (f"tick {node} {time + 100 * turn}" for turn in range(SILENT_TICKS) for node in range(nodes))
 
 
 def scenario(turns, tables):
@@ -285,12 +285,12 @@ def scenario_rows():
         ):
             cells = [scenario_cell(shape, nodes, announcers(nodes)) for nodes in NODES]
             yield Row("net", f"an event in {shape.name}, {words}", "nodes", cells)
-        for words, make_event in (
-            ("a nominal cost", nominal_cost_of_node),
-            ("an own prefix, withdrawn or announced", own_prefix_of_node),
-            ("a tick while no datagram comes", silent_tick),
+        for words, make_events in (
+            ("a nominal cost", nominal_cost_events),
+            ("an own prefix, withdrawn or announced", own_prefix_events),
+            ("a tick while no datagram comes", silent_ticks),
         ):
-            yield Row("net", f"{words}, in {shape.name}", "nodes", [calls_cell(shape, nodes, make_event) for nodes in NODES])
+            yield Row("net", f"{words}, in {shape.name}", "nodes", [settled_cell(shape, nodes, make_events) for nodes in NODES])
 
 
 def rows():

@@ -103,11 +103,12 @@ pub fn datagrams_send()
     ensures none { NoDatagramChangesNothing }
 {}
 
-/// Messages, new costs, own prefixes and raises keep each selection that is current. A new cost
-/// changes nothing that is reported of a selected route: a link that is up costs what its neighbour
-/// reports (RFC 8966, appendix A.2.1). The next datagram changes no selection, and leaves each selected route a candidate. It keeps a current
-/// selection, unless an unfeasible route of the prefix becomes feasible. That can't be while the
-/// seqnos of the prefix lie in one half of the circle.
+/// Messages, new nominal costs, own prefixes and raises keep each selection that is current. A new
+/// nominal cost changes nothing that is reported of a selected route: a link that is up costs what
+/// its neighbour reports (RFC 8966, appendix A.2.1). The next datagram changes no selection, and
+/// leaves each selected route a candidate. It keeps a current selection, unless an unfeasible route
+/// of the prefix becomes feasible. That can't be while the seqnos of the prefix lie in one half of
+/// the circle.
 #[inline]
 pub fn selections_stay_current()
     ensures messages { MessagesKeepCurrent }

@@ -12,10 +12,8 @@ use babel_choice::{Entry, PrefixRoutes, RouteKey, Selection};
 use babel_table::Table;
 use babel_value::Prefix;
 
-/// How many places may be taken, by a number that is no less than those that are. If the result is
-/// all places, all are taken. What removes entries leaves the number as it was, so the places are
-/// counted here if it is all of them: once for any number of removals, and never if the entries
-/// alone take all.
+/// A number that is no less than the places taken, from an earlier one. If it is all places, all
+/// are taken. It counts only if the earlier one is all places and the entries alone don't take all.
 pub(crate) fn places_within<E: Table<RouteKey, Entry>, S: Table<Prefix, Selection>>(
     entries: &E,
     selections: &S,

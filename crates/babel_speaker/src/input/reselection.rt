@@ -27,8 +27,8 @@ use babel_route::{OriginChange, Report, SelectionChange};
 use babel_state::{Item, REQUEST_HOPS, Resend, Target};
 use babel_value::{Peer, Prefix, Seqno, Source};
 
-/// A cursor from which the routes of the next prefix are mostly found at once, also after the other
-/// one has gone past them.
+/// A second cursor, one entry after this one: mostly at the first route of the next prefix. A
+/// search that moves this one past those routes leaves it.
 fn at_next_prefix(cursor: &Cursor) -> Cursor {
     Cursor {
         entry: cursor.entry.wrapping_add(1),
@@ -299,8 +299,8 @@ impl Core {
         !scratch.is_empty()
     }
 
-    /// The same, where most selections may be no longer current. So none is tested before, and the
-    /// choice of each prefix is made once.
+    /// Selects the route of each prefix again that has a route or a selection, as `reselect_all`.
+    /// None is tested first: if most aren't current, that makes each choice once.
     pub(crate) fn reselect_routed(&mut self, now: u64, scratch: &mut Scratch)
         ensures state { self.new ≡ reselect_all now self.old }
         ensures current { AreCurrent self.new }
@@ -309,8 +309,8 @@ impl Core {
         self.reselect_each(now, scratch);
     }
 
-    /// The same. If the speaker is settled, all selections are current, and there is nothing to do.
-    /// It is settled then.
+    /// The same as `reselect_all`. If the speaker is settled, all selections are current, and there
+    /// is nothing to do. It is settled then.
     #[tactic(auto, using(crate::proofs::Settling::settled_all, crate::proofs::Settling::current_all))]
     pub(crate) fn reselect_unless(&mut self, now: u64, hints: &mut Hints) -> bool
         requires settled { IsTrue hints.old.settled → AreCurrent self.old }

@@ -100,10 +100,10 @@ impl Core {
         self.routes.expire(now)
     }
 
-    /// Takes the deadlines of routes, and selects the routes of the prefixes again of which a finite
-    /// route is due. All other selections stay current, since an infinite route is no candidate. So
-    /// this leaves what a reselection of all leaves. If it returns `false`, no finite route is due,
-    /// and the selected routes are reported as before.
+    /// Takes the deadlines of routes. Of each prefix of which a finite route is due, the route is
+    /// selected again. All other selections stay current, since an infinite route is no candidate.
+    /// So this leaves what a reselection of all leaves. If it returns `false`, no finite route is
+    /// due, and the selected routes are reported as before.
     #[tactic(auto, using(crate::proofs::Expiries::expired_reselected, crate::proofs::Expiries::nothing_reselected, crate::proofs::Expiries::expired_current))]
     fn expire_routes(&mut self, now: u64, scratch: &mut Scratch) -> bool
         requires current { AreCurrent self.old }
@@ -200,8 +200,8 @@ impl Core {
 
     /// Takes the deadlines of Hellos, IHUs and routes, each followed by a reselection of all. If
     /// the speaker is settled, it selects no route again unless a cost changes, a neighbour is
-    /// flushed or a route is due, and only those of one neighbour's prefixes if only the cost of
-    /// its link changes. If it returns `false`, the selected routes are reported as before.
+    /// flushed or a finite route is due, and only those of one neighbour's prefixes if only the cost
+    /// of its link changes. If it returns `false`, the selected routes are reported as before.
     #[tactic(auto, using(crate::proofs::Settling::still_current))]
     fn tick_selections(&mut self, now: u64, hints: &mut Hints) -> bool
         requires settled { IsTrue hints.old.settled → AreCurrent self.old }
