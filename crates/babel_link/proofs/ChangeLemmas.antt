@@ -1,6 +1,8 @@
 -- When two links cost the same, and that a peer costs what it did if its link does.
-use Rattle.std.specs.Prelude.{◌≡◌, ℕ, Bool, true, false, ◌||◌, ◌==◌, Option, Some, None, set, if◌then◌else◌}
-use Rattle.std.proofs.Common.{get_or, refl, sym, ap, subst, ◌∙◌}
+use Rattle.std.specs.Prelude.{◌≡◌, ◌≤◌, ℕ, Bool, true, false, cond, nat_lt, [], ◌∷◌, ◌||◌, ◌==◌, Option, Some, None, set, if◌then◌else◌}
+use Rattle.std.proofs.Common.{get_or, refl, sym, ap, subst, ◌∙◌, arith}
+use Rattle.std.proofs.lemmas.Bool.{ltb-false, or_parts}
+use Rattle.std.specs.Ordering.{eq_by_cmp}
 use Rattle.std.specs.FinMap.{find, put}
 use Rattle.std.specs.Option.{option_map_or, unwrap_or}
 use Rattle.babel_value.specs.declared.keys.Peer.{Peer}
@@ -8,7 +10,7 @@ use Rattle.babel_value.specs.Metrics.{infinity}
 use Rattle.babel_value.specs.Orders.{peer_cmp}
 use Rattle.babel_link.specs.declared.links.Link.{Link}
 use Rattle.babel_link.specs.Links.{new_link, is_up_history, link_rxcost, link_cost}
-use Rattle.babel_link.specs.Neighbours.{Links, link_of, cost_of}
+use Rattle.babel_link.specs.Neighbours.{Links, link_of, cost_of, has_finite_link}
 use Rattle.babel_link.specs.Places.{IsPlaceOf}
 use Rattle.babel_link.proofs.LookUpLemmas.{find-put_own}
 
@@ -30,6 +32,25 @@ cost_by_nominal nominal link = by (is_up_history link.multicast || is_up_history
 pub same_costs : (one other : Link) → link_cost 0 one ≡ link_cost 0 other → (nominal : ℕ) → link_cost nominal one ≡ link_cost nominal other
 same_costs one other same nominal =
     cost_by_nominal nominal one ∙ ap (λ cost. if nominal == infinity then infinity else cost) same ∙ sym (cost_by_nominal nominal other)
+
+-- A link that costs infinity over an interface of nominal cost 0 does so over each.
+costly_at_any : (link : Link) → nat_lt (link_cost 0 link) infinity ≡ false → (nominal : ℕ) → infinity ≤ link_cost nominal link
+costly_at_any link none nominal = subst (λ cost. infinity ≤ cost) (sym (cost_by_nominal nominal link)) (by (nominal == infinity))
+  where
+    by : (b : Bool) → infinity ≤ (if b then infinity else link_cost 0 link)
+    by true = omega arith
+    by false = ltb-false (link_cost 0 link) infinity none
+
+pub all_costly : (links : Links) → has_finite_link links ≡ false → (peer : Peer) (nominal : ℕ) → infinity ≤ cost_of peer nominal links
+unfolding cost_of
+all_costly [] none peer nominal = omega arith
+all_costly (e ∷ es) none peer nominal =
+    let parts = or_parts (nat_lt (link_cost 0 e.1) infinity) (has_finite_link es) none in
+    by (eq_by_cmp peer_cmp peer e.0) (costly_at_any e.1 parts.0 nominal) (all_costly es parts.1 peer nominal)
+  where
+    by : (b : Bool) → infinity ≤ link_cost nominal e.1 → infinity ≤ option_map_or (link_cost nominal) (find peer_cmp peer es) infinity → infinity ≤ option_map_or (link_cost nominal) (cond b (Some e.1) (find peer_cmp peer es)) infinity
+    by true here rest = here
+    by false here rest = rest
 
 -- A peer that is no neighbour costs what one costs of which nothing is known.
 cost_of_known : (nominal : ℕ) (known : Option Link) → option_map_or (link_cost nominal) known infinity ≡ link_cost nominal (unwrap_or known new_link)

@@ -1,5 +1,5 @@
 -- A tick that keeps each link and its cost changes no cost; if it keeps the costs of all links but one, at most that one's.
-use Rattle.std.proofs.Common.{◌≡◌, ◌≢◌, ℕ, Bool, true, false, cond, [], ◌∷◌, All, Option, Some, None, is_some, refl, ◌∙◌}
+use Rattle.std.proofs.Common.{◌≡◌, ◌≢◌, ℕ, Bool, true, false, cond, [], ◌∷◌, All, Some, refl, ◌∙◌}
 use Rattle.std.specs.FinMap.{find}
 use Rattle.std.specs.Option.{option_map_or}
 use Rattle.std.specs.Ordering.{eq_by_cmp, is_eq}
@@ -11,12 +11,15 @@ use Rattle.babel_value.specs.Metrics.{infinity}
 use Rattle.babel_value.specs.Orders.{peer_cmp}
 use Rattle.babel_value.proofs.OrderLaws.{peer_exact}
 use Rattle.babel_link.specs.declared.links.Link.{Link}
-use Rattle.babel_link.specs.Links.{ticked_link, link_cost, KeepsCost}
-use Rattle.babel_link.specs.Neighbours.{Links, tick_of, gone_of, cost_of, KeepsOtherCosts}
+use Rattle.babel_link.specs.Links.{ticked_link, link_cost}
+use Rattle.babel_link.specs.Neighbours.{Links, tick_of, cost_of, KeepsOtherCosts}
 
 module _ (now : ℕ) where
-  abbrev pub Keeps : Peer × Link → Type 0
-  Keeps e = KeepsCost now e.1
+  -- A tick keeps the link and its cost.
+  pub record Keeps (e : Peer × Link) : Type 0 where
+    pub after : Link
+    pub stays : ticked_link now e.1 ≡ Some after
+    pub same : (nominal : ℕ) → link_cost nominal after ≡ link_cost nominal e.1
 
   pub costs_kept : (es : Links) → All Keeps es → (peer : Peer) (nominal : ℕ) → cost_of peer nominal (tick_of now es) ≡ cost_of peer nominal es
   unfolding tick_of cost_of
@@ -32,13 +35,6 @@ module _ (now : ℕ) where
       by true first rest = first.same nominal
       by false first rest = rest
 
-  pub none_gone : (es : Links) → All Keeps es → gone_of now es ≡ []
-  unfolding gone_of
-  none_gone [] all = refl
-  none_gone (e ∷ es) all =
-      let first : Keeps e = All-head Keeps e es all in
-      rw first.stays (none_gone es (All-tail Keeps e es all))
-
   -- A tick keeps the link, and its cost unless it's the one to this neighbour.
   pub record KeepsOther (peer : Peer) (e : Peer × Link) : Type 0 where
     pub after : Link
@@ -52,12 +48,8 @@ module _ (now : ℕ) where
   all_keep_other peer es all = All-weaker Keeps (KeepsOther peer) (keeps_other peer) es all
 
   -- The link whose cost may change.
-  pub changed_stays : (peer : Peer) (e : Peer × Link) → e.0 ≡ peer → is_some (ticked_link now e.1) ≡ true → KeepsOther peer e
-  changed_stays peer e here stays = by (ticked_link now e.1) refl stays
-    where
-      by : (o : Option Link) → ticked_link now e.1 ≡ o → is_some o ≡ true → KeepsOther peer e
-      by (Some link) is some = record { after = link; stays = is; same = λ other. absurd (other here) }
-      by None is some = cc
+  pub changed_stays : (peer : Peer) (e : Peer × Link) (link : Link) → e.0 ≡ peer → ticked_link now e.1 ≡ Some link → KeepsOther peer e
+  changed_stays peer e link here stays = record { after = link; stays = stays; same = λ other. absurd (other here) }
 
   pub other_costs_kept : (peer : Peer) (es : Links) → All (KeepsOther peer) es → KeepsOtherCosts peer es (tick_of now es)
   unfolding tick_of cost_of
@@ -73,10 +65,3 @@ module _ (now : ℕ) where
       by Less is first rest = rest
       by Equal is first rest = first.same (λ at. other (peer_exact q e.0 is ∙ at)) nominal
       by Greater is first rest = rest
-
-  pub none_gone_but : (peer : Peer) (es : Links) → All (KeepsOther peer) es → gone_of now es ≡ []
-  unfolding gone_of
-  none_gone_but peer [] all = refl
-  none_gone_but peer (e ∷ es) all =
-      let first : KeepsOther peer e = All-head (KeepsOther peer) e es all in
-      rw first.stays (none_gone_but peer es (All-tail (KeepsOther peer) e es all))

@@ -7,3 +7,4 @@ pub mod TickLemmas
 pub mod DueLemmas
 pub mod LookUpLemmas
 pub mod SilenceLemmas
+pub mod GrowthLemmas

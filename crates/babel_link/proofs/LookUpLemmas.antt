@@ -28,7 +28,7 @@ find-put_other q peer link links differ =
       | Greater ↦ λ p. refl
     ] refl
 
-absent_below : (p : Peer) (es : Links) → below_all peer_cmp p es ≡ true → find peer_cmp p es ≡ None
+pub absent_below : (p : Peer) (es : Links) → below_all peer_cmp p es ≡ true → find peer_cmp p es ≡ None
 absent_below p [] below = refl
 absent_below p (e ∷ es) below =
     rw (less _ (first_so (is_lt (peer_cmp p e.0)) _ below)) (absent_below p es (second_so (is_lt (peer_cmp p e.0)) _ below))

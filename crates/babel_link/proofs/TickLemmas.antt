@@ -1,5 +1,5 @@
 -- One more neighbour that a tick takes, and what a tick leaves of the order.
-use Rattle.std.proofs.Common.{◌≡◌, ℕ, suc, ◌+◌, ◌<◌, ◌≤◌, Bool, true, false, cond, ◌&&◌, List, [], ◌∷◌, ◌++◌, length, filter, get_or, set, take, drop, Some, None, refl, sym, ap, subst, ◌∙◌, arith, add-one, append_assoc}
+use Rattle.std.proofs.Common.{◌≡◌, ℕ, suc, ◌+◌, ◌<◌, ◌≤◌, Bool, true, false, cond, ◌&&◌, List, [], ◌∷◌, ◌++◌, length, filter, get_or, set, take, drop, Some, None, refl, sym, ap, ◌∙◌, arith, add-one, append_assoc}
 use Rattle.std.specs.List.{cons_option, list_all}
 use Rattle.std.specs.Option.{option_map}
 use Rattle.std.specs.Ordering.{is_lt}
@@ -7,7 +7,7 @@ use Rattle.std.specs.Cmp.{first_so, second_so}
 use Rattle.std.specs.FinMap.{is_sorted}
 use Rattle.std.specs.FinMap.Entries.{below_all}
 use Rattle.std.proofs.Math.Seq.{drop-cons}
-use Rattle.std.proofs.lemmas.List.{set-get_or, drop-set-lt, take_more_set, drop_all, append-nil}
+use Rattle.std.proofs.lemmas.List.{get_or-drop, get_or-set_same, set-set, take-set, drop-set-lt, drop-drop, take_more_set, drop_all, append-nil}
 use Rattle.babel_value.specs.declared.keys.Peer.{Peer}
 use Rattle.babel_value.specs.Orders.{peer_cmp}
 use Rattle.babel_link.specs.declared.links.Link.{Link}
@@ -35,36 +35,45 @@ module _ (now : ℕ) (es : Links) (i : ℕ) (e : Peer × Link) (within : i < len
   unfolding gone_of
   gone_of-gone goes = rw (drop-read, goes) refl
 
-  -- An entry that stays is written after the others that stay.
-  pub stays_more : (kept : ℕ) (link : Link) (whole : Links) → kept ≤ i → ticked_link now e.1 ≡ Some link → take kept es ++ tick_of now (drop i es) ≡ whole → take (kept + 1) (set es kept (e.0, link)) ++ tick_of now (drop (i + 1) (set es kept (e.0, link))) ≡ whole
-  stays_more kept link whole late stays so_far =
-      let y : Peer × Link = (e.0, link) in
-      rw (take_more_set es kept y (omega arith), drop-set-lt (i + 1) es kept y (omega arith), append_assoc)
-      (ap (λ rest. take kept es ++ rest) (sym (tick_of-kept link stays)) ∙ so_far)
+  -- The entry is written after the others that stay, with the link as the tick left it.
+  module _ (kept : ℕ) (late : kept ≤ i) (link : Link) where
+    later : drop (i + 1) (set es kept (e.0, link)) ≡ drop (i + 1) es
+    later = drop-set-lt (i + 1) es kept (e.0, link) (omega arith)
 
-  -- An entry that stays as it is, after none that is gone, isn't written.
-  pub set_here : (kept : ℕ) → kept ≡ i → set es kept e ≡ es
-  set_here kept here = ap (λ k. set es k e) here ∙ ap (set es i) read ∙ set-get_or es i e
+    -- If it stays, it's one more of those that stay, and nothing is added to those that are gone.
+    pub stays_more : (whole : Links) → ticked_link now e.1 ≡ Some link → take kept es ++ tick_of now (drop i es) ≡ whole → take (kept + 1) (set es kept (e.0, link)) ++ tick_of now (drop (i + 1) (set es kept (e.0, link))) ≡ whole
+    stays_more whole stays so_far =
+        rw (take_more_set es kept (e.0, link) (omega arith), later, append_assoc)
+        (ap (λ rest. take kept es ++ rest) (sym (tick_of-kept link stays)) ∙ so_far)
 
-  pub stays_here : (kept : ℕ) (whole : Links) → kept ≡ i → ticked_link now e.1 ≡ Some e.1 → take kept es ++ tick_of now (drop i es) ≡ whole → take (kept + 1) es ++ tick_of now (drop (i + 1) es) ≡ whole
-  stays_here kept whole here stays so_far =
-      subst (λ (links : Links). take (kept + 1) links ++ tick_of now (drop (i + 1) links) ≡ whole) (set_here kept here)
-      (stays_more kept e.1 whole (omega arith) stays so_far)
+    pub goes_same : (gone whole : List Peer) → ticked_link now e.1 ≡ Some link → gone ++ gone_of now (drop i es) ≡ whole → gone ++ gone_of now (drop (i + 1) (set es kept (e.0, link))) ≡ whole
+    goes_same gone whole stays so_far = rw later (ap (λ rest. gone ++ rest) (sym (gone_of-kept link stays)) ∙ so_far)
 
-  -- It adds nothing to what is gone.
-  pub goes_none : (link : Link) (gone whole : List Peer) → ticked_link now e.1 ≡ Some link → gone ++ gone_of now (drop i es) ≡ whole → gone ++ gone_of now (drop (i + 1) es) ≡ whole
-  goes_none link gone whole stays so_far = ap (λ rest. gone ++ rest) (sym (gone_of-kept link stays)) ∙ so_far
+    -- If it goes, it's none of those that stay, and the next that is gone.
+    pub stays_same : (whole : Links) → ticked_link now e.1 ≡ None → take kept es ++ tick_of now (drop i es) ≡ whole → take kept (set es kept (e.0, link)) ++ tick_of now (drop (i + 1) (set es kept (e.0, link))) ≡ whole
+    stays_same whole goes so_far =
+        rw (take-set es kept (e.0, link), later) (ap (λ rest. take kept es ++ rest) (sym (tick_of-gone goes)) ∙ so_far)
 
-  pub goes_same : (kept : ℕ) (link : Link) (gone whole : List Peer) → kept ≤ i → ticked_link now e.1 ≡ Some link → gone ++ gone_of now (drop i es) ≡ whole → gone ++ gone_of now (drop (i + 1) (set es kept (e.0, link))) ≡ whole
-  goes_same kept link gone whole late stays so_far =
-      rw (drop-set-lt (i + 1) es kept (e.0, link) (omega arith)) (goes_none link gone whole stays so_far)
+    pub goes_more : (gone whole : List Peer) → ticked_link now e.1 ≡ None → gone ++ gone_of now (drop i es) ≡ whole → (gone ++ e.0 ∷ []) ++ gone_of now (drop (i + 1) (set es kept (e.0, link))) ≡ whole
+    goes_more gone whole goes so_far = rw (append_assoc, later) (ap (λ rest. gone ++ rest) (sym (gone_of-gone goes)) ∙ so_far)
 
-  -- An entry that goes leaves what stays, and is the next that is gone.
-  pub stays_same : (before whole : Links) → ticked_link now e.1 ≡ None → before ++ tick_of now (drop i es) ≡ whole → before ++ tick_of now (drop (i + 1) es) ≡ whole
-  stays_same before whole goes so_far = ap (λ rest. before ++ rest) (sym (tick_of-gone goes)) ∙ so_far
+    -- The entries that are still to tick are those that were there at first.
+    pub rest_more : (old : Links) → drop i es ≡ drop i old → drop (i + 1) (set es kept (e.0, link)) ≡ drop (i + 1) old
+    rest_more old same = later ∙ sym (drop-drop 1 i es) ∙ ap (drop 1) same ∙ drop-drop 1 i old
 
-  pub goes_more : (gone whole : List Peer) → ticked_link now e.1 ≡ None → gone ++ gone_of now (drop i es) ≡ whole → (gone ++ e.0 ∷ []) ++ gone_of now (drop (i + 1) es) ≡ whole
-  goes_more gone whole goes so_far = rw append_assoc (ap (λ rest. gone ++ rest) (sym (gone_of-gone goes)) ∙ so_far)
+  pub read_old : (old : Links) → drop i es ≡ drop i old → e ≡ get_or old i e
+  read_old old same = read ∙ sym (first es) ∙ ap (λ (xs : Links). get_or xs 0 e) same ∙ first old
+    where
+      first : (xs : Links) → get_or (drop i xs) 0 e ≡ get_or xs i e
+      first xs = let at : i + 0 ≡ i = omega arith in get_or-drop i xs 0 e ∙ ap (λ (place : ℕ). get_or xs place e) at
+
+-- An entry that was moved down, and then written there.
+module _ (es moved : Links) (i kept : ℕ) (within : kept < length es) (down : (d : Peer × Link) → moved ≡ set es kept (get_or es i d)) (e : Peer × Link) (read : e ≡ get_or moved kept e) where
+  pub read_moved : e ≡ get_or es i e
+  read_moved = read ∙ ap (λ (xs : Links). get_or xs kept e) (down e) ∙ get_or-set_same es kept (get_or es i e) e within
+
+  pub written_moved : (link : Link) → set moved kept (e.0, link) ≡ set es kept (e.0, link)
+  written_moved link = ap (λ (xs : Links). set xs kept (e.0, link)) (down e) ∙ set-set es kept (get_or es i e) (e.0, link)
 
 -- Nothing is left to tick at the end.
 pub tick_of-none : (now : ℕ) → tick_of now [] ≡ []

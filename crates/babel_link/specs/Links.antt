@@ -136,9 +136,3 @@ link_rxcost nominal link = if is_up_history link.multicast || is_up_history link
 -- The cost of the link: infinity if receiving costs that, else the cost of sending (RFC 8966, appendix A.2.1).
 unfoldable pub link_cost : ℕ → Link → ℕ
 link_cost nominal link = if link_rxcost nominal link == infinity then infinity else link.txcost
-
--- A tick neither flushes the neighbour nor changes the cost of its link, whatever the nominal cost (profile).
-pub record KeepsCost (now : ℕ) (link : Link) : Type 0 where
-  pub after : Link
-  pub stays : ticked_link now link ≡ Some after
-  pub same : (nominal : ℕ) → link_cost nominal after ≡ link_cost nominal link

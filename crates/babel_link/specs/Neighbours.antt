@@ -1,6 +1,6 @@
 -- The neighbours: a map from peers to links, as the list of its entries in the order of the peers (RFC 8966, section 3.2.4).
-use Rattle.std.specs.Prelude.{◌≡◌, ◌≢◌, ℕ, Bool, true, ◌&&◌, List, [], ◌∷◌, map, filter, Option, is_none, IsTrue, All}
-use Rattle.std.specs.List.{filter_map, list_all}
+use Rattle.std.specs.Prelude.{◌≡◌, ◌≢◌, ◌⊎◌, ℕ, Bool, true, ◌&&◌, List, [], ◌∷◌, map, filter, Option, is_none, IsTrue, All, nat_lt}
+use Rattle.std.specs.List.{filter_map, list_all, list_any}
 use Rattle.std.specs.Option.{option_map, option_map_or, unwrap_or}
 use Rattle.std.specs.Ordering.{is_lt}
 use Rattle.std.specs.FinMap.{find, put, is_sorted}
@@ -64,6 +64,10 @@ rxcost_of peer nominal links = option_map_or (link_rxcost nominal) (find peer_cm
 unfoldable pub cost_of : Peer → ℕ → Links → ℕ
 cost_of peer nominal links = option_map_or (link_cost nominal) (find peer_cmp peer links) infinity
 
+-- Some link has a finite cost over an interface of a finite nominal cost (RFC 8966, appendix A.2.1).
+abbrev pub has_finite_link : Links → Bool
+has_finite_link = list_any (λ e. nat_lt (link_cost 0 e.1) infinity)
+
 -- Each peer comes before all later ones (profile).
 abbrev pub are_ascending : List Peer → Bool
 are_ascending [] = true
@@ -84,3 +88,11 @@ ChangesOnly peer old new = (q : Peer) → q ≢ peer → find peer_cmp q new ≡
 -- The link to each other neighbour than this one costs what it did, whatever the nominal cost (profile).
 abbrev pub KeepsOtherCosts : Peer → Links → Links → Type 0
 KeepsOtherCosts peer old new = (q : Peer) (nominal : ℕ) → q ≢ peer → cost_of q nominal new ≡ cost_of q nominal old
+
+-- Each link costs what it did, or infinity, whatever the nominal cost (RFC 8966, appendix A.2.1).
+abbrev pub CostsOnlyGrow : Links → Links → Type 0
+CostsOnlyGrow old new = (peer : Peer) (nominal : ℕ) → (cost_of peer nominal new ≡ cost_of peer nominal old) ⊎ (cost_of peer nominal new ≡ infinity)
+
+-- The link to each of these neighbours costs infinity, whatever the nominal cost (RFC 8966, appendix A.2.1).
+abbrev pub AreLost : List Peer → Links → Type 0
+AreLost peers links = All (λ peer. (nominal : ℕ) → cost_of peer nominal links ≡ infinity) peers

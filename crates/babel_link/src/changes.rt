@@ -1,9 +1,14 @@
 //! What a tick, a Hello or an IHU may change of the links' costs.
 
+ghost use Rattle.std.specs.Prelude.{◌≡◌, ◌≢◌, ◌⊎◌};
+ghost use Rattle.babel_value.specs.declared.keys.Peer.{Peer};
+ghost use Rattle.babel_link.specs.declared.changes.CostChanges.TheVariants.{Nothing, One, Several};
+ghost use Rattle.babel_link.specs.declared.changes.LinkCost.TheVariants.{Kept};
+
 use crate::Heard;
 use babel_value::Peer;
 
-/// What a tick would change of all that the costs of the links depend on.
+/// What a tick changed of all that the costs of the links depend on.
 #[derive(Clone, Copy)]
 pub enum CostChanges {
     /// No cost, and no neighbour is flushed.
@@ -14,7 +19,24 @@ pub enum CostChanges {
     Several,
 }
 
-/// What a Hello or an IHU changed of all that the cost of its sender's link depends on.
+impl CostChanges {
+    /// Adds what was changed of the cost of the link to this neighbour.
+    #[inline(always)]
+    pub(crate) fn add(&mut self, peer: &Peer, cost: LinkCost)
+        ensures nothing { self.new ≡ Nothing → (self.old ≡ Nothing) × (cost ≡ Kept) }
+        ensures one { (q : Peer) → self.new ≡ One q → ((self.old ≡ One q) × (cost ≡ Kept)) ⊎ ((self.old ≡ Nothing) × (peer.now ≡ q)) }
+        ensures known { self.new ≢ Several → self.old ≢ Several }
+    {
+        if let LinkCost::Changed = cost {
+            *self = match self {
+                CostChanges::Nothing => CostChanges::One(*peer),
+                _ => CostChanges::Several,
+            };
+        }
+    }
+}
+
+/// What a Hello, an IHU or a tick changed of all that the cost of a link depends on.
 #[derive(Clone, Copy)]
 pub enum LinkCost {
     /// Nothing: the link costs what it did.

@@ -1,8 +1,8 @@
 //! What is known of one neighbour (RFC 8966, section 3.2.4).
 
-ghost use Rattle.std.specs.Prelude.{◌≡◌, ◌↔◌, ◌<◌, ◌||◌, ℕ, true, false, Some, None, is_some, IsTrue, IsFalse, IsSome};
+ghost use Rattle.std.specs.Prelude.{◌≡◌, ◌↔◌, ◌<◌, ◌||◌, ℕ, true, false, Some, None, IsTrue, IsFalse, IsSome, IsNone};
 ghost use Rattle.std.specs.Option.{option_and_then, option_map_or};
-ghost use Rattle.babel_link.specs.Links.{new_link, history_of, with_history, hello_timer, first_history, later_history, next_history, fired_history, link_verdict, hello_link, ihu_link, fired_link, expired_link, ticked_link, link_rxcost, link_cost, is_heard, is_up_history, is_txcost_due, IsQuietUntil, KeepsCost};
+ghost use Rattle.babel_link.specs.Links.{new_link, history_of, with_history, hello_timer, first_history, later_history, next_history, fired_history, link_verdict, hello_link, ihu_link, fired_link, expired_link, ticked_link, link_rxcost, link_cost, is_heard, is_up_history, is_txcost_due, IsQuietUntil};
 ghost use Rattle.babel_value.specs.Hellos.{is_unicast};
 ghost use Rattle.babel_value.specs.Moments.{later, hold_time};
 ghost use Rattle.babel_link.specs.Moments.{hello_patience};
@@ -94,15 +94,14 @@ impl History {
         ensures fired { IsTrue result → fired_history now self.old ≡ Some self.new }
         ensures kept { IsFalse result → (fired_history now self.old ≡ None) × (self.new ≡ self.old) }
     {
-        let Some(timer) = self.timer else {
+        let Some(timer) = &mut self.timer else {
             return false;
         };
         if now < timer.due {
             return false;
         }
+        timer.due = later_by(now, u64::from(timer.interval));
         self.marks.missed();
-        let due = later_by(now, u64::from(timer.interval));
-        self.timer = Some(Timer { due, ..timer });
         true
     }
 }
@@ -308,14 +307,6 @@ impl Link {
         true
     }
 
-    /// Whether a tick leaves the neighbour: it isn't flushed.
-    pub(crate) fn stays(&self, now: u64) -> bool
-        ensures { result ≡ is_some (ticked_link now self.now) }
-    {
-        let mut after = *self;
-        after.tick(now)
-    }
-
     /// The moment from which the txcost is too old; the greatest one if there is none.
     fn txcost_due(&self) -> u64
         ensures { (now : ℕ) → now < result → is_txcost_due now self.now ≡ false }
@@ -360,7 +351,7 @@ impl Link {
     }
 
     /// The cost of the link over an interface of a finite nominal cost, whatever that is.
-    fn finite_cost(&self) -> Metric
+    pub(crate) fn finite_cost(&self) -> Metric
         ensures { result ≡ link_cost 0 self.now }
     {
         self.cost(Metric(0))
@@ -378,17 +369,35 @@ impl Link {
         }
     }
 
-    /// Whether a tick neither flushes the neighbour nor changes the cost of its link.
-    pub(crate) fn keeps_cost(&self, now: u64) -> bool
-        ensures { IsTrue result → KeepsCost now self.now }
+    /// Whether a deadline is due. If it returns `false`, a tick leaves the link as it is.
+    fn is_due(&self, now: u64) -> bool
+        ensures { IsFalse result → ticked_link now self.now ≡ Some self.now }
     {
-        if now < self.due() {
+        if hello_due(self.multicast) <= now {
             return true;
         }
-        let mut after = *self;
-        if !after.tick(now) {
-            return false;
+        if hello_due(self.unicast) <= now {
+            return true;
         }
-        after.finite_cost().0 == self.finite_cost().0
+        self.txcost_due() <= now
+    }
+
+    /// Handles the deadlines that are due, as `tick`. Returns what that changed of the link's cost:
+    /// `None` if the neighbour is flushed. A link of which none is due is left as it is.
+    #[inline(always)]
+    pub(crate) fn tick_cost(&mut self, now: u64) -> Option<LinkCost>
+        ensures stays { IsSome result → ticked_link now self.old ≡ Some self.new }
+        ensures flushed { IsNone result → ticked_link now self.old ≡ None }
+        ensures kept { result ≡ Some costs.Kept → (nominal : ℕ) → link_cost nominal self.new ≡ link_cost nominal self.old }
+    {
+        if !self.is_due(now) {
+            return Some(LinkCost::Kept);
+        }
+        let before = self.finite_cost();
+        if self.tick(now) {
+            Some(self.cost_since(before))
+        } else {
+            None
+        }
     }
 }

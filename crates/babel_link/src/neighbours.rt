@@ -1,13 +1,15 @@
 //! The table of neighbours (RFC 8966, section 3.2.4).
 
-ghost use Rattle.std.specs.Prelude.{◌≡◌, ◌≢◌, ℕ, ◌+◌, ◌<◌, ◌≤◌, ◌↔◌, [], IsTrue, IsFalse, IsErr, IfOk, IfErr, OnOk, OnErr, IsNone, length, IfSome, is_some, count_by, insert, slice_get};
+ghost use Rattle.std.specs.Prelude.{◌≡◌, ◌≢◌, ℕ, ◌+◌, ◌<◌, ◌≤◌, ◌↔◌, [], IsTrue, IsFalse, IsErr, IfOk, IfErr, OnOk, OnErr, IsNone, length, IfSome, is_some, count_by, insert, slice_get, slice_set, slice_index_or};
 ghost use Rattle.std.specs.FinMap.{find, put, is_sorted};
 ghost use Rattle.std.specs.Option.{option_map};
 ghost use Rattle.std.specs.Vec.{vec_len, vec_capacity};
 ghost use Rattle.babel_value.specs.declared.keys.Peer.{Peer};
+ghost use Rattle.babel_link.specs.declared.links.Link.{Link};
 ghost use Rattle.babel_value.specs.Hellos.{is_unicast};
+ghost use Rattle.babel_value.specs.Metrics.{infinity};
 ghost use Rattle.babel_value.specs.Orders.{peer_cmp};
-ghost use Rattle.babel_link.specs.Neighbours.{max_neighbours, link_of, hello_of, hello_verdict, ihu_of, tick_of, gone_of, rxcost_of, cost_of, are_ascending, comes_before, peers_of, AreQuietUntil, KeepsOtherCosts};
+ghost use Rattle.babel_link.specs.Neighbours.{max_neighbours, link_of, hello_of, hello_verdict, ihu_of, tick_of, gone_of, rxcost_of, cost_of, has_finite_link, are_ascending, comes_before, peers_of, AreQuietUntil, KeepsOtherCosts, CostsOnlyGrow, AreLost};
 ghost use Rattle.babel_link.specs.declared.changes.CostChanges.TheVariants.{Nothing, One, Several};
 ghost use Rattle.babel_link.specs.declared.changes.LinkCost.TheVariants.{Kept};
 ghost use Rattle.babel_link.specs.Places.{IsPlaceOf, IsGapFor};
@@ -61,42 +63,80 @@ fn insert_reserved<T: Drop>(items: &mut Vec<T>, place: usize, item: T)
     items.insert(place, item).unwrap()
 }
 
-/// Handles the deadlines of the neighbours, in one pass. Returns a moment before which none is due
-/// again.
+/// What a pass over the deadlines of the neighbours found.
+#[derive(Clone, Copy)]
+struct LinksTick {
+    /// Before this moment no deadline is due again.
+    due: u64,
+    /// What it changed of the links' costs.
+    changes: CostChanges,
+}
+
+/// Copies the entry at a place to another one. It isn't inlined: a loop over the links would clear
+/// the room for the copy at each of them, and few are moved.
+#[inline(never)]
+fn copy_entry(links: &mut Vec<(Peer, Link)>, from: usize, to: usize)
+    requires from { from < vec_len links.old }
+    requires to { to < vec_len links.old }
+    ensures items { (e : Peer × Link) → links.new.items ≡ slice_set links.old.items to (slice_index_or links.old.items from e) }
+    ensures len { vec_len links.new ≡ vec_len links.old }
+    ensures capacity { vec_capacity links.new ≡ vec_capacity links.old }
+{
+    links[to] = links[from];
+}
+
+/// Moves the entry at a place down to an earlier one. If it is there already, nothing is copied.
+#[inline(always)]
+fn move_down(links: &mut Vec<(Peer, Link)>, place: usize, kept: usize)
+    requires within { place < vec_len links.old }
+    requires earlier { kept ≤ place }
+    ensures items { (e : Peer × Link) → links.new.items ≡ slice_set links.old.items kept (slice_index_or links.old.items place e) }
+    ensures len { vec_len links.new ≡ vec_len links.old }
+    ensures capacity { vec_capacity links.new ≡ vec_capacity links.old }
+{
+    if kept < place {
+        copy_entry(links, place, kept);
+    }
+}
+
+/// Handles the deadlines of the neighbours, in one pass. Until a neighbour is flushed, each link is
+/// handled where it is, and not copied. The later ones then move down.
 fn tick_links(
     links: &mut Vec<(Peer, Link)>,
     now: u64,
     gone: &mut ArrayVec<Peer, MAX_NEIGHBOURS>,
-) -> u64
+) -> LinksTick
     requires { vec_len links.old ≤ max_neighbours }
     ensures links { links.new.items ≡ tick_of now links.old.items }
     ensures gone { gone.new.items ≡ gone_of now links.old.items }
     ensures len { vec_len links.new ≤ vec_len links.old }
     ensures capacity { vec_capacity links.new ≡ vec_capacity links.old }
-    ensures due { AreQuietUntil result links.new.items }
+    ensures due { AreQuietUntil result.due links.new.items }
+    ensures costs { result.changes ≡ Nothing → (peer : Peer) (nominal : ℕ) → cost_of peer nominal links.new.items ≡ cost_of peer nominal links.old.items }
+    ensures others { (peer : Peer) → result.changes ≡ One peer → KeepsOtherCosts peer links.old.items links.new.items }
+    ensures flushed { result.changes ≢ Several → gone.new.items ≡ [] }
 {
     gone.clear();
     let mut kept = 0;
     let mut due = u64::MAX;
+    let mut changes = CostChanges::Nothing;
     for place in 0..links.len() {
-        let quiet_until = links[place].1.due();
-        if kept == place && now < quiet_until {
-            // It stays as it is and where it is: nothing is copied.
-            due = due.min(quiet_until);
-            kept += 1;
-            continue;
-        }
-        let (peer, mut link) = links[place];
-        if link.tick(now) {
-            due = due.min(link.due());
-            links[kept] = (peer, link);
-            kept += 1;
-        } else {
-            gone.push(peer);
+        move_down(links, place, kept);
+        let (peer, link) = &mut links[kept];
+        match link.tick_cost(now) {
+            Some(cost) => {
+                due = due.min(link.due());
+                changes.add(peer, cost);
+                kept += 1;
+            }
+            None => {
+                gone.push(*peer);
+                changes = CostChanges::Several;
+            }
         }
     }
     links.truncate(kept);
-    due
+    LinksTick { due, changes }
 }
 
 impl Neighbours {
@@ -331,12 +371,9 @@ impl Neighbours {
         ensures ascending { IsTrue (are_ascending gone.new.items) }
         ensures quiet { IsFalse result → (self.new ≡ self.old) × (gone.new.items ≡ []) }
     {
-        if now < self.due {
-            gone.clear();
-            return false;
-        }
-        self.due = tick_links(&mut self.links, now, gone);
-        true
+        let due = self.may_be_due(now);
+        let _ = self.tick_costs(now, gone);
+        due
     }
 
     /// Whether a deadline may be due. If it returns `false`, none is, and `tick` changes nothing.
@@ -359,38 +396,33 @@ impl Neighbours {
         ensures costs { result ≡ Nothing → (peer : Peer) (nominal : ℕ) → cost_of peer nominal self.new ≡ cost_of peer nominal self.old }
         ensures others { (peer : Peer) → result ≡ One peer → KeepsOtherCosts peer self.old self.new }
         ensures flushed { result ≢ Several → gone.new.items ≡ [] }
+        ensures ascending { IsTrue (are_ascending gone.new.items) }
+        ensures grown { CostsOnlyGrow self.old self.new }
+        ensures lost { AreLost gone.new.items self.new }
     {
         if !self.may_be_due(now) {
             gone.clear();
             return CostChanges::Nothing;
         }
-        let changes = self.cost_changes(now);
-        let _ = self.tick(now, gone);
-        changes
+        let ticked = tick_links(&mut self.links, now, gone);
+        self.due = ticked.due;
+        ticked.changes
     }
 
-    /// What a tick at this moment would change of the links' costs. `Several` only means that this
-    /// isn't known.
-    fn cost_changes(&self, now: u64) -> CostChanges
-        ensures costs { result ≡ Nothing → (peer : Peer) (nominal : ℕ) → cost_of peer nominal (tick_of now self.now) ≡ cost_of peer nominal self.now }
-        ensures others { (peer : Peer) → result ≡ One peer → KeepsOtherCosts peer self.now (tick_of now self.now) }
-        ensures gone { result ≢ Several → gone_of now self.now ≡ [] }
+    /// Whether a link has a finite cost over an interface of a finite nominal cost. If it returns
+    /// `false`, the link to each peer costs infinity.
+    pub fn has_finite_link(&self) -> bool
+        ensures exact { result ≡ has_finite_link self.now }
+        ensures lost { IsFalse result → (peer : Peer) (nominal : ℕ) → infinity ≤ cost_of peer nominal self.now }
     {
-        let mut changed = None;
-        for place in 0..self.links.len() {
-            let (peer, link) = &self.links[place];
-            if link.keeps_cost(now) {
-                continue;
+        let mut left = self.links.as_slice();
+        while let Some((entry, rest)) = left.split_first() {
+            if entry.1.finite_cost().is_finite() {
+                return true;
             }
-            if changed.is_some() || !link.stays(now) {
-                return CostChanges::Several;
-            }
-            changed = Some(*peer);
+            left = rest;
         }
-        match changed {
-            Some(peer) => CostChanges::One(peer),
-            None => CostChanges::Nothing,
-        }
+        false
     }
 
     /// The cost of receiving from the peer over an interface of this nominal cost (RFC 8966,
