@@ -1,3 +1,2 @@
 pub mod ChoiceLemmas
-pub mod DueWalkLemmas
 pub mod RunLemmas

@@ -84,6 +84,14 @@ kept_without peer key e = if is_from peer key then None else Some e
 abbrev pub forgotten : Peer → RouteEntries → RouteEntries
 forgotten peer = revised_entries (kept_without peer)
 
+-- The route is of one of the neighbours.
+abbrev pub is_from_any : List Peer → RouteKey → Bool
+is_from_any peers key = list_any (λ peer. is_from peer key) peers
+
+-- An entry after the flush of each of these neighbours (profile).
+abbrev pub kept_without_each : List Peer → RouteKey → Entry → Option Entry
+kept_without_each peers key e = if is_from_any peers key then None else Some e
+
 -- The same of each of the neighbours.
 abbrev pub all_forgotten : List Peer → RouteEntries → RouteEntries
 all_forgotten [] es = es
@@ -98,7 +106,3 @@ expired_entry now key e =
 
 abbrev pub expired : ℕ → RouteEntries → RouteEntries
 expired now = revised_entries (expired_entry now)
-
--- The routes whose deadline is due.
-abbrev pub routes_due : ℕ → RouteEntries → RouteEntries
-routes_due now = filter (λ e. nat_le e.1.deadline now)

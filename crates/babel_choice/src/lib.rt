@@ -25,5 +25,5 @@ pub use choices::{choose, choose_place, first_from, overtakes, peer_of, selectio
 pub use cursor::Cursor;
 pub use entries::{Entry, ReceivedUpdate, RouteKey, Selection};
 pub use inputs::{ChoiceInputs, Costs, Origin};
-pub use revisions::{Expiry, Flush, Retraction};
-pub use walks::{AllRoutes, AllSelections, DueRoutes, PrefixRoutes};
+pub use revisions::{Expiry, Flush, FlushEach, Retraction};
+pub use walks::{AllRoutes, AllSelections, PrefixRoutes};

@@ -1,7 +1,7 @@
 //! Changes of all entries at once: by retractions, by the flush of a neighbour and by time.
 
 ghost use Rattle.std.specs.Prelude.{◌≡◌};
-ghost use Rattle.babel_choice.specs.Routes.{is_from, retracted_entry, retracted_from, kept_without, expired_entry};
+ghost use Rattle.babel_choice.specs.Routes.{is_from, retracted_entry, retracted_from, kept_without, kept_without_each, is_from_any, expired_entry};
 
 use crate::{Entry, RouteKey};
 use babel_table::{Revised, Revision};
@@ -57,6 +57,39 @@ impl Revision<RouteKey, Entry> for Flush {
             Revised::Kept
         }
     }
+}
+
+/// The flush of several neighbours.
+#[derive(Drop)]
+pub struct FlushEach<'a> {
+    /// The neighbours.
+    pub peers: &'a [Peer],
+}
+
+impl<'a> Revision<RouteKey, Entry> for FlushEach<'a> {
+    ghost revised = { λ flush. kept_without_each flush.peers.now };
+
+    fn revise(&self, key: &RouteKey, _entry: &Entry) -> Revised<Entry> {
+        if is_of_any(self.peers, key) {
+            Revised::Removed
+        } else {
+            Revised::Kept
+        }
+    }
+}
+
+/// Whether the route is of one of the neighbours.
+fn is_of_any(peers: &[Peer], key: &RouteKey) -> bool
+    ensures { result ≡ is_from_any peers.now key.now }
+{
+    let mut left = peers;
+    while let Some((peer, rest)) = left.split_first() {
+        if key.peer.cmp(peer).is_eq() {
+            return true;
+        }
+        left = rest;
+    }
+    false
 }
 
 /// The deadlines that are due at a moment.

@@ -1,9 +1,8 @@
 //! Walks over routes and selections.
 
-ghost use Rattle.std.specs.Prelude.{◌≡◌, ◌≤◌, [], drop, length, slice_get, IfSome};
+ghost use Rattle.std.specs.Prelude.{◌≡◌, drop};
 ghost use Rattle.std.specs.List.{take_while};
 ghost use Rattle.babel_choice.specs.Choices.{is_of, routes_of};
-ghost use Rattle.babel_choice.specs.Routes.{routes_due};
 
 use crate::{Before, Entry, RouteKey, Selection};
 use babel_table::{Table, places_below, places_below_near};
@@ -52,84 +51,6 @@ impl<'a, T: Table<RouteKey, Entry>> Iterator for AllRoutes<'a, T> {
         self.place += 1;
         Some(route)
     }
-}
-
-/// The routes whose deadline is due at a moment, in the order of their keys. A clause sees the list
-/// of those that are still to come.
-#[derive(Drop)]
-pub struct DueRoutes<'a, T: Table<RouteKey, Entry>> {
-    table: &'a T,
-    now: u64,
-    place: usize,
-}
-
-impl<'a, T: Table<RouteKey, Entry>> Model for DueRoutes<'a, T> {
-    ghost use Rattle.std.specs.Prelude.{drop};
-    ghost use Rattle.babel_choice.specs.Routes.{RouteEntries, routes_due};
-
-    ghost Value = { RouteEntries };
-
-    ghost view = { λ w. routes_due w.now (drop w.place (T.entries w.table.now)) };
-}
-
-impl<'a, T: Table<RouteKey, Entry>> DueRoutes<'a, T> {
-    /// The walk over the routes that are due at the moment.
-    pub fn new(table: &'a T, now: u64) -> DueRoutes<'a, T>
-        ensures { result ≡ routes_due now (T.entries table.now) }
-    {
-        DueRoutes {
-            table,
-            now,
-            place: 0,
-        }
-    }
-
-    /// The walk over no route.
-    pub fn none(table: &'a T) -> DueRoutes<'a, T>
-        ensures { result ≡ [] }
-    {
-        DueRoutes {
-            table,
-            now: 0,
-            place: table.len(),
-        }
-    }
-}
-
-impl<'a, T: Table<RouteKey, Entry>> Iterator for DueRoutes<'a, T> {
-    ghost use Rattle.std.specs.Iterator.{YieldsFirst, item_count};
-
-    type Item = (RouteKey, Entry);
-
-    ghost next_gives = { YieldsFirst (λ routes. routes) };
-
-    ghost remaining = { item_count (λ routes. routes) };
-
-    fn next(&mut self) -> Option<(RouteKey, Entry)> {
-        self.place = place_due(self.table, self.now, self.place);
-        if self.place >= self.table.len() {
-            return None;
-        }
-        let route = self.table.at(self.place)?;
-        self.place += 1;
-        Some(route)
-    }
-}
-
-/// The place of the first route that is due, from a place on; past the last route if there is none.
-fn place_due<T: Table<RouteKey, Entry>>(table: &T, now: u64, from: usize) -> usize
-    ensures routes { routes_due now (drop result (T.entries table.now)) ≡ routes_due now (drop from (T.entries table.now)) }
-    ensures due { IfSome (slice_get (T.entries table.now) result) (λ route. route.1.deadline ≤ now) }
-{
-    let end = table.len();
-    for place in from..end {
-        if let Some(route) = table.at(place) {
-            if route.1.deadline <= now {
-                return place;
-            }
-        }
-    }
-    from.max(end)
 }
 
 /// The selections in the order of their prefixes. A clause sees the list of those that are still to
@@ -212,6 +133,7 @@ impl<'a, T: Table<RouteKey, Entry>> PrefixRoutes<'a, T> {
 
     /// The same. The search begins at the index, which goes to the route before the first one of
     /// the prefix: so the routes of rising prefixes are found in one walk over the table.
+    #[inline(always)]
     pub fn new_near(table: &'a T, prefix: Prefix, near: &mut usize) -> PrefixRoutes<'a, T>
         ensures { result ≡ routes_of prefix (T.entries table.now) }
     {

@@ -1,5 +1,5 @@
 -- Nothing changes as long as nothing is due.
-use Rattle.std.proofs.Common.{◌≡◌, ℕ, ◌<◌, ◌≤◌, Bool, true, false, cond, length, [], ◌∷◌, nat_lt, nat_le, refl, sym, ap, subst, arith}
+use Rattle.std.proofs.Common.{◌≡◌, ℕ, ◌<◌, ◌≤◌, true, false, [], ◌∷◌, nat_lt, nat_le, refl, sym, ap, subst, arith}
 use Rattle.std.proofs.lemmas.Bool.{and_parts, lt-leb, ltb-true}
 use Rattle.std.specs.FinMap.{put}
 use Rattle.std.proofs.lemmas.List.Elements.{All-head, All-tail}
@@ -9,7 +9,7 @@ use Rattle.babel_table.proofs.DueLemmas.{due_earlier, due_put}
 use Rattle.babel_choice.specs.declared.entries.RouteKey.{RouteKey}
 use Rattle.babel_choice.specs.declared.entries.Entry.{Entry}
 use Rattle.babel_choice.specs.RouteKeys.{route_cmp}
-use Rattle.babel_choice.specs.Routes.{RouteEntries, expired, routes_due}
+use Rattle.babel_choice.specs.Routes.{RouteEntries, expired}
 use Rattle.babel_route.specs.RouteLaws.{are_before_deadline}
 
 pub nothing_expired : (now : ℕ) (es : RouteEntries) → are_before_deadline now es ≡ true → expired now es ≡ es
@@ -32,18 +32,3 @@ quiet_expiry now due (e ∷ es) early all =
     let first : due ≤ e.1.deadline = All-head (λ x. due ≤ x.1.deadline) e es all in
     let later : nat_le e.1.deadline now ≡ false = grind (arith, nat_tests) in
     rw later (ap (λ xs. e ∷ xs) (quiet_expiry now due es early (All-tail (λ x. due ≤ x.1.deadline) e es all)))
-
-pub none_due : (now due : ℕ) (es : RouteEntries) → now < due → AreDueFrom (λ e. e.deadline) due es → routes_due now es ≡ []
-none_due now due [] early all = refl
-none_due now due (e ∷ es) early all =
-    let first : due ≤ e.1.deadline = All-head (λ x. due ≤ x.1.deadline) e es all in
-    let later : nat_le e.1.deadline now ≡ false = grind (arith, nat_tests) in
-    rw later (none_due now due es early (All-tail (λ x. due ≤ x.1.deadline) e es all))
-
-pub few_due : (now : ℕ) (es : RouteEntries) → length (routes_due now es) ≤ length es
-few_due now [] = omega arith
-few_due now (e ∷ es) = by (nat_le e.1.deadline now) (few_due now es)
-  where
-    by : (b : Bool) → length (routes_due now es) ≤ length es → length (cond b (e ∷ routes_due now es) (routes_due now es)) ≤ length (e ∷ es)
-    by true rest = omega (arith, rest)
-    by false rest = omega (arith, rest)

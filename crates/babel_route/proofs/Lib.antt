@@ -8,3 +8,4 @@ pub mod RefreshLemmas
 pub mod PrefixWalkLemmas
 pub mod OneChangeLemmas
 pub mod ChangeLemmas
+pub mod FlushLemmas

@@ -64,7 +64,7 @@ module _ {X : Type 0} (order : X → X → Ordering) (o : IsTotalOrder order) (q
           let after = (is_first order o ys d is).before_all there.1.0 e there.1.1 in
           ap (λ b. Some (if b then e else y)) (rises order o y d e ge after)
 
-  first_of_part : (xs : List X) (x : X) → first_of order xs ≡ Some x → q x ≡ true → first_of order (filter q xs) ≡ Some x
+  pub first_of_part : (xs : List X) (x : X) → first_of order xs ≡ Some x → q x ≡ true → first_of order (filter q xs) ≡ Some x
   first_of_part [] x is passes = absurd (none-some x is)
   first_of_part (y ∷ ys) x is passes = by (first_of order ys) refl (first_of_part ys) (sym (with_head y ys) ∙ is)
     where

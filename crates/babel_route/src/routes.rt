@@ -6,12 +6,14 @@ ghost use Rattle.std.specs.FinMap.{find, is_sorted};
 ghost use Rattle.babel_value.specs.Orders.{prefix_cmp};
 ghost use Rattle.babel_route.specs.Rooms.{most_routes};
 ghost use Rattle.babel_choice.specs.RouteKeys.{route_cmp};
-ghost use Rattle.babel_choice.specs.Routes.{is_from, key_of, updated, retracted, retracted_all, has_routes_from, forgotten, all_forgotten, expired, routes_due};
+ghost use Rattle.babel_choice.specs.Routes.{is_from, key_of, updated, retracted, retracted_all, has_routes_from, forgotten, all_forgotten, expired};
 ghost use Rattle.babel_choice.specs.Choices.{routes_of, choice};
 ghost use Rattle.babel_choice.specs.Origins.{is_own};
 ghost use Rattle.babel_choice.specs.PrefixBounds.{is_beyond};
 ghost use Rattle.babel_route.specs.Selections.{choice_at, reselected, selection_at, SelectsTheFirst, places_taken, prefix_after};
+ghost use Rattle.babel_table.specs.Entries.{without};
 ghost use Rattle.babel_table.specs.Firsts.{first_of, lesser_of};
+ghost use Rattle.babel_table.specs.Places.{IsAt};
 
 mod changes;
 mod current;
@@ -21,7 +23,7 @@ mod room;
 
 use crate::tables::{RouteTable, SelectionTable};
 use babel_choice::{
-    AllRoutes, AllSelections, ChoiceInputs, Costs, Cursor, DueRoutes, Entry, Expiry, Flush, Origin,
+    AllRoutes, AllSelections, ChoiceInputs, Costs, Cursor, Entry, Expiry, Flush, FlushEach, Origin,
     PrefixRoutes, ReceivedUpdate, Retraction, RouteKey, Selection, Through, choose,
 };
 use babel_sources::{SourceEntry, SourcesOver};
@@ -171,33 +173,17 @@ impl<E: Table<RouteKey, Entry>, S: Table<Prefix, Selection>> RoutesOver<E, S> {
         self.due = revise_dues(&mut self.entries, &Flush { peer: *peer });
     }
 
-    /// Removes all routes of each of the neighbours.
+    /// Removes all routes of each of the neighbours, in one pass.
     pub fn forget_all(&mut self, peers: &[Peer])
         ensures routes { self.new ≡ record self.old { entries = all_forgotten peers.now self.old.entries } }
         ensures in_order { IsTrue (is_sorted route_cmp self.new.entries) }
         ensures selections_in_order { IsTrue (is_sorted prefix_cmp self.new.selections) }
     {
-        let mut left = peers;
-        while let Some((peer, rest)) = left.split_first() {
-            self.forget(peer);
-            left = rest;
+        if !peers.is_empty() {
+            self.due = revise_dues(&mut self.entries, &FlushEach { peers });
         }
         // The tables are in order.
         let _count = self.len();
-    }
-
-    /// The routes whose deadline is due, in the order of their keys. Before the first deadline it
-    /// looks at no route.
-    pub fn due(&self, now: u64) -> DueRoutes<'_, E>
-        ensures routes { result ≡ routes_due now self.now.entries }
-        ensures few { length result ≤ ROUTE_PLACES }
-    {
-        let _count = self.entries.len();
-        if now < self.due {
-            DueRoutes::none(&self.entries)
-        } else {
-            DueRoutes::new(&self.entries, now)
-        }
     }
 
     /// Takes the deadlines that are due, each once: a route with a finite metric is retracted and
@@ -292,6 +278,15 @@ impl<E: Table<RouteKey, Entry>, S: Table<Prefix, Selection>> RoutesOver<E, S> {
         self.selections.at(place)
     }
 
+    /// Removes the selection of the prefix, which is at the index.
+    #[inline(always)]
+    pub fn unselect_at(&mut self, place: usize, prefix: &Prefix)
+        requires { IsAt prefix.now self.old.selections place }
+        ensures { self.new ≡ record self.old { selections = without prefix_cmp prefix.now self.old.selections } }
+    {
+        self.selections.remove_at(place, prefix);
+    }
+
     /// A walk over the prefixes that have an entry or a selection, in ascending order.
     pub fn prefixes(&self) -> PrefixWalk<'_, E, S>
         ensures walk { result ≡ self.now }
@@ -314,6 +309,7 @@ impl<E: Table<RouteKey, Entry>, S: Table<Prefix, Selection>> RoutesOver<E, S> {
 
     /// The same. The search begins at the index, which goes to the route before the first one of
     /// the prefix.
+    #[inline(always)]
     pub fn routes_of_near(&self, prefix: &Prefix, near: &mut usize) -> PrefixRoutes<'_, E>
         ensures { result ≡ routes_of prefix.now self.now.entries }
     {

@@ -6,7 +6,7 @@ ghost use Rattle.babel_table.specs.Digits.{binary_digits};
 ghost use Rattle.babel_table.specs.Gaps.{around};
 
 use babel_choice::{Entry, RouteKey, Selection};
-use babel_table::{Full, GapTable, Memory, Revision, SortedTable, Sought, Steps, Table};
+use babel_table::{Full, GapTable, Memory, Moments, Revision, SortedTable, Sought, Steps, Table};
 use babel_value::Prefix;
 use std::alloc::Global;
 use std::sync::ledger::Ledger;
@@ -67,8 +67,8 @@ impl Table<RouteKey, Entry> for RouteTable {
     }
 
     #[inline(always)]
-    fn revise<R: Revision<RouteKey, Entry>>(&mut self, revision: &R) {
-        self.table.revise(revision);
+    fn revise<R: Revision<RouteKey, Entry>, M: Moments<Entry>>(&mut self, revision: &R) -> u64 {
+        self.table.revise::<R, M>(revision)
     }
 
     #[inline(always)]
@@ -139,8 +139,11 @@ impl Table<Prefix, Selection> for SelectionTable {
     }
 
     #[inline(always)]
-    fn revise<R: Revision<Prefix, Selection>>(&mut self, revision: &R) {
-        self.table.revise(revision);
+    fn revise<R: Revision<Prefix, Selection>, M: Moments<Selection>>(
+        &mut self,
+        revision: &R,
+    ) -> u64 {
+        self.table.revise::<R, M>(revision)
     }
 
     #[inline(always)]

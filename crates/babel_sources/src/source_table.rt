@@ -5,7 +5,7 @@
 ghost use Rattle.babel_table.specs.Digits.{binary_digits};
 
 use crate::sources::SourceEntry;
-use babel_table::{Full, Memory, Revision, SortedTable, Sought, Steps, Table};
+use babel_table::{Full, Memory, Moments, Revision, SortedTable, Sought, Steps, Table};
 use babel_value::Source;
 use std::alloc::Global;
 use std::sync::ledger::Ledger;
@@ -66,8 +66,11 @@ impl Table<Source, SourceEntry> for SourceTable {
     }
 
     #[inline(always)]
-    fn revise<R: Revision<Source, SourceEntry>>(&mut self, revision: &R) {
-        self.table.revise(revision);
+    fn revise<R: Revision<Source, SourceEntry>, M: Moments<SourceEntry>>(
+        &mut self,
+        revision: &R,
+    ) -> u64 {
+        self.table.revise::<R, M>(revision)
     }
 
     #[inline(always)]

@@ -18,6 +18,7 @@ pub mod EarlyDrops
 pub mod ShortHellos
 pub mod Firing
 pub mod FirstTables
+pub mod OwnPrefixes
 pub mod RequestDues
 pub mod Removing
 pub mod Staleness
@@ -28,10 +29,10 @@ pub mod TickLists
 pub mod QuietTicks
 pub mod Settling
 pub mod LinkChanges
+pub mod Losses
 pub mod SelectionChanges
 pub mod StaleReselections
 pub mod RoutesKept
-pub mod Expiries
 pub mod SnapshotsKept
 pub mod FirstStates
 pub mod SettledItems

@@ -1,8 +1,7 @@
 -- If the cost of one link changed, the selections of the prefixes to which its neighbour has no route stay current.
-use Rattle.std.specs.Prelude.{◌≡◌, ◌≢◌, ℕ, Bool, true, false, cond, not, ◌&&◌, List, [], ◌∷◌, map, filter, IfSome, ⊤, nat_lt, Option, Some, None, if◌then◌else◌}
+use Rattle.std.specs.Prelude.{◌≡◌, ℕ, Bool, true, false, cond, not, ◌&&◌, List, [], ◌∷◌, map, filter, IfSome, ⊤, nat_lt, Option, Some, None, if◌then◌else◌}
 use Rattle.std.specs.Option.{option_map, option_map_or}
-use Rattle.std.specs.Ordering.{eq_by_cmp, is_eq, is_lt}
-use Rattle.std.specs.Cmp.{tied_itself}
+use Rattle.std.specs.Ordering.{eq_by_cmp, is_lt}
 use Rattle.std.specs.FinMap.{find, put}
 use Rattle.std.proofs.Common.{refl, sym, ◌∙◌, ap, subst}
 use Rattle.std.proofs.lemmas.Bool.{or_parts, false≢true}
@@ -12,18 +11,18 @@ use Rattle.babel_value.specs.declared.addresses.Addr.{Addr}
 use Rattle.babel_value.specs.Metrics.{metric_sum}
 use Rattle.babel_value.specs.Orders.{prefix_cmp, peer_cmp}
 use Rattle.babel_value.specs.Prefixes.{PrefixValue}
-use Rattle.babel_value.proofs.OrderLaws.{prefix_total, peer_total}
+use Rattle.babel_value.proofs.OrderLaws.{prefix_total}
 use Rattle.babel_link.specs.declared.links.Link.{Link}
 use Rattle.babel_link.specs.declared.marks.Heard.{Heard}
 use Rattle.babel_link.specs.declared.marks.Heard.TheVariants.{Kept, Flush}
 use Rattle.babel_link.specs.Links.{hello_link, ihu_link}
-use Rattle.babel_link.specs.Neighbours.{Links, link_of, hello_of, hello_verdict, ihu_of, cost_of, KeepsOtherCosts}
+use Rattle.babel_link.specs.Neighbours.{Links, link_of, hello_of, hello_verdict, ihu_of, cost_of}
 use Rattle.babel_table.specs.Firsts.{first_from, first_of}
 use Rattle.babel_table.proofs.LookupLemmas.{eq_turned}
 use Rattle.babel_choice.specs.declared.entries.Selection.{Selection}
 use Rattle.babel_choice.specs.declared.entries.Entry.{Entry}
 use Rattle.babel_choice.specs.RouteKeys.{route_cmp}
-use Rattle.babel_choice.specs.Routes.{Route, RouteEntries, key_of, is_from, routes_but, retracted, retracted_all, retracted_entry, updated, entry_of_update, all_forgotten}
+use Rattle.babel_choice.specs.Routes.{Route, RouteEntries, key_of, is_from, routes_but, retracted, retracted_entry, updated, entry_of_update, all_forgotten}
 use Rattle.babel_sources.specs.Sources.{Sources}
 use Rattle.babel_choice.specs.Choices.{is_of, routes_of, is_candidate, is_feasible_route, preference, rank_cmp, is_change, selection_of, peer_before, choice}
 use Rattle.babel_route.specs.Selections.{IsCurrentBut}
@@ -44,7 +43,7 @@ module _ (sources : Sources) (old new : Peer → ℕ) where
   abbrev IsSame : Route → Type 0
   IsSame route = old route.0.peer ≡ new route.0.peer
 
-  abbrev AreSame : RouteEntries → Type 0
+  abbrev pub AreSame : RouteEntries → Type 0
   AreSame [] = ⊤
   AreSame (r ∷ rs) = IsSame r × AreSame rs
 
@@ -72,7 +71,7 @@ module _ (sources : Sources) (old new : Peer → ℕ) where
   one_of true x y here there = here
   one_of false x y here there = there
 
-  same_first : (before : Option Peer) (found : Option Route) (routes : RouteEntries) → IfSome found IsSame → AreSame routes → first_from (preference old before) found routes ≡ first_from (preference new before) found routes
+  pub same_first : (before : Option Peer) (found : Option Route) (routes : RouteEntries) → IfSome found IsSame → AreSame routes → first_from (preference old before) found routes ≡ first_from (preference new before) found routes
   same_first before found [] some all = refl
   same_first before None (r ∷ rs) some all = same_first before (Some r) rs all.0 all.1
   same_first before (Some f) (r ∷ rs) some all =
@@ -147,48 +146,6 @@ retracted_but now peer prefix s t is current =
     same None = refl
     same (Some e) = routes_but_put peer prefix (retracted_entry now e) es
 
--- A retraction of all routes of the neighbour.
-module _ (now : ℕ) (peer : Peer) where
-  all_but : (es : RouteEntries) → routes_but peer (retracted_all now peer es) ≡ routes_but peer es
-  all_but [] = refl
-  all_but (e ∷ es) = by (is_from peer e.0) (all_but es)
-    where
-      by : (b : Bool) → routes_but peer (retracted_all now peer es) ≡ routes_but peer es →
-          cond (not b) ((e.0, if b then retracted_entry now e.1 else e.1) ∷ routes_but peer (retracted_all now peer es)) (routes_but peer (retracted_all now peer es)) ≡ cond (not b) (e ∷ routes_but peer es) (routes_but peer es)
-      by true rest = rest
-      by false rest = ap (λ xs. e ∷ xs) rest
-
-  -- a prefix to which the neighbour has no route
-  others_stay : (p : PrefixValue) (es : RouteEntries) → has_prefix p (prefixes_from peer (retracted_all now peer es)) ≡ false → routes_of p (retracted_all now peer es) ≡ routes_of p es
-  others_stay p [] none = refl
-  others_stay p (e ∷ es) none = by (is_from peer e.0) (is_of p e) refl none (others_stay p es)
-    where
-      after : RouteEntries
-      after = retracted_all now peer es
-
-      rest : RouteEntries
-      rest = filter (λ f. is_from peer f.0) after
-
-      by : (from of : Bool) → is_of p e ≡ of → has_prefix p (map (λ f. f.0.prefix) (cond from ((e.0, if from then retracted_entry now e.1 else e.1) ∷ rest) rest)) ≡ false →
-          (has_prefix p (prefixes_from peer after) ≡ false → routes_of p after ≡ routes_of p es) →
-          cond of ((e.0, if from then retracted_entry now e.1 else e.1) ∷ routes_of p after) (routes_of p after) ≡ cond of (e ∷ routes_of p es) (routes_of p es)
-      by true true of none later =
-          let parts = or_parts (eq_by_cmp prefix_cmp p e.0.prefix) (has_prefix p (map (λ f. f.0.prefix) rest)) none in
-          absurd (false≢true (sym parts.0 ∙ eq_turned prefix_cmp prefix_total p e.0.prefix ∙ of))
-      by true false of none later = later (or_parts (eq_by_cmp prefix_cmp p e.0.prefix) (has_prefix p (map (λ f. f.0.prefix) rest)) none).1
-      by false true of none later = ap (λ xs. e ∷ xs) (later none)
-      by false false of none later = later none
-
-pub all_retracted_others : (now : ℕ) (peer : Peer) (s t : State) → t ≡ with_entries (retracted_all now peer s.routes.entries) s → AreCurrent s → AreOthersCurrent peer t
-all_retracted_others now peer s t is current =
-    subst (AreOthersCurrent peer) (sym is) (
-      λ p none.
-          current p
-          ∙ ap (λ (rs : RouteEntries). option_map selection_of (first_of (preference (cost_at s) (peer_before (selected_at p s))) (if announces p s then [] else filter (is_candidate s.sources (cost_at s)) rs)))
-          (sym (others_stay now peer p s.routes.entries none)),
-      entries_but peer (retracted_all now peer s.routes.entries) s (all_but now peer s.routes.entries) current,
-    )
-
 -- ---- after a Hello or an IHU
 
 abbrev with_links : Links → State → State
@@ -249,28 +206,3 @@ ihu_cost now peer rxcost interval s t is same = ap (λ nominal. cost_of peer nom
 pub all_forgets : (peers : List Peer) (s : State) → record s { routes = record s.routes { entries = all_forgotten peers s.routes.entries } } ≡ forget_each peers s
 all_forgets [] s = refl
 all_forgets (peer ∷ peers) s = all_forgets peers (forget_neighbour peer s)
-
--- It flushes no neighbour, and leaves the cost of each link but this one's.
-pub ticked_others : (peer : Peer) (s t : State) (links : Links) (gone : List Peer) → t ≡ forget_each gone (with_links links s) →
-    KeepsOtherCosts peer s.neighbours links → gone ≡ [] →
-    AreCurrent s → AreOthersCurrent peer t
-ticked_others peer s t links gone is others none current =
-    subst (AreOthersCurrent peer) (sym (is ∙ ap (λ peers. forget_each peers (with_links links s)) none)) after
-  where
-    u : State
-    u = with_links links s
-
-    differs : (q : Peer) → eq_by_cmp peer_cmp q peer ≡ false → q ≢ peer
-    differs q other same = false≢true (sym other ∙ ap (λ p. eq_by_cmp peer_cmp p peer) same ∙ ap is_eq (tied_itself peer_total peer))
-
-    kept : (q : Peer) → eq_by_cmp peer_cmp q peer ≡ false → cost_at s q ≡ cost_at u q
-    kept q other = sym (others q (nominal_cost q.iface s) (differs q other))
-
-    without : (p : PrefixValue) → has_prefix p (prefixes_from peer s.routes.entries) ≡ false → IsCurrentAt p u
-    without p absent =
-        current p
-        ∙ same_choice s.sources (cost_at s) (cost_at u) p (announces p s) (selected_at p s) s.routes.entries
-        (all_same s.sources (cost_at s) (cost_at u) peer kept p s.routes.entries absent)
-
-    after : AreOthersCurrent peer u
-    after = (λ p none. without p none, costs_but peer (cost_at u) s kept current)

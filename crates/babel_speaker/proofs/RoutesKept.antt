@@ -29,11 +29,11 @@ so false is = absurd (true≢false is)
 pub none_reselected : (now : ℕ) (s t : State) (set : PrefixSet) → t ≡ reselect_each now (prefixes_in set) s → set ≡ [] → t ≡ s
 none_reselected now s t set is none = is ∙ ap (λ (ps : PrefixSet). reselect_each now (prefixes_in ps) s) none
 
--- No finite route is due, so that nothing is reselected.
-pub expired_routes : (now : ℕ) (s t u : State) (set : PrefixSet) → t ≡ routes_ticked now s → u ≡ reselect_each now (prefixes_in set) t → set ≡ [] → KeepsRoutes s u
+-- No selected route is due, so that none is reselected.
+pub expired_routes : (now : ℕ) (s t u : State) → t ≡ routes_ticked now s → u ≡ t → KeepsRoutes s u
 unfolding routes_ticked
-expired_routes now s t u set expires reselects none =
-    subst (KeepsRoutes s) (sym (none_reselected now t u set reselects none ∙ expires)) (parts_routes s (routes_ticked now s) (λ prefix. refl) refl)
+expired_routes now s t u expires same =
+    subst (KeepsRoutes s) (sym (same ∙ expires)) (parts_routes s (routes_ticked now s) (λ prefix. refl) refl)
 
 -- An update was stored, and its prefix selected again. The same is reported of the new selection; what follows changes no route.
 pub stored_routes : (prefix : PrefixValue) (entries : RouteEntries) (s t u : State) (change : SelectionChange) → t ≡ select prefix (with_entries entries s) →

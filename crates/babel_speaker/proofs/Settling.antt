@@ -5,9 +5,9 @@ use Rattle.std.proofs.Common.{sym, ap, ◌∙◌, subst}
 use Rattle.babel_value.specs.declared.keys.Peer.{Peer}
 use Rattle.babel_value.specs.Orders.{prefix_cmp}
 use Rattle.babel_choice.specs.RouteKeys.{route_cmp}
-use Rattle.babel_route.specs.Selections.{IsCurrent, prefixes_of}
-use Rattle.babel_state.specs.State.{State, PrefixSet, gathered, prefixes_in, routed_prefixes}
-use Rattle.babel_state.specs.Reselection.{reselect_each, reselect_all}
+use Rattle.babel_route.specs.Selections.{IsCurrent}
+use Rattle.babel_state.specs.State.{State}
+use Rattle.babel_state.specs.Reselection.{reselect_all}
 use Rattle.babel_state.specs.Ticks.{forget_each, interfaces_ticked, requests_ticked}
 use Rattle.babel_state.specs.CurrentSelections.{AreCurrent}
 use Rattle.babel_state.proofs.CurrentLaws.{reselections_current}
@@ -25,11 +25,6 @@ settled_all now s sorted current = sym (nothing_reselected now s sorted current)
 
 pub current_all : (now : ℕ) (s t : State) → is_sorted route_cmp s.routes.entries ≡ true → t ≡ reselect_all now s → AreCurrent t
 current_all now s t sorted is = subst AreCurrent (sym is) (λ p. reselections_current now s sorted p)
-
--- All prefixes that have a route or a selection are selected again.
-pub routed_reselected : (now : ℕ) (s t : State) (set : PrefixSet) → set ≡ gathered (prefixes_of s.routes) [] → t ≡ reselect_each now (prefixes_in set) s → t ≡ reselect_all now s
-unfolding reselect_all routed_prefixes
-routed_reselected now s t set gathers reselects = reselects ∙ ap (λ (ps : PrefixSet). reselect_each now (prefixes_in ps) s) gathers
 
 -- What changed nothing leaves all current.
 pub still_current : (s t : State) → t ≡ s → AreCurrent s → AreCurrent t

@@ -171,14 +171,6 @@ pub stale_reselected : (now : ℕ) (s t : State) (set : PrefixSet) → is_sorted
 stale_reselected now s t set routes selections sorted stale is =
     is ∙ all_reselected now s routes selections set sorted (λ p none. current_at p s (sym (stale p) ∙ none))
 
--- The others of these prefixes are current.
-pub gathered_reselected : (now : ℕ) (s t : State) (ps : List PrefixValue) (set : PrefixSet) → is_sorted route_cmp s.routes.entries ≡ true → is_sorted prefix_cmp s.routes.selections ≡ true → ((p : PrefixValue) → has_prefix p ps ≡ false → IsCurrentAt p s) → set ≡ gathered ps [] → t ≡ reselect_each now (prefixes_in set) s → t ≡ reselect_all now s
-gathered_reselected now s t ps set routes selections others gathers is =
-    is ∙ all_reselected now s routes selections set sorted (λ p none. others p (sym (has_ascending p ps) ∙ ap (λ es. has_prefix p (prefixes_in es)) (sym gathers) ∙ none))
-  where
-    sorted : is_sorted prefix_cmp set ≡ true
-    sorted = ap (is_sorted prefix_cmp) gathers ∙ so (is_sorted prefix_cmp (gathered ps [])) (sorted_gathered ps [] tt)
-
 -- ---- one reselection
 
 pub unchanged_reselected : (now : ℕ) (p : PrefixValue) (s t : State) → t ≡ select p s → t ≡ s → t ≡ reselect now None p s
@@ -201,11 +193,11 @@ costs_kept now p peer s t is = sym (ap (λ (u : State). cost_at u peer) is ∙ a
 
 -- ---- the prefixes of a neighbour's routes
 
-abbrev units : List PrefixValue → PrefixSet
+abbrev pub units : List PrefixValue → PrefixSet
 units [] = []
 units (p ∷ ps) = (p, tt) ∷ units ps
 
-of_units : (ps : List PrefixValue) → prefixes_in (units ps) ≡ ps
+pub of_units : (ps : List PrefixValue) → prefixes_in (units ps) ≡ ps
 of_units [] = refl
 of_units (p ∷ ps) = ap (λ qs. p ∷ qs) (of_units ps)
 

@@ -4,9 +4,9 @@ pub mod Versions
 pub mod Decodings
 pub mod Inspecting
 pub mod Costs
-pub mod DueRoutes
 pub mod DueTimers
 pub mod LinkChanges
+pub mod Losses
 pub mod Reaching
 pub mod ShortHellos
 pub mod StalePrefixes

@@ -15,6 +15,26 @@ use std::mem;
 /// The most TLVs for which a kept list has room: 8 KiB.
 const MOST_KEPT: usize = 128;
 
+/// Where the last call ended that announced or withdrew a prefix. As a `Cursor`, it only matters
+/// for speed.
+#[derive(Drop)]
+pub struct OwnCursor {
+    /// An index in the announced prefixes.
+    pub announced: usize,
+    /// Where it was in the other tables.
+    pub tables: Cursor,
+}
+
+impl OwnCursor {
+    /// A cursor that is nowhere yet.
+    fn new() -> OwnCursor {
+        OwnCursor {
+            announced: 0,
+            tables: Cursor::new(),
+        }
+    }
+}
+
 /// What speeds calls up, and what they note of their changes. The state that a call leaves doesn't
 /// depend on it.
 #[derive(Drop)]
@@ -39,6 +59,8 @@ pub struct Hints {
     /// Where those of the next item begin that is sent. Items mostly are in the order of their
     /// prefixes, and a speaker sends the same ones in turns.
     pub sending: Cursor,
+    /// Where those begin of the next prefix that is announced or withdrawn.
+    pub own: OwnCursor,
 }
 
 impl Hints {
@@ -57,6 +79,7 @@ impl Hints {
             placed: Vec::new(alloc),
             cursor: Cursor::new(),
             sending: Cursor::new(),
+            own: OwnCursor::new(),
         })
     }
 

@@ -2,6 +2,7 @@
 
 pub mod causes;
 pub mod hellos;
+pub mod losses;
 pub mod messages;
 pub mod receiving;
 pub mod records;

@@ -383,7 +383,7 @@ impl Speaker {
         states_are_well_formed();
         calls_move();
         selections_stay_current();
-        match crate::state::settings::announce(&mut self.core, &prefix) {
+        match crate::state::settings::announce(&mut self.core, &prefix, &mut self.hints.own) {
             Ok(report) => {
                 self.routes = counted(self.routes, is_other(report));
                 Ok(())
@@ -404,7 +404,7 @@ impl Speaker {
         states_are_well_formed();
         calls_move();
         selections_stay_current();
-        match crate::state::settings::withdraw(&mut self.core, &prefix) {
+        match crate::state::settings::withdraw(&mut self.core, &prefix, &mut self.hints.own) {
             Ok(report) => {
                 self.routes = counted(self.routes, is_other(report));
                 Ok(())

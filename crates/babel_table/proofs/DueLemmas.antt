@@ -1,12 +1,13 @@
 -- What storing an entry leaves of the least moment.
-use Rattle.std.proofs.Common.{◌≡◌, ℕ, ◌+◌, ◌≤◌, ◌<◌, List, [], ◌∷◌, length, take, slice_get, Some, sym, subst, arith}
+use Rattle.std.proofs.Common.{ℕ, ◌+◌, ◌≤◌, ◌<◌, List, [], ◌∷◌, length, take, set, sym, subst, arith}
 use Rattle.std.specs.declared.cmp.Ordering.{Ordering}
 use Rattle.std.specs.declared.cmp.Ordering.TheVariants.{Less, Equal, Greater}
 use Rattle.std.specs.FinMap.{put}
 use Rattle.std.specs.FinMap.Entries.{by_order}
-use Rattle.std.proofs.lemmas.List.Elements.{All-nil, All-cons, All-head, All-tail, All-weaker, All-more}
-use Rattle.std.proofs.lemmas.Option.{get_or_from_slice_get}
+use Rattle.std.proofs.lemmas.List.Elements.{All-nil, All-cons, All-head, All-tail, All-weaker, All-append}
+use Rattle.std.proofs.lemmas.List.{take_more_set}
 use Rattle.babel_table.specs.Dues.{AreDueFrom}
+use Rattle.babel_table.specs.Insertions.{in_order}
 
 module _ {K V : Type 0} (due : V → ℕ) where
   pub due_earlier : (moment earlier : ℕ) (es : List (K × V)) → earlier ≤ moment → AreDueFrom due moment es → AreDueFrom due earlier es
@@ -22,7 +23,14 @@ module _ {K V : Type 0} (due : V → ℕ) where
       by Equal rest = All-cons (λ e. moment ≤ due e.1) (e.0, v) es one (All-tail (λ e. moment ≤ due e.1) e es all)
       by Greater rest = All-cons (λ e. moment ≤ due e.1) e (put R k v es) (All-head (λ e. moment ≤ due e.1) e es all) rest
 
-  -- one more entry of a walk
-  pub due_more : (moment : ℕ) (es : List (K × V)) (i : ℕ) (e : K × V) → i < length es → slice_get es i ≡ Some e → moment ≤ due e.1 → AreDueFrom due moment (take i es) → AreDueFrom due moment (take (i + 1) es)
-  due_more moment es i e within at one all =
-      All-more (λ e. moment ≤ due e.1) es i e within all (subst (λ (x : K × V). moment ≤ due x.1) (sym (get_or_from_slice_get es i e e at)) one)
+  -- An entry is written after those that are left.
+  pub due_written : (moment earlier : ℕ) (es : List (K × V)) (i : ℕ) (e : K × V) → i < length es → earlier ≤ moment → earlier ≤ due e.1 → AreDueFrom due moment (take i es) → AreDueFrom due earlier (take (i + 1) (set es i e))
+  due_written moment earlier es i e within before one all =
+      let P = λ (x : K × V). earlier ≤ due x.1 in
+      subst (AreDueFrom due earlier) (sym (take_more_set es i e within))
+      (All-append P (take i es) (e ∷ []) (due_earlier moment earlier (take i es) before all) (All-cons P e [] one (All-nil P)))
+
+  pub due_in_order : (R : K → K → Ordering) (moment : ℕ) (es : List (K × V)) → AreDueFrom due moment es → AreDueFrom due moment (in_order R es)
+  due_in_order R moment [] all = all
+  due_in_order R moment (e ∷ es) all =
+      due_put R moment e.0 e.1 (in_order R es) (All-head (λ x. moment ≤ due x.1) e es all) (due_in_order R moment es (All-tail (λ x. moment ≤ due x.1) e es all))

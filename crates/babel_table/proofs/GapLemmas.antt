@@ -58,27 +58,13 @@ module _ {A : Type 0} where
       ∙ ap (λ ys. take g xs ++ ys) (subst (λ n. drop (g + h) (set xs n x) ≡ set (drop (g + h) xs) (i - g) x) slot (drop-set-add (g + h) xs (i - g) x))
       ∙ sym (set-append_right (take g xs) (drop (g + h) xs) g i x (length-take-le g xs within) past)
 
-  -- ---- the gap grows, and what is after it ends
+  -- ---- the gap grows
   pub widened : (g h : ℕ) (xs : List A) → around g (h + 1) xs ≡ remove (around g h xs) g
   widened zero h xs =
       ap (λ n. drop n xs) (omega arith) ∙ sym (drop-drop 1 h xs) ∙ ap (λ n. drop 1 (drop n xs)) (omega arith)
   widened (suc g) h [] = around_none (suc g) (h + 1) ∙ ap (λ ys. remove ys (suc g)) (sym (around_none (suc g) h))
   widened (suc g) h (x ∷ xs) =
       around_cons g (h + 1) x xs ∙ ap (λ ys. x ∷ ys) (widened g h xs) ∙ ap (λ ys. remove ys (suc g)) (sym (around_cons g h x xs))
-
-  pub shortened : (g n h : ℕ) (xs : List A) → around g h (take (g + n + h) xs) ≡ take (g + n) (around g h xs)
-  shortened zero n h xs =
-      let few : 0 + n + h ≡ h + n = omega arith in
-      let none : 0 + h ≡ h = omega arith in
-      ap (λ m. drop (0 + h) (take m xs)) few ∙ ap (λ k. drop k (take (h + n) xs)) none ∙ drop-take h n xs
-      ∙ ap (λ k. take n (drop k xs)) (sym none) ∙ ap (λ m. take m (drop (0 + h) xs)) (omega arith)
-  shortened (suc g) n h [] =
-      ap (around (suc g) h) (take_none (suc g + n + h)) ∙ around_none (suc g) h ∙ sym (take_none (suc g + n)) ∙ ap (take (suc g + n)) (sym (around_none (suc g) h))
-  shortened (suc g) n h (x ∷ xs) =
-      let all : suc g + n + h ≡ suc (g + n + h) = omega arith in
-      let len : suc (g + n) ≡ suc g + n = omega arith in
-      ap (λ m. around (suc g) h (take m (x ∷ xs))) all ∙ around_cons g h x (take (g + n + h) xs)
-      ∙ ap (λ ys. x ∷ ys) (shortened g n h xs) ∙ ap (λ m. take m (x ∷ around g h xs)) len ∙ ap (take (suc g + n)) (sym (around_cons g h x xs))
 
   -- ---- the gap moves over n items
   pub moved_on : (g n h : ℕ) (xs : List A) → g + n + h ≤ length xs → around (g + n) h (paste xs g (drop (g + h) xs) n) ≡ around g h xs

@@ -1,10 +1,10 @@
 -- What a revision leaves of the order of the keys, and a step of its pass.
-use Rattle.std.proofs.Common.{◌≡◌, ℕ, zero, suc, ◌+◌, ◌<◌, ◌≤◌, true, cond, List, [], ◌∷◌, ◌++◌, length, get_or, set, take, drop, slice_get, option_map, option_and_then, is_none, Option, Some, None, refl, sym, ap, subst, ◌∙◌, arith, add-one, append_assoc}
+use Rattle.std.proofs.Common.{◌≡◌, ℕ, ◌+◌, ◌<◌, ◌≤◌, true, cond, List, [], ◌∷◌, ◌++◌, length, get_or, set, take, drop, option_map, option_and_then, is_none, Option, Some, None, refl, sym, ap, subst, ◌∙◌, arith, add-one, append_assoc}
 use Rattle.std.specs.List.{cons_option}
 use Rattle.std.proofs.Math.Seq.{drop-cons}
 use Rattle.std.proofs.lemmas.List.{drop-set-lt, take_more_set, drop_all, append-nil}
 use Rattle.std.proofs.lemmas.Bool.{and_parts, and_from, true≢false}
-use Rattle.std.proofs.lemmas.Option.{same_Some, none-some}
+use Rattle.std.proofs.lemmas.Option.{none-some}
 use Rattle.std.specs.declared.cmp.Ordering.{Ordering}
 use Rattle.std.specs.declared.cmp.Ordering.TheVariants.{Less, Equal, Greater}
 use Rattle.std.specs.Ordering.{is_lt, is_eq}
@@ -16,31 +16,28 @@ use Rattle.babel_table.specs.Insertions.{in_order, are_distinct, sorted_in_order
 use Rattle.babel_table.proofs.PlaceLemmas.{holds, find_revised}
 use Rattle.babel_table.proofs.InsertionLemmas.{find_in_order}
 
--- Writing an item over itself changes nothing.
-pub set_same : {A : Type 0} (es : List A) (i : ℕ) (e : A) → slice_get es i ≡ Some e → set es i e ≡ es
-set_same [] i e at = absurd (none-some e at)
-set_same (f ∷ es) zero e at = ap (λ x. x ∷ es) (sym (same_Some f e at))
-set_same (f ∷ es) (suc i) e at = ap (λ xs. f ∷ xs) (set_same es i e at)
+module _ {K V : Type 0} (f : K → V → Option V) (es : List (K × V)) (i : ℕ) (d : K × V) (within : i < length es) where
+  abbrev e : K × V
+  e = get_or es i d
 
-module _ {K V : Type 0} (f : K → V → Option V) (es : List (K × V)) (i : ℕ) (e : K × V) (within : i < length es) (read : e ≡ get_or es i e) where
   drop-read : drop i es ≡ e ∷ drop (i + 1) es
-  drop-read = rw add-one (drop-cons es i e within ∙ ap (λ (x : K × V). x ∷ drop (suc i) es) (sym read))
+  drop-read = rw add-one (drop-cons es i d within)
 
-  pub revised-stays : (v : V) → f e.0 e.1 ≡ Some v → revised_entries f (drop i es) ≡ (e.0, v) ∷ revised_entries f (drop (i + 1) es)
+  revised-stays : (v : V) → f e.0 e.1 ≡ Some v → revised_entries f (drop i es) ≡ (e.0, v) ∷ revised_entries f (drop (i + 1) es)
   revised-stays v stays = rw (drop-read, stays) refl
 
-  pub revised-goes : f e.0 e.1 ≡ None → revised_entries f (drop i es) ≡ revised_entries f (drop (i + 1) es)
+  revised-goes : f e.0 e.1 ≡ None → revised_entries f (drop i es) ≡ revised_entries f (drop (i + 1) es)
   revised-goes goes = rw (drop-read, goes) refl
 
-  -- An entry that stays is written after the others that stay.
-  pub stays_more : (kept : ℕ) (v : V) (whole : List (K × V)) → kept ≤ i → f e.0 e.1 ≡ Some v → take kept es ++ revised_entries f (drop i es) ≡ whole → take (kept + 1) (set es kept (e.0, v)) ++ revised_entries f (drop (i + 1) (set es kept (e.0, v))) ≡ whole
-  stays_more kept v whole late stays so_far =
+  -- An entry that is left is written after the others that are.
+  pub left_more : (kept : ℕ) (v : V) (new whole : List (K × V)) → kept ≤ i → f e.0 e.1 ≡ Some v → new ≡ set es kept (e.0, v) → take kept es ++ revised_entries f (drop i es) ≡ whole → take (kept + 1) new ++ revised_entries f (drop (i + 1) new) ≡ whole
+  left_more kept v new whole late stays is so_far =
       let y : K × V = (e.0, v) in
-      rw (take_more_set es kept y (omega arith), drop-set-lt (i + 1) es kept y (omega arith), append_assoc)
+      rw (is, take_more_set es kept y (omega arith), drop-set-lt (i + 1) es kept y (omega arith), append_assoc)
       (ap (λ rest. take kept es ++ rest) (sym (revised-stays v stays)) ∙ so_far)
 
-  pub stays_same : (before whole : List (K × V)) → f e.0 e.1 ≡ None → before ++ revised_entries f (drop i es) ≡ whole → before ++ revised_entries f (drop (i + 1) es) ≡ whole
-  stays_same before whole goes so_far = ap (λ rest. before ++ rest) (sym (revised-goes goes)) ∙ so_far
+  pub left_same : (before whole : List (K × V)) → f e.0 e.1 ≡ None → before ++ revised_entries f (drop i es) ≡ whole → before ++ revised_entries f (drop (i + 1) es) ≡ whole
+  left_same before whole goes so_far = ap (λ rest. before ++ rest) (sym (revised-goes goes)) ∙ so_far
 
 module _ {K V : Type 0} (R : K → K → Ordering) (f : K → V → Option V) where
   below_revised : (x : K) (es : List (K × V)) → below_all R x es ≡ true → below_all R x (revised_entries f es) ≡ true
@@ -112,6 +109,6 @@ module _ {K V : Type 0} (R : K → K → Ordering) (f : K → V → Option V) wh
       ∙ ap (option_and_then (f k)) (sym (find_in_order R o k es)) ∙ sym (find_revised R o exact f k (in_order R es) (sorted_in_order R o es)))
 
 -- At the end nothing is left to revise.
-pub stays_all : {K V : Type 0} (f : K → V → Option V) (es : List (K × V)) (i : ℕ) → length es ≤ i → (before whole : List (K × V)) → before ++ revised_entries f (drop i es) ≡ whole → before ≡ whole
-stays_all f es i past before whole so_far =
+pub left_all : {K V : Type 0} (f : K → V → Option V) (es : List (K × V)) (i : ℕ) → length es ≤ i → (before whole : List (K × V)) → before ++ revised_entries f (drop i es) ≡ whole → before ≡ whole
+left_all f es i past before whole so_far =
     sym (append-nil before) ∙ ap (λ rest. before ++ revised_entries f rest) (sym (drop_all i es past)) ∙ so_far

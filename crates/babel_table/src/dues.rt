@@ -15,18 +15,25 @@ pub trait Due: Copy {
         ensures { result ≡ due_of self.now };
 }
 
-/// A moment before which no value of the table is due: the least of them, or the greatest moment if
-/// the table is empty.
-pub fn least_due<K: Key, V: Due, T: Table<K, V>>(table: &T) -> u64
-    ensures { AreDueFrom V.due_of result (T.entries table.now) }
-{
-    let mut least = u64::MAX;
-    for place in 0..table.len() {
-        if let Some(entry) = table.at(place) {
-            least = least.min(entry.1.due());
-        }
+/// The moment from which on each value is due. A table of values that aren't due has none, so it is
+/// a parameter of the pass and no bound of the table.
+pub trait Moments<V: Copy> {
+    ghost moment_of: { V → ℕ };
+
+    /// The moment from which on the value is due.
+    fn moment(value: &V) -> u64
+        ensures { result ≡ moment_of value.now };
+}
+
+/// Each value's own moment.
+struct OwnMoments;
+
+impl<V: Due> Moments<V> for OwnMoments {
+    ghost moment_of = { V.due_of };
+
+    fn moment(value: &V) -> u64 {
+        value.due()
     }
-    least
 }
 
 /// Revises all entries of the table. Returns a moment before which no value that it then has is
@@ -39,6 +46,5 @@ pub fn revise_dues<K: Key, V: Due, T: Table<K, V>, R: Revision<K, V>>(
     ensures room { T.room table.new ≡ T.room table.old }
     ensures due { AreDueFrom V.due_of result (T.entries table.new) }
 {
-    table.revise(revision);
-    least_due(table)
+    table.revise::<R, OwnMoments>(revision)
 }

@@ -3,13 +3,15 @@
 ghost use Rattle.std.specs.Prelude.{◌≡◌, ◌+◌, ◌≤◌, ◌<◌, length, slice_get, set, vec_len, vec_capacity};
 ghost use Rattle.babel_table.specs.Gaps.{around};
 
-use crate::Memory;
+use crate::revisions::compact;
 use crate::sequences::Sequence;
+use crate::{Memory, Moments, Revision};
 use std::alloc::Global;
 
 /// A vector with a gap (a gap buffer). To remove the first item after the gap widens it, and to
 /// insert an item in it narrows it: neither moves another item. The gap goes to other indices
-/// first, which moves the items between. It has no slots until an item is removed.
+/// first, which moves the items between. It has no slots until an item is removed, and none after a
+/// revision of all items.
 #[derive(Drop)]
 pub struct GapVec<T: Copy> {
     /// The items, and in the gap old ones that mean nothing.
@@ -64,14 +66,15 @@ impl<K: Copy, V: Copy> Sequence<K, V> for GapVec<(K, V)> {
         self.hole += 1;
     }
 
-    fn truncate(&mut self, len: usize) {
-        if len < self.gap {
-            self.slots.truncate(len);
-            self.gap = len;
-            self.hole = 0;
-        } else {
-            self.slots.truncate(len + self.hole);
-        }
+    fn clear(&mut self) {
+        self.slots.clear();
+        self.gap = 0;
+        self.hole = 0;
+    }
+
+    fn revise<R: Revision<K, V>, M: Moments<V>>(&mut self, revision: &R) -> u64 {
+        self.close_gap();
+        compact::<K, V, R, M>(&mut self.slots, revision)
     }
 }
 
@@ -110,5 +113,19 @@ impl<T: Copy> GapVec<T> {
         } else {
             self.slots.copy_within(gap + hole..index + hole, gap);
         }
+    }
+
+    /// Makes the gap one of no slots. The items stay in their order.
+    fn close_gap(&mut self)
+        ensures items { self.new.slots.items ≡ around self.old.gap self.old.hole self.old.slots.items }
+        ensures gap { self.new.gap ≡ 0 }
+        ensures hole { self.new.hole ≡ 0 }
+        ensures room { vec_capacity self.new.slots ≡ vec_capacity self.old.slots }
+    {
+        let len = self.slots.len() - self.hole;
+        self.move_gap(len);
+        self.slots.truncate(len);
+        self.gap = 0;
+        self.hole = 0;
     }
 }

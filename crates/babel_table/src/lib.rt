@@ -28,7 +28,7 @@ mod table;
 
 pub use babel_value::Memory;
 pub use bounds::{Bound, places_below};
-pub use dues::{Due, revise_dues};
+pub use dues::{Due, Moments, revise_dues};
 pub use errors::Full;
 pub use keys::{Key, Sought};
 pub use near::{change_near, find_near, places_below_near, put_near, seek_near};

@@ -237,6 +237,11 @@ pub fn seek_near<K: Key, V: Copy, T: Table<K, V>>(table: &T, near: &mut usize, k
     ensures gap { IsFalse result → IsGap K.order key.now (T.entries table.now) near.new }
 {
     let Some(entry) = table.at(*near) else {
+        let len = table.len();
+        *near = len;
+        if len == 0 {
+            return false;
+        }
         return seek_past_all(table, near, key);
     };
     match order_of(key, &entry.0) {
@@ -246,19 +251,17 @@ pub fn seek_near<K: Key, V: Copy, T: Table<K, V>>(table: &T, near: &mut usize, k
     }
 }
 
-/// The same where the index is past the last entry. The keys that are sought there mostly are past
-/// it too: those of a full table that refuses them, or of one that is filled in their order.
+/// The same where the index is the one after the last entry. The keys that are sought there mostly
+/// are past it too: those of a full table that refuses them, or of one that is filled in their
+/// order.
 #[inline(never)]
 fn seek_past_all<K: Key, V: Copy, T: Table<K, V>>(table: &T, near: &mut usize, key: &K) -> bool
+    requires end { near.old ≡ length (T.entries table.now) }
+    requires entries { 0 < near.old }
     ensures at { IsTrue result → IsAt key.now (T.entries table.now) near.new }
     ensures gap { IsFalse result → IsGap K.order key.now (T.entries table.now) near.new }
 {
-    let len = table.len();
-    *near = len;
-    if len == 0 {
-        return false;
-    }
-    let Some(last) = table.at(len - 1) else {
+    let Some(last) = table.at(*near - 1) else {
         return search_for(table, near, key);
     };
     match order_of(key, &last.0) {

@@ -7,7 +7,7 @@ ghost use Rattle.babel_table.specs.Insertions.{in_order, are_distinct, sorted_in
 ghost use Rattle.babel_table.specs.Places.{IsAt};
 
 use crate::revisions::compact;
-use crate::{Full, Key, Memory, Revision, Sought, Steps, Table};
+use crate::{Full, Key, Memory, Moments, Revision, Sought, Steps, Table};
 use std::alloc::Global;
 use std::marker::Brand;
 use std::sync::ledger::{Blank, Ledger};
@@ -80,8 +80,8 @@ impl<K: Key, V: Copy> Table<K, V> for PlainTable<K, V> {
         let _ = self.put(key, value);
     }
 
-    fn revise<R: Revision<K, V>>(&mut self, revision: &R) {
-        compact(&mut self.entries, revision);
+    fn revise<R: Revision<K, V>, M: Moments<V>>(&mut self, revision: &R) -> u64 {
+        compact::<K, V, R, M>(&mut self.entries, revision)
     }
 
     fn len(&self) -> usize {

@@ -1,11 +1,11 @@
 //! A revision of all entries of a table, in one pass.
 
-ghost use Rattle.std.specs.Prelude.{◌≡◌, ◌≤◌, ◌<◌, Option, Some, length, slice_get, set};
+ghost use Rattle.std.specs.Prelude.{◌≡◌, ℕ, ◌≤◌, ◌<◌, ◌++◌, Option, length, take, drop, vec_len, vec_capacity};
+ghost use Rattle.babel_table.specs.Dues.{AreDueFrom};
 ghost use Rattle.babel_table.specs.Entries.{revised_entries};
 ghost use Rattle.babel_table.specs.Revisions.{revised_value};
 
-use crate::Key;
-use crate::sequences::Sequence;
+use crate::Moments;
 
 /// What becomes of a value in a revision.
 pub enum Revised<V: Copy> {
@@ -35,49 +35,115 @@ pub trait Change<V: Copy> {
         ensures { result ≡ changed self.now value };
 }
 
-/// Revises the entries in one pass. Each is moved at most once, and one that is kept where it is
-/// isn't written.
-pub(crate) fn compact<K: Key, V: Copy, Q: Sequence<K, V>, R: Revision<K, V>>(
-    entries: &mut Q,
+/// The first entries of a row, which a revision left so far.
+#[derive(Clone, Copy)]
+struct Left {
+    /// How many they are.
+    count: usize,
+    /// A moment before which none of them is due.
+    due: u64,
+}
+
+/// Revises the entries in one pass, and returns a moment before which none that is left is due.
+/// Each is moved at most once, and one that is kept where it is isn't written.
+pub(crate) fn compact<K: Copy, V: Copy, R: Revision<K, V>, M: Moments<V>>(
+    entries: &mut Vec<(K, V)>,
     revision: &R,
-)
-    ensures items { Q.items entries.new ≡ revised_entries (R.revised revision.now) (Q.items entries.old) }
-    ensures len { length (Q.items entries.new) ≤ length (Q.items entries.old) }
-    ensures room { Q.room entries.new ≡ Q.room entries.old }
+) -> u64
+    ensures items { entries.new.items ≡ revised_entries (R.revised revision.now) entries.old.items }
+    ensures len { vec_len entries.new ≤ vec_len entries.old }
+    ensures room { vec_capacity entries.new ≡ vec_capacity entries.old }
+    ensures due { AreDueFrom M.moment_of result entries.new.items }
 {
-    let mut kept = 0;
+    let left = revise_in_place::<K, V, R, M>(entries, revision);
+    let left = move_down::<K, V, R, M>(entries, left, revision);
+    entries.truncate(left.count);
+    left.due
+}
+
+/// Revises the entries up to the first one that is removed. None of them is moved.
+fn revise_in_place<K: Copy, V: Copy, R: Revision<K, V>, M: Moments<V>>(
+    entries: &mut [(K, V)],
+    revision: &R,
+) -> Left
+    ensures within { result.count ≤ length entries.old }
+    ensures left { take result.count entries.new ++ revised_entries (R.revised revision.now) (drop result.count entries.new) ≡ revised_entries (R.revised revision.now) entries.old }
+    ensures len { length entries.new ≡ length entries.old }
+    ensures due { AreDueFrom M.moment_of result.due (take result.count entries.new) }
+{
+    let mut due = u64::MAX;
     for index in 0..entries.len() {
-        let (key, value) = *entries.item(index);
-        match revision.revise(&key, &value) {
+        let entry = &entries[index];
+        match revision.revise(&entry.0, &entry.1) {
+            Revised::Kept => due = due.min(M::moment(&entry.1)),
+            Revised::Changed(changed) => {
+                due = due.min(M::moment(&changed));
+                entries[index].1 = changed;
+            }
+            Revised::Removed => return Left { count: index, due },
+        }
+    }
+    Left {
+        count: entries.len(),
+        due,
+    }
+}
+
+/// The index of the first entry from an index on that is left, or their number if there is none.
+/// Entries that are removed mostly follow one another, and nothing is copied for them.
+#[inline(always)]
+fn pass_removed<K: Copy, V: Copy, R: Revision<K, V>>(
+    entries: &[(K, V)],
+    from: usize,
+    revision: &R,
+) -> usize
+    requires { from ≤ length entries.now }
+    ensures from { from ≤ result }
+    ensures within { result ≤ length entries.now }
+    ensures removed { revised_entries (R.revised revision.now) (drop result entries.now) ≡ revised_entries (R.revised revision.now) (drop from entries.now) }
+{
+    for index in from..entries.len() {
+        let entry = &entries[index];
+        match revision.revise(&entry.0, &entry.1) {
+            Revised::Removed => {}
+            Revised::Kept | Revised::Changed(_) => return index,
+        }
+    }
+    entries.len()
+}
+
+/// Revises the entries after those that are left already, of which the first is removed. Each that
+/// is left is moved down to these.
+fn move_down<K: Copy, V: Copy, R: Revision<K, V>, M: Moments<V>>(
+    entries: &mut [(K, V)],
+    left: Left,
+    revision: &R,
+) -> Left
+    requires within { left.count ≤ length entries.old }
+    requires due { AreDueFrom M.moment_of left.due (take left.count entries.old) }
+    ensures within { result.count ≤ length entries.new }
+    ensures left { take result.count entries.new ≡ take left.count entries.old ++ revised_entries (R.revised revision.now) (drop left.count entries.old) }
+    ensures len { length entries.new ≡ length entries.old }
+    ensures due { AreDueFrom M.moment_of result.due (take result.count entries.new) }
+{
+    let mut count = left.count;
+    let mut due = left.due;
+    let first = pass_removed(entries, left.count, revision);
+    for index in first..entries.len() {
+        let entry = &entries[index];
+        match revision.revise(&entry.0, &entry.1) {
             Revised::Kept => {
-                move_down(entries, kept, index, key, value);
-                kept += 1;
+                due = due.min(M::moment(&entry.1));
+                entries[count] = entries[index];
+                count += 1;
             }
             Revised::Changed(changed) => {
-                entries.set(kept, key, changed);
-                kept += 1;
+                due = due.min(M::moment(&changed));
+                entries[count] = (entry.0, changed);
+                count += 1;
             }
             Revised::Removed => {}
         }
     }
-    entries.truncate(kept);
-}
-
-/// Copies the item at an index to an index that isn't greater.
-fn move_down<K: Copy, V: Copy, Q: Sequence<K, V>>(
-    items: &mut Q,
-    to: usize,
-    from: usize,
-    key: K,
-    value: V,
-)
-    requires order { to ≤ from }
-    requires within { from < length (Q.items items.old) }
-    requires item { slice_get (Q.items items.old) from ≡ Some (key, value) }
-    ensures items { Q.items items.new ≡ set (Q.items items.old) to (key, value) }
-    ensures room { Q.room items.new ≡ Q.room items.old }
-{
-    if to < from {
-        items.set(to, key, value);
-    }
+    Left { count, due }
 }

@@ -1,8 +1,11 @@
 //! What the entries of a table in order are kept in.
 
-ghost use Rattle.std.specs.Prelude.{◌≡◌, ℕ, ◌≤◌, ◌<◌, List, [], Some, length, slice_get, set, insert, remove, take, vec_capacity, IfOk};
+ghost use Rattle.std.specs.Prelude.{◌≡◌, ℕ, ◌≤◌, ◌<◌, List, [], Some, length, slice_get, set, insert, remove, vec_capacity, IfOk};
+ghost use Rattle.babel_table.specs.Dues.{AreDueFrom};
+ghost use Rattle.babel_table.specs.Entries.{revised_entries};
 
-use crate::Memory;
+use crate::revisions::compact;
+use crate::{Memory, Moments, Revision};
 use std::alloc::Global;
 
 /// Entries in a row, each at an index. Contracts see them as a list.
@@ -46,11 +49,17 @@ pub trait Sequence<K: Copy, V: Copy>: Drop {
         ensures items { items self.new ≡ remove (items self.old) index }
         ensures room { room self.new ≡ room self.old };
 
-    /// Removes all entries from the index on.
-    fn truncate(&mut self, len: usize)
-        requires { len ≤ length (items self.old) }
-        ensures items { items self.new ≡ take len (items self.old) }
+    /// Removes all entries.
+    fn clear(&mut self)
+        ensures items { items self.new ≡ [] }
         ensures room { room self.new ≡ room self.old };
+
+    /// Revises all entries in one pass. Returns a moment before which no value that is left is due.
+    fn revise<R: Revision<K, V>, M: Moments<V>>(&mut self, revision: &R) -> u64
+        ensures items { items self.new ≡ revised_entries (R.revised revision.now) (items self.old) }
+        ensures len { length (items self.new) ≤ length (items self.old) }
+        ensures room { room self.new ≡ room self.old }
+        ensures due { AreDueFrom M.moment_of result (items self.new) };
 }
 
 impl<K: Copy, V: Copy> Sequence<K, V> for Vec<(K, V)> {
@@ -82,7 +91,11 @@ impl<K: Copy, V: Copy> Sequence<K, V> for Vec<(K, V)> {
         let _ = Vec::remove(self, index);
     }
 
-    fn truncate(&mut self, len: usize) {
-        Vec::truncate(self, len);
+    fn clear(&mut self) {
+        Vec::clear(self);
+    }
+
+    fn revise<R: Revision<K, V>, M: Moments<V>>(&mut self, revision: &R) -> u64 {
+        compact::<K, V, R, M>(self, revision)
     }
 }

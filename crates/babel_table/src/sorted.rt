@@ -6,9 +6,8 @@ ghost use Rattle.babel_table.specs.Digits.{binary_digits};
 ghost use Rattle.babel_table.specs.Places.{IsAt, IsGap, are_lesser};
 
 use crate::gap::GapVec;
-use crate::revisions::compact;
 use crate::sequences::Sequence;
-use crate::{Full, Key, Memory, Revision, Sought, Steps, Table};
+use crate::{Full, Key, Memory, Moments, Revision, Sought, Steps, Table};
 use std::alloc::Global;
 use std::cmp::Ordering;
 use std::marker::{Brand, PhantomData};
@@ -78,8 +77,8 @@ impl<K: Key, V: Copy, Q: Sequence<K, V>> Table<K, V> for SortedTable<K, V, Q> {
         self.entries.remove(place);
     }
 
-    fn revise<R: Revision<K, V>>(&mut self, revision: &R) {
-        compact(&mut self.entries, revision);
+    fn revise<R: Revision<K, V>, M: Moments<V>>(&mut self, revision: &R) -> u64 {
+        self.entries.revise::<R, M>(revision)
     }
 
     fn len(&self) -> usize {
@@ -101,7 +100,7 @@ impl<K: Key, V: Copy, Q: Sequence<K, V>> SortedTable<K, V, Q> {
         ensures entries { Q.items self.new.entries ≡ [] }
         ensures places { self.new.places ≡ self.old.places }
     {
-        self.entries.truncate(0);
+        self.entries.clear();
     }
 }
 

@@ -2,10 +2,11 @@
 
 ghost use Rattle.std.specs.Prelude.{◌≡◌, ℕ, ◌+◌, ◌≤◌, ◌<◌, ◌↔◌, List, [], length, slice_get, IfOk, OnOk, OnErr, IsErr, IsNone, IsSome, IsTrue};
 ghost use Rattle.std.specs.FinMap.{find, put, is_sorted};
+ghost use Rattle.babel_table.specs.Dues.{AreDueFrom};
 ghost use Rattle.babel_table.specs.Entries.{revised_entries, without, with_value};
 ghost use Rattle.babel_table.specs.Places.{IsAt, IsGap};
 
-use crate::{Full, Key, Memory, Revision, Sought, Steps};
+use crate::{Full, Key, Memory, Moments, Revision, Sought, Steps};
 use std::alloc::Global;
 use std::marker::Brand;
 use std::sync::ledger::{Blank, Ledger};
@@ -64,10 +65,12 @@ pub trait Table<K: Key, V: Copy>: Drop {
         ensures entries { entries self.new ≡ without K.order key.now (entries self.old) }
         ensures room { room self.new ≡ room self.old };
 
-    /// Revises all entries in one pass.
-    fn revise<R: Revision<K, V>>(&mut self, revision: &R)
+    /// Revises all entries in one pass. Returns a moment before which no value that the table then
+    /// has is due.
+    fn revise<R: Revision<K, V>, M: Moments<V>>(&mut self, revision: &R) -> u64
         ensures entries { entries self.new ≡ revised_entries (R.revised revision.now) (entries self.old) }
-        ensures room { room self.new ≡ room self.old };
+        ensures room { room self.new ≡ room self.old }
+        ensures due { AreDueFrom M.moment_of result (entries self.new) };
 
     /// How many entries there are.
     fn len(&self) -> usize

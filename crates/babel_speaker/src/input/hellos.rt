@@ -1,6 +1,6 @@
 //! Hellos and IHUs (RFC 8966, section 3.4).
 
-ghost use Rattle.std.specs.Prelude.{◌≡◌, ◌↔◌, ℕ, true, IsTrue, IsFalse, IsErr, IfOk, OnOk, OnErr};
+ghost use Rattle.std.specs.Prelude.{◌≡◌, ◌≢◌, ◌↔◌, ℕ, true, IsTrue, IsFalse, IsErr, IfOk, OnOk, OnErr};
 ghost use Rattle.babel_link.specs.declared.changes.LinkCost.TheVariants.{Kept};
 ghost use Rattle.babel_link.specs.Neighbours.{hello_verdict, cost_of};
 ghost use Rattle.babel_state.specs.Hellos.{is_for_interface, is_neighbour_too_many, forgets_flushed, hears, handle_hello, handle_ihu};
@@ -8,7 +8,9 @@ ghost use Rattle.babel_state.specs.CurrentSelections.{AreCurrent};
 ghost use Rattle.babel_state.specs.KeptRoutes.{KeepsRoutes};
 ghost use Rattle.babel_state.specs.SettledLaws.{with_ihu};
 ghost use Rattle.babel_speaker.specs.LinkChanges.{AreOthersCurrent};
-ghost use Rattle.babel_speaker.specs.declared.tables.link_costs.LinkChange.TheVariants.{Nothing, Cost};
+ghost use Rattle.babel_speaker.specs.declared.input.losses.Loss.TheVariants.{Neighbour};
+ghost use Rattle.babel_speaker.specs.declared.tables.link_costs.LinkChange.TheVariants.{Nothing, Cost, Routes};
+ghost use Rattle.babel_speaker.specs.Losses.{is_lost, AreCurrentUnless};
 
 use crate::hints::Hints;
 use crate::input::records::{Arrival, ReceivedHello, ReceivedIhu};
@@ -21,7 +23,8 @@ use babel_value::{Addr, HelloKind, Metric, Peer};
 
 /// What changed if nothing but the cost of a link may have.
 fn change_of(cost: LinkCost) -> LinkChange
-    ensures { (result ≡ Nothing) ↔ (cost ≡ Kept) }
+    ensures nothing { (result ≡ Nothing) ↔ (cost ≡ Kept) }
+    ensures no_routes { result ≢ Routes }
 {
     match cost {
         LinkCost::Kept => LinkChange::Nothing,
@@ -79,7 +82,7 @@ impl Core {
 
     /// The same. Returns what changed: if nothing, all selections that were current are so, and the
     /// selected routes are reported as before; if the cost of the link to the peer alone, those of
-    /// the prefixes to which the peer has no route.
+    /// the prefixes to which the peer has no route; if its routes, those of other neighbours.
     fn hear(&mut self, arrival: &Arrival, hello: &ReceivedHello) -> Result<LinkChange, Full>
         ensures full { IsErr result ↔ (is_neighbour_too_many arrival.now.peer self.old ≡ true) }
         ensures ok { OnOk result (self.new ≡ hears arrival.now.time arrival.now.peer hello.now.unicast hello.now.seqno hello.now.interval self.old) }
@@ -87,6 +90,7 @@ impl Core {
         ensures nothing { IfOk result (λ change. change ≡ Nothing → AreCurrent self.old → AreCurrent self.new) }
         ensures kept { IfOk result (λ change. change ≡ Nothing → KeepsRoutes self.old self.new) }
         ensures cost { IfOk result (λ change. change ≡ Cost → AreCurrent self.old → AreOthersCurrent arrival.now.peer self.new) }
+        ensures routes { IfOk result (λ change. change ≡ Routes → AreCurrent self.old → AreCurrentUnless (is_lost (Neighbour arrival.now.peer) self.new) self.new) }
     {
         match self.take_hello(arrival, hello) {
             Ok(effect) => match effect.heard {
@@ -141,6 +145,7 @@ impl Core {
         ensures nothing { result ≡ Nothing → AreCurrent self.old → AreCurrent self.new }
         ensures kept { result ≡ Nothing → KeepsRoutes self.old self.new }
         ensures cost { AreCurrent self.old → AreOthersCurrent peer.now self.new }
+        ensures no_routes { result ≢ Routes }
     {
         change_of(self.take_ihu(now, peer, rxcost, interval))
     }

@@ -4,25 +4,29 @@
 ghost use Rattle.std.specs.Prelude.{◌≡◌, [], ◌∷◌, Option, None, IsTrue, IsFalse, IsSome};
 ghost use Rattle.babel_choice.specs.declared.entries.Selection.{Selection};
 ghost use Rattle.babel_choice.specs.Choices.{peer_before};
+ghost use Rattle.babel_choice.specs.Origins.{is_own};
 ghost use Rattle.babel_route.specs.declared.routes.changes.Report.{Report};
 ghost use Rattle.babel_route.specs.SelectionChanges.{origin_change, selection_change};
 ghost use Rattle.babel_sources.specs.Sources.{pair_of};
 ghost use Rattle.babel_state.specs.declared.requests.Resend.TheVariants.{Unfeasible};
 ghost use Rattle.babel_state.specs.Limits.{request_hops};
 ghost use Rattle.babel_state.specs.Reselection.{UnfeasibleUpdate, queue, updates_to_all, update_to, request_seqno, unfeasible_peers, may_request_for_lost, seqno_after, request_for_lost, is_selected_peer, request_for_update, request_from_sender, follow_up, select, reselect, reselect_each, reselect_all};
-ghost use Rattle.babel_state.specs.State.{cost_at, prefixes_in, selected_at};
+ghost use Rattle.babel_state.specs.State.{announces, cost_at, prefixes_in, selected_at};
 ghost use Rattle.babel_state.specs.CurrentSelections.{AreCurrent};
 ghost use Rattle.babel_state.specs.KeptRoutes.{KeepsRoutes};
 ghost use Rattle.babel_speaker.specs.LinkChanges.{prefixes_from, AreCurrentBut, AreOthersCurrent, IsCurrentButAt};
-ghost use Rattle.babel_speaker.specs.declared.tables.link_costs.LinkChange.TheVariants.{Nothing, Cost};
+ghost use Rattle.babel_speaker.specs.declared.input.losses.Loss.TheVariants.{Neighbour};
+ghost use Rattle.babel_speaker.specs.declared.tables.link_costs.LinkChange.TheVariants.{Nothing, Cost, Routes};
+ghost use Rattle.babel_speaker.specs.Losses.{is_lost, AreCurrentUnless};
 
 use crate::hints::Hints;
 use crate::input::causes::UnfeasibleUpdate;
+use crate::input::losses::Loss;
 use crate::input::selection_changes::{is_selected_peer, seqno_after};
 use crate::output::queueing::{has_unfeasible, queue_requests_to_unfeasible, queue_updates_to_all};
 use crate::state::Core;
 use crate::tables::{KnownCost, KnownCosts, LinkChange, LinkCosts, Scratch, SeqnoRequest};
-use babel_choice::{Cursor, RouteKey};
+use babel_choice::{Cursor, Origin, RouteKey};
 use babel_route::{OriginChange, Report, SelectionChange};
 use babel_state::{Item, REQUEST_HOPS, Resend, Target};
 use babel_value::{Peer, Prefix, Seqno, Source};
@@ -96,9 +100,16 @@ impl Core {
     }
 
     /// Records a request for a seqno and queues it to the neighbours of all unfeasible routes to
-    /// its prefix, unless it is redundant (RFC 8966, section 3.8.2.1).
+    /// its prefix, unless it is redundant (RFC 8966, section 3.8.2.1). The searches begin at the
+    /// cursor.
     #[tactic(auto, unfolding(babel_state::specs::Reselection::request_seqno, babel_state::specs::Reselection::unfeasible_peers))]
-    fn request_seqno_from_unfeasible(&mut self, now: u64, source: Source, seqno: Seqno)
+    fn request_seqno_from_unfeasible(
+        &mut self,
+        now: u64,
+        source: Source,
+        seqno: Seqno,
+        cursor: &mut Cursor,
+    )
         ensures { self.new ≡ request_seqno now source seqno Unfeasible request_hops (unfeasible_peers source.prefix self.old) self.old }
     {
         if self.requests.is_redundant(&source, seqno) {
@@ -110,28 +121,41 @@ impl Core {
             seqno,
             hops: REQUEST_HOPS,
         };
-        queue_requests_to_unfeasible(&mut self.pending, &self.routes, &self.sources, &request);
+        queue_requests_to_unfeasible(
+            &mut self.pending,
+            &self.routes,
+            &self.sources,
+            &request,
+            cursor,
+        );
     }
 
-    /// Selects the route of the prefix again (RFC 8966, section 3.6).
-    pub fn select(&mut self, prefix: &Prefix)
-        ensures { self.new ≡ select prefix.now self.old }
+    /// Selects the route of the prefix again, which has this origin (RFC 8966, section 3.6), and
+    /// returns what changed. The searches begin at the cursor, which goes to the next prefix.
+    #[inline(always)]
+    pub(crate) fn select_with(
+        &mut self,
+        prefix: &Prefix,
+        origin: Origin,
+        cursor: &mut Cursor,
+    ) -> SelectionChange
+        requires { is_own origin ≡ announces prefix.now self.old }
+        ensures state { self.new ≡ select prefix.now self.old }
+        ensures change { result ≡ selection_change (selected_at prefix.now self.old) (selected_at prefix.now self.new) }
     {
-        let mut cursor = Cursor::new();
-        self.select_near(prefix, &mut cursor);
+        let costs = LinkCosts::new(&self.interfaces, &self.neighbours);
+        self.routes
+            .select_changed(prefix, origin, &self.sources, &costs, cursor)
     }
 
-    /// The same, and it returns what changed. The searches begin at the cursor, which goes to the
-    /// next prefix.
+    /// The same, and its origin is looked up.
     #[inline(always)]
     pub(crate) fn select_near(&mut self, prefix: &Prefix, cursor: &mut Cursor) -> SelectionChange
         ensures state { self.new ≡ select prefix.now self.old }
         ensures change { result ≡ selection_change (selected_at prefix.now self.old) (selected_at prefix.now self.new) }
     {
         let origin = self.origin(prefix);
-        let costs = LinkCosts::new(&self.interfaces, &self.neighbours);
-        self.routes
-            .select_changed(prefix, origin, &self.sources, &costs, cursor)
+        self.select_with(prefix, origin, cursor)
     }
 
     /// Whether a lost route may come back by a greater seqno (RFC 8966, section 3.8.2.1). The
@@ -143,12 +167,13 @@ impl Core {
     }
 
     /// Requests a greater seqno of a lost route's source: one more than that of its pair, or than
-    /// the lost one if it has no pair (RFC 8966, section 3.8.2.1).
-    fn request_for_lost(&mut self, now: u64, source: Source, lost: Seqno)
+    /// the lost one if it has no pair (RFC 8966, section 3.8.2.1). The searches begin at the cursor.
+    fn request_for_lost(&mut self, now: u64, source: Source, lost: Seqno, cursor: &mut Cursor)
         ensures { self.new ≡ request_seqno now source (seqno_after (pair_of source self.old.sources) lost) Unfeasible request_hops (unfeasible_peers source.prefix self.old) self.old }
     {
-        let seqno = seqno_after(self.pair(&source), lost);
-        self.request_seqno_from_unfeasible(now, source, seqno);
+        let pair = self.sources.pair_near(&source, &mut cursor.source);
+        let seqno = seqno_after(pair, lost);
+        self.request_seqno_from_unfeasible(now, source, seqno, cursor);
     }
 
     /// Requests a greater seqno from the sender of an unfeasible update (RFC 8966, section
@@ -194,7 +219,7 @@ impl Core {
     /// it may come back by that (RFC 8966, sections 3.7.2 and 3.8.2.1). Returns whether it is
     /// requested.
     #[inline(always)]
-    fn follow_origin(
+    pub(crate) fn follow_origin(
         &mut self,
         now: u64,
         prefix: &Prefix,
@@ -219,7 +244,7 @@ impl Core {
                     prefix: *prefix,
                     router,
                 };
-                self.request_for_lost(now, source, seqno);
+                self.request_for_lost(now, source, seqno, cursor);
                 true
             }
         }
@@ -297,16 +322,6 @@ impl Core {
         scratch.gather_stale(&self.routes, &self.announced, &self.sources, &links);
         self.reselect_each(now, scratch);
         !scratch.is_empty()
-    }
-
-    /// Selects the route of each prefix again that has a route or a selection, as `reselect_all`.
-    /// None is tested first: if most aren't current, that makes each choice once.
-    pub(crate) fn reselect_routed(&mut self, now: u64, scratch: &mut Scratch)
-        ensures state { self.new ≡ reselect_all now self.old }
-        ensures current { AreCurrent self.new }
-    {
-        scratch.gather_routed(&self.routes);
-        self.reselect_each(now, scratch);
     }
 
     /// The same as `reselect_all`. If the speaker is settled, all selections are current, and there
@@ -511,6 +526,7 @@ impl Core {
     ) -> bool
         requires nothing { IsTrue hints.old.settled → change ≡ Nothing → AreCurrent self.old }
         requires cost { IsTrue hints.old.settled → change ≡ Cost → AreOthersCurrent peer.now self.old }
+        requires routes { IsTrue hints.old.settled → change ≡ Routes → AreCurrentUnless (is_lost (Neighbour peer.now) self.old) self.old }
         ensures state { self.new ≡ reselect_all now self.old }
         ensures current { AreCurrent self.new }
         ensures quiet { IsFalse result → (change ≡ Nothing) × (self.new ≡ self.old) }
@@ -520,8 +536,10 @@ impl Core {
             LinkChange::Cost if hints.settled => {
                 self.reselect_from(now, peer);
             }
-            _ => {
-                hints.settled = false;
+            LinkChange::Routes if hints.settled => {
+                self.reselect_lost(now, &Loss::Neighbour(*peer));
+            }
+            LinkChange::Cost | LinkChange::Routes => {
                 self.reselect_unless(now, hints);
             }
         }

@@ -15,6 +15,7 @@ ghost use Rattle.babel_speaker.specs.LinkChanges.{IsCurrentButAt};
 
 use crate::hints::Hints;
 use crate::input::causes::UnfeasibleUpdate;
+use crate::input::losses::Loss;
 use crate::state::Core;
 use crate::versions::is_other;
 use babel_choice::{Cursor, ReceivedUpdate, RouteKey};
@@ -282,9 +283,9 @@ impl Core {
         self.routes.retract_all(now, peer)
     }
 
-    /// Handles a retraction of all that a neighbour advertised (RFC 8966, section 4.6.9). If the
-    /// speaker is settled, it looks only at the prefixes to which the neighbour has a route.
-    #[tactic(auto, using(crate::proofs::Retractions::retracted_none), unfolding(babel_state::specs::Updates::handle_retract_all))]
+    /// Handles a retraction of all that a neighbour advertised (RFC 8966, section 4.6.9). A settled
+    /// speaker looks only at the selected routes, of which those of the neighbour are lost.
+    #[tactic(auto, using(crate::proofs::Retractions::retracted_none, crate::proofs::Losses::retracted_unless), unfolding(babel_state::specs::Updates::handle_retract_all))]
     pub fn handle_retract_all(&mut self, now: u64, peer: &Peer, hints: &mut Hints) -> Verdict
         requires settled { IsTrue hints.old.settled → AreCurrent self.old }
         ensures settled { hints.new.settled ≡ hints.old.settled }
@@ -294,7 +295,7 @@ impl Core {
             return Verdict::NoEntry;
         }
         if hints.settled {
-            self.reselect_from(now, peer);
+            self.reselect_lost(now, &Loss::Neighbour(*peer));
         } else {
             self.reselect_all(now, &mut hints.scratch);
         }

@@ -4,8 +4,9 @@ ghost use Rattle.std.specs.Prelude.{◌≡◌, [], ◌∷◌, map, filter};
 ghost use Rattle.std.specs.List.{range_with_len, list_any};
 ghost use Rattle.babel_choice.specs.Choices.{routes_of};
 ghost use Rattle.babel_state.specs.Queueing.{queued};
-ghost use Rattle.babel_state.specs.declared.items.Item.TheVariants.{Update};
+ghost use Rattle.babel_state.specs.declared.items.Item.TheVariants.{Request, Update};
 ghost use Rattle.babel_state.specs.Reselection.{update_to_all, update_to, request_items, is_unfeasible};
+ghost use Rattle.babel_speaker.specs.Losses.{is_finite_route};
 ghost use Rattle.babel_speaker.specs.Reaching.{reachable_of};
 
 use crate::tables::{Announced, PendingItems, Reachable, SeqnoRequest};
@@ -35,6 +36,7 @@ pub fn is_unfeasible(route: &(RouteKey, Entry), sources: &Sources) -> bool
 }
 
 /// The same. The search for the source begins near an index.
+#[inline(always)]
 fn is_unfeasible_near(route: &(RouteKey, Entry), sources: &Sources, near: &mut usize) -> bool
     ensures { result ≡ is_unfeasible sources.now route.now }
 {
@@ -62,33 +64,68 @@ pub fn has_unfeasible(
     false
 }
 
-/// Queues a request to the neighbour of each unfeasible route to the source's prefix.
+/// Whether a route to the prefix has a finite metric. The search begins at the index, which goes to
+/// the first route of the prefix if one has, or else to the one after them.
+pub fn has_finite(routes: &Routes, prefix: &Prefix, near: &mut usize) -> bool
+    ensures { result ≡ list_any is_finite_route (routes_of prefix.now routes.now.entries) }
+{
+    let mut passed: usize = 1;
+    for route in routes.routes_of_near(prefix, near) {
+        if route.1.distance.metric.is_finite() {
+            *near = near.wrapping_add(1);
+            return true;
+        }
+        passed = passed.wrapping_add(1);
+    }
+    *near = near.wrapping_add(passed);
+    false
+}
+
+/// Queues a request to the neighbour of each unfeasible route to the source's prefix. The searches
+/// begin at the cursor, which goes to the next prefix.
 #[tactic(auto, unfolding(babel_state::specs::Queueing::queued))]
 pub fn queue_requests_to_unfeasible(
     pending: &mut PendingItems,
     routes: &Routes,
     sources: &Sources,
     request: &SeqnoRequest,
+    cursor: &mut Cursor,
 )
     ensures { pending.new ≡ queued (request_items request.now.source request.now.seqno request.now.hops (map (λ r. r.0.peer) (filter (is_unfeasible sources.now) (routes_of request.now.source.prefix routes.now.entries)))) pending.old }
 {
-    let SeqnoRequest {
-        source,
-        seqno,
-        hops,
-    } = *request;
-    // The sources of a prefix are next to each other.
-    let mut near = usize::MAX;
-    for route in routes.routes_of(&source.prefix) {
-        if is_unfeasible_near(&route, sources, &mut near) {
-            let peer = route.0.peer;
-            pending.push(Item::Request {
-                peer,
-                source,
-                seqno,
-                hops,
-            });
+    let mut passed: usize = 1;
+    for route in routes.routes_of_near(&request.source.prefix, &mut cursor.entry) {
+        passed = passed.wrapping_add(1);
+        if is_unfeasible_near(&route, sources, &mut cursor.source) {
+            queue_request(pending, route.0.peer, request);
         }
+    }
+    // The routes and the source of the next prefix are mostly the next ones.
+    cursor.entry = cursor.entry.wrapping_add(passed);
+    cursor.source = cursor.source.wrapping_add(1);
+}
+
+/// Queues a request to the neighbour. It is written to its place in the ring if there is one.
+#[inline(always)]
+fn queue_request(pending: &mut PendingItems, peer: Peer, request: &SeqnoRequest)
+    ensures { pending.new ≡ queued (Request peer request.now.source request.now.seqno request.now.hops ∷ []) pending.old }
+{
+    let item = request_item(peer, request);
+    if !pending.push_to_place(item) {
+        pending.push(request_item(peer, request));
+    }
+}
+
+/// The request to the neighbour.
+#[inline(always)]
+fn request_item(peer: Peer, request: &SeqnoRequest) -> Item
+    ensures { result ≡ Request peer request.now.source request.now.seqno request.now.hops }
+{
+    Item::Request {
+        peer,
+        source: request.source,
+        seqno: request.seqno,
+        hops: request.hops,
     }
 }
 

@@ -4,6 +4,7 @@ ghost use Rattle.std.specs.Prelude.{◌≡◌, ◌↔◌, true, false, Option, S
 ghost use Rattle.babel_value.specs.Metrics.{metric_sum};
 ghost use Rattle.babel_value.specs.Prefixes.{PrefixValue};
 ghost use Rattle.babel_choice.specs.Choices.{routes_of};
+ghost use Rattle.babel_choice.specs.Origins.{is_own};
 ghost use Rattle.babel_route.specs.declared.routes.changes.Report.{Report};
 ghost use Rattle.babel_state.specs.declared.selected.Choice.{Choice};
 ghost use Rattle.babel_state.specs.declared.selected.LastChoice.{LastChoice};
@@ -11,9 +12,10 @@ ghost use Rattle.babel_state.specs.KeptRoutes.{KeepsRoutes};
 ghost use Rattle.babel_state.specs.State.{announces, cost_at};
 ghost use Rattle.babel_state.specs.Calls.{set_cost_fault, cost_set, is_prefix_too_many, announced_also, withdrawn, select_and_advertise, choice_of, reported_selected, selected_route, reported_entries, reported_entry};
 
+use crate::hints::OwnCursor;
 use crate::output::messages::interface_entry;
 use crate::state::Core;
-use babel_choice::{Cursor, Entry, Selection};
+use babel_choice::{Cursor, Entry, Origin, Selection};
 use babel_route::Report;
 use babel_state::{
     Choice, LastChoice, MAX_COST, NotAnnounced, Selected, SetCostFault, TooManyPrefixes,
@@ -39,50 +41,63 @@ pub fn set_cost(core: &mut Core, iface: u8, cost: u16) -> Result<(), SetCostFaul
     Ok(())
 }
 
-/// Selects the route of the prefix again, and queues an update of it to all. Returns whether the
-/// selected route is reported as before.
-fn select_and_advertise(core: &mut Core, prefix: &Prefix) -> Report
+/// Selects the route of the prefix again, which has this origin now, and queues an update of it to
+/// all. Returns whether the selected route is reported as before. The searches begin at the cursor.
+fn select_and_advertise(
+    core: &mut Core,
+    prefix: &Prefix,
+    origin: Origin,
+    cursor: &mut Cursor,
+) -> Report
+    requires { is_own origin ≡ announces prefix.now core.old }
     ensures state { core.new ≡ select_and_advertise prefix.now core.old }
     ensures kept { result ≡ Report.Alike → KeepsRoutes core.old core.new }
 {
-    let mut cursor = Cursor::new();
-    let change = core.select_near(prefix, &mut cursor);
+    let change = core.select_with(prefix, origin, cursor);
     core.queue_updates_to_all(prefix);
     change.report
 }
 
 /// Announces a prefix (RFC 8966, section 3.7). Returns whether the selected routes are reported as
-/// before.
+/// before. The searches begin at the cursor.
 #[tactic(auto, unfolding(babel_state::specs::Calls::announced_also))]
-pub fn announce(core: &mut Core, prefix: &Prefix) -> Result<Report, TooManyPrefixes>
+pub fn announce(
+    core: &mut Core,
+    prefix: &Prefix,
+    cursor: &mut OwnCursor,
+) -> Result<Report, TooManyPrefixes>
     ensures full { IsErr result ↔ (is_prefix_too_many prefix.now core.old ≡ true) }
     ensures ok { OnOk result (core.new ≡ announced_also prefix.now core.old) }
     ensures err { OnErr result (core.new ≡ core.old) }
     ensures kept { IfOk result (λ report. report ≡ Report.Alike → KeepsRoutes core.old core.new) }
 {
-    if core.announces(prefix) {
+    let Ok(is_new) = core.announced.insert_near(*prefix, &mut cursor.announced) else {
+        return Err(TooManyPrefixes);
+    };
+    if !is_new {
         return Ok(Report::Alike);
     }
-    if core.announced.insert(*prefix).is_err() {
-        return Err(TooManyPrefixes);
-    }
-    let report = select_and_advertise(core, prefix);
+    let report = select_and_advertise(core, prefix, Origin::Own, &mut cursor.tables);
     Ok(report)
 }
 
-/// Announces a prefix no longer. Returns whether the selected routes are reported as before.
+/// Announces a prefix no longer. Returns whether the selected routes are reported as before. The
+/// searches begin at the cursor.
 #[tactic(auto, unfolding(babel_state::specs::Calls::withdrawn))]
-pub fn withdraw(core: &mut Core, prefix: &Prefix) -> Result<Report, NotAnnounced>
+pub fn withdraw(
+    core: &mut Core,
+    prefix: &Prefix,
+    cursor: &mut OwnCursor,
+) -> Result<Report, NotAnnounced>
     ensures unknown { IsErr result ↔ (announces prefix.now core.old ≡ false) }
     ensures ok { OnOk result (core.new ≡ withdrawn prefix.now core.old) }
     ensures err { OnErr result (core.new ≡ core.old) }
     ensures kept { IfOk result (λ report. report ≡ Report.Alike → KeepsRoutes core.old core.new) }
 {
-    if !core.announces(prefix) {
+    if !core.announced.remove_near(prefix, &mut cursor.announced) {
         return Err(NotAnnounced);
     }
-    core.announced.remove(prefix);
-    let report = select_and_advertise(core, prefix);
+    let report = select_and_advertise(core, prefix, Origin::Learned, &mut cursor.tables);
     Ok(report)
 }
 

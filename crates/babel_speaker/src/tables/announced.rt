@@ -1,6 +1,6 @@
 //! The prefixes that a speaker announces itself.
 
-ghost use Rattle.std.specs.Prelude.{◌≡◌, ◌≤◌, ◌<◌, ◌↔◌, [], length, is_some, option_map, slice_get, IfOk, IsErr, IsNone, IsSome, IsTrue, OnOk, OnErr};
+ghost use Rattle.std.specs.Prelude.{◌≡◌, ◌≤◌, ◌<◌, ◌↔◌, true, false, [], length, is_none, is_some, option_map, slice_get, IfOk, IsErr, IsFalse, IsNone, IsSome, IsTrue, OnOk, OnErr};
 ghost use Rattle.std.specs.FinMap.{find, put, is_sorted};
 ghost use Rattle.babel_value.specs.Orders.{prefix_cmp};
 ghost use Rattle.babel_table.specs.Entries.{without};
@@ -10,7 +10,7 @@ ghost use Rattle.babel_state.specs.State.{prefixes_in};
 use crate::tables::Prefixes;
 use babel_choice::Origin;
 use babel_state::MAX_PREFIXES;
-use babel_table::{Full, SortedTable, Table, find_in};
+use babel_table::{Full, SortedTable, Table, find_in, find_near};
 use babel_value::{Memory, Prefix};
 use std::alloc::Global;
 use std::marker::Model;
@@ -60,20 +60,40 @@ impl Announced {
         }
     }
 
-    /// Announces the prefix. `Full` if and only if it isn't announced yet and 64 others are.
-    pub fn insert(&mut self, prefix: Prefix) -> Result<(), Full>
+    /// Announces the prefix, and returns whether it is new. `Full` if and only if it is and 64
+    /// others are announced. The search begins at the index `near`, which becomes that of the
+    /// prefix, or the one at which it would be.
+    pub fn insert_near(&mut self, prefix: Prefix, near: &mut usize) -> Result<bool, Full>
         ensures full { IsErr result ↔ (IsNone (find prefix_cmp prefix self.old) × (length self.old ≡ MAX_PREFIXES)) }
+        ensures new { IfOk result (λ new. new ≡ is_none (find prefix_cmp prefix self.old)) }
         ensures ok { OnOk result (self.new ≡ put prefix_cmp prefix tt self.old) }
+        ensures known { IfOk result (λ new. IsFalse new → self.new ≡ self.old) }
+        ensures announced { OnOk result (is_some (find prefix_cmp prefix self.new) ≡ true) }
         ensures err { OnErr result (self.new ≡ self.old) }
     {
-        self.table.put(prefix, ())
+        if find_near(&self.table, near, &prefix).is_some() {
+            return Ok(false);
+        }
+        if self.table.len() == MAX_PREFIXES {
+            return Err(Full);
+        }
+        self.table.insert(*near, prefix, ());
+        Ok(true)
     }
 
-    /// The prefix isn't announced any more.
-    pub fn remove(&mut self, prefix: &Prefix)
-        ensures { self.new ≡ without prefix_cmp prefix.now self.old }
+    /// The prefix isn't announced any more. Returns whether it was. The search begins at the index
+    /// `near`, which becomes the one at which the prefix was, or would be.
+    pub fn remove_near(&mut self, prefix: &Prefix, near: &mut usize) -> bool
+        ensures known { result ≡ is_some (find prefix_cmp prefix.now self.old) }
+        ensures removed { IsTrue result → self.new ≡ without prefix_cmp prefix.now self.old }
+        ensures unknown { IsFalse result → self.new ≡ self.old }
+        ensures gone { is_some (find prefix_cmp prefix.now self.new) ≡ false }
     {
-        self.table.remove(prefix);
+        if find_near(&self.table, near, prefix).is_none() {
+            return false;
+        }
+        self.table.remove_at(*near, prefix);
+        true
     }
 
     /// The announced prefix that has exactly `place` lesser ones.

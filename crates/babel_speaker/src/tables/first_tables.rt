@@ -63,30 +63,31 @@ pub fn first_interfaces(alloc: Global, config: &Config) -> Option<Interfaces>
     Some(Interfaces::new(entries))
 }
 
-/// Adds a prefix to those that are announced.
-fn put_prefix(announced: &mut Announced, prefix: Prefix)
+/// Adds a prefix to those that are announced. The search for it begins at the index `near`.
+fn put_prefix(announced: &mut Announced, prefix: Prefix, near: &mut usize)
     requires room { length announced.old < most_prefixes }
     ensures { announced.new ≡ put prefix_cmp prefix tt announced.old }
 {
-    let _ = announced.insert(prefix);
+    let _ = announced.insert_near(prefix, near);
 }
 
 /// The same. There is at most one prefix more.
-fn insert_prefix(announced: &mut Announced, prefix: Prefix)
+fn insert_prefix(announced: &mut Announced, prefix: Prefix, near: &mut usize)
     requires room { length announced.old < most_prefixes }
     ensures prefixes { announced.new ≡ put prefix_cmp prefix tt announced.old }
     ensures few { length announced.new ≤ length announced.old + 1 }
 {
-    put_prefix(announced, prefix);
+    put_prefix(announced, prefix, near);
 }
 
-/// Adds each of the prefixes to those that are announced.
+/// Adds each of the prefixes to those that are announced. Prefixes that rise are one pass.
 fn insert_prefixes(announced: &mut Announced, prefixes: &[Prefix])
     requires room { length announced.old + length prefixes.now ≤ most_prefixes }
     ensures { announced.new ≡ gathered prefixes.now announced.old }
 {
+    let mut near = 0;
     for prefix in prefixes {
-        insert_prefix(announced, *prefix);
+        insert_prefix(announced, *prefix, &mut near);
     }
 }
 

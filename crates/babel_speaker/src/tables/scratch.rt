@@ -1,19 +1,17 @@
 //! Room for a list of prefixes in ascending order, which some calls need while they run.
 
-ghost use Rattle.std.specs.Prelude.{◌≡◌, ◌↔◌, ◌≤◌, ◌<◌, ◌+◌, ◌++◌, [], length, map, IfOk, IsTrue, if◌then◌else◌};
+ghost use Rattle.std.specs.Prelude.{◌≡◌, ◌↔◌, ◌≤◌, ◌<◌, ◌+◌, ◌++◌, [], length, map, IfOk, IsTrue};
 ghost use Rattle.std.specs.FinMap.{put, is_sorted};
 ghost use Rattle.babel_value.specs.Orders.{prefix_cmp};
 ghost use Rattle.babel_value.specs.Prefixes.{PrefixValue};
 ghost use Rattle.babel_route.specs.Rooms.{most_listed_prefixes, most_routes};
-ghost use Rattle.babel_route.specs.Selections.{prefixes_of};
 ghost use Rattle.babel_choice.specs.RouteKeys.{route_cmp};
 ghost use Rattle.babel_state.specs.Sameness.{has_prefix};
 ghost use Rattle.babel_state.specs.State.{gathered, prefixes_in};
-ghost use Rattle.babel_speaker.specs.DueRoutes.{is_finite_route, prefixes_expiring};
 ghost use Rattle.babel_speaker.specs.StalePrefixes.{is_stale};
 
 use crate::tables::{Announced, Prefixes};
-use babel_choice::{Costs, Entry, RouteKey};
+use babel_choice::Costs;
 use babel_route::{PREFIX_PLACES, Routes};
 use babel_sources::Sources;
 use babel_table::{SortedTable, Table, put_near};
@@ -91,40 +89,6 @@ impl Scratch {
         }
     }
 
-    /// Adds the prefix of each route.
-    fn insert_routes(&mut self, routes: &Routes)
-        requires room { length self.old + most_routes ≤ most_listed_prefixes }
-        ensures prefixes { self.new ≡ gathered (map (λ e. e.0.prefix) routes.now.entries) self.old }
-        ensures few { length self.new ≤ length self.old + most_routes }
-    {
-        // There are no more routes than room for them.
-        let _count = routes.len();
-        for route in routes.routes() {
-            self.insert(route.0.prefix);
-        }
-    }
-
-    /// Adds the prefix of the route if it is finite.
-    fn insert_finite(&mut self, route: &(RouteKey, Entry))
-        requires room { length self.old < most_listed_prefixes }
-        ensures prefixes { self.new ≡ if is_finite_route route.now then put prefix_cmp route.now.0.prefix tt self.old else self.old }
-        ensures few { length self.new ≤ length self.old + 1 }
-    {
-        if route.1.distance.metric.is_finite() {
-            self.insert(route.0.prefix);
-        }
-    }
-
-    /// Adds the prefix of each finite route that is due.
-    fn insert_expiring(&mut self, routes: &Routes, now: u64)
-        requires room { length self.old + most_routes ≤ most_listed_prefixes }
-        ensures { self.new ≡ gathered (prefixes_expiring now routes.now.entries) self.old }
-    {
-        for route in routes.due(now) {
-            self.insert_finite(&route);
-        }
-    }
-
     /// Adds the announced prefixes.
     fn insert_announced(&mut self, announced: &Announced)
         requires room { length self.old + length announced.now ≤ most_listed_prefixes }
@@ -175,27 +139,6 @@ impl Scratch {
     {
         self.clear();
         self.insert_stale(routes, announced, sources, costs);
-    }
-
-    /// Makes the set that of the prefixes that have a route or a selection.
-    #[tactic(auto, using(crate::proofs::Gathering::gathered_both))]
-    pub fn gather_routed(&mut self, routes: &Routes)
-        ensures prefixes { self.new ≡ gathered (prefixes_of routes.now) [] }
-        ensures routes_in_order { IsTrue (is_sorted route_cmp routes.now.entries) }
-    {
-        // The routes are in order.
-        let _count = routes.len();
-        self.clear();
-        self.insert_routes(routes);
-        self.insert_selections(routes);
-    }
-
-    /// Makes the set that of the prefixes that have a finite route which is due.
-    pub fn gather_expiring(&mut self, routes: &Routes, now: u64)
-        ensures { self.new ≡ gathered (prefixes_expiring now routes.now.entries) [] }
-    {
-        self.clear();
-        self.insert_expiring(routes, now);
     }
 
     /// Makes the set that of the prefixes that are announced or selected.

@@ -9,11 +9,22 @@ ghost use Rattle.babel_speaker.specs.TickItems.{repeats_of, all_repeats_of, ihus
 use crate::output::queueing::queue_requests_to_unfeasible;
 use crate::tables::timers::{is_due, is_last};
 use crate::tables::{Interfaces, PendingItems, RequestTable, Scratch, SeqnoRequest};
+use babel_choice::Cursor;
 use babel_link::Neighbours;
 use babel_route::Routes;
 use babel_sources::Sources;
 use babel_state::{InterfaceEntry, Item, PendingRequest, REQUEST_HOPS, Resend, Target};
 use babel_value::Source;
+
+/// A walk over the pending requests. They are in the order of their prefixes, so each search begins
+/// where the last one ended.
+#[derive(Drop)]
+struct Repeating {
+    /// The moment of the tick.
+    now: u64,
+    /// Where the last searches ended.
+    cursor: Cursor,
+}
 
 /// Queues the request for a source again if its wait is over, but not for the last time.
 #[tactic(auto, unfolding(babel_state::specs::Queueing::queued))]
@@ -21,14 +32,15 @@ fn queue_repeat(
     pending: &mut PendingItems,
     routes: &Routes,
     sources: &Sources,
-    now: u64,
+    walk: &mut Repeating,
     entry: &(Source, PendingRequest),
 )
-    ensures { pending.new ≡ queued (repeats_of now sources.now routes.now.entries entry.now) pending.old }
+    ensures items { pending.new ≡ queued (repeats_of walk.old.now sources.now routes.now.entries entry.now) pending.old }
+    ensures now { walk.new.now ≡ walk.old.now }
 {
     let source = entry.0;
     let request = entry.1;
-    if now < request.due || is_last(&request.resend, request.wait) {
+    if walk.now < request.due || is_last(&request.resend, request.wait) {
         return;
     }
     let seqno = request.seqno;
@@ -39,7 +51,7 @@ fn queue_repeat(
                 seqno,
                 hops: REQUEST_HOPS,
             };
-            queue_requests_to_unfeasible(pending, routes, sources, &repeat);
+            queue_requests_to_unfeasible(pending, routes, sources, &repeat, &mut walk.cursor);
         }
         Resend::Neighbour(peer) => pending.push(Item::Request {
             peer,
@@ -62,9 +74,13 @@ pub fn queue_repeats(
 )
     ensures { pending.new ≡ queued (all_repeats_of now sources.now routes.now.entries requests.now) pending.old }
 {
+    let mut walk = Repeating {
+        now,
+        cursor: Cursor::new(),
+    };
     for index in 0..requests.len() {
         if let Some(entry) = requests.at(index) {
-            queue_repeat(pending, routes, sources, now, &entry);
+            queue_repeat(pending, routes, sources, &mut walk, &entry);
         }
     }
 }

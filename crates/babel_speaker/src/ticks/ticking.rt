@@ -2,22 +2,22 @@
 //! table.
 
 ghost use Rattle.std.specs.Prelude.{◌≡◌, [], IsTrue, IsFalse};
-ghost use Rattle.babel_value.specs.declared.keys.Peer.{Peer};
-ghost use Rattle.babel_link.specs.declared.changes.CostChanges.TheVariants.{Nothing, One};
+ghost use Rattle.babel_link.specs.declared.changes.CostChanges.TheVariants.{Nothing};
 ghost use Rattle.babel_state.specs.CurrentSelections.{AreCurrent, AreRoutesInOrder};
 ghost use Rattle.babel_state.specs.SettledLaws.{AreSelectionsInOrder};
 ghost use Rattle.babel_state.specs.KeptRoutes.{KeepsRoutes};
 ghost use Rattle.babel_state.specs.Restarts.{snapshot_of};
-ghost use Rattle.babel_speaker.specs.LinkChanges.{AreOthersCurrent};
+ghost use Rattle.babel_speaker.specs.declared.input.losses.Loss.TheVariants.{Cost};
+ghost use Rattle.babel_speaker.specs.Losses.{is_lost, AreCurrentUnless};
 ghost use Rattle.babel_speaker.specs.TickItems.{all_timers_of};
-ghost use Rattle.babel_speaker.specs.DueRoutes.{prefixes_expiring};
 ghost use Rattle.babel_state.specs.Reselection.{reselect_all};
-ghost use Rattle.babel_state.specs.State.{gathered, prefixes_in};
+ghost use Rattle.babel_state.specs.State.{prefixes_in};
 ghost use Rattle.babel_state.specs.Ticks.{all_timer_items, routes_selected, forget_each, links_ticked, routes_ticked, requests_ticked, interfaces_ticked, sources_ticked, ticked};
 
 use crate::hints::Hints;
+use crate::input::losses::Loss;
 use crate::state::Core;
-use crate::tables::{LinkChange, Scratch};
+use crate::tables::Scratch;
 use crate::ticks::due_items::{queue_all_timers, queue_repeats};
 use arrayvec::ArrayVec;
 use babel_link::{CostChanges, MAX_NEIGHBOURS};
@@ -35,8 +35,8 @@ impl Core {
 
     /// Takes the deadlines of Hellos and IHUs (RFC 8966, sections 3.4.1 and 3.4.2). Routes of
     /// flushed neighbours are removed. Returns what changed: if nothing, all selections that were
-    /// current are so, and the selected routes are reported as before; if at most the cost of one
-    /// link, the selections of the prefixes to which its neighbour has no route stay current.
+    /// current are so, and the selected routes are reported as before. If all were current, those
+    /// stay so to whose neighbour the link has a finite cost.
     #[tactic(auto, unfolding(babel_state::specs::Ticks::links_ticked))]
     pub(crate) fn tick_links(
         &mut self,
@@ -46,7 +46,7 @@ impl Core {
         ensures state { self.new ≡ links_ticked now self.old }
         ensures quiet { result ≡ Nothing → AreCurrent self.old → AreCurrent self.new }
         ensures kept { result ≡ Nothing → KeepsRoutes self.old self.new }
-        ensures others { (peer : Peer) → result ≡ One peer → AreCurrent self.old → AreOthersCurrent peer self.new }
+        ensures others { AreCurrent self.old → AreCurrentUnless (is_lost Cost self.new) self.new }
         ensures in_order { AreSelectionsInOrder self.new }
     {
         let changes = self.neighbours.tick_costs(now, gone);
@@ -55,38 +55,29 @@ impl Core {
     }
 
     /// Selects routes again after the deadlines of Hellos and IHUs. It leaves what a reselection of
-    /// all leaves. If the speaker was settled and at most the cost of one link changed, it looks
-    /// only at the prefixes to which its neighbour has a route. If it returns `false`, nothing
-    /// changed by it and no cost did either.
+    /// all leaves. A settled speaker looks only at the selected routes, of which those are lost to
+    /// whose neighbour the link costs infinity now. If it returns `false`, nothing changed by it and
+    /// no cost did either.
     #[tactic(auto, using(crate::proofs::Settling::settled_all))]
     fn reselect_links(&mut self, changes: CostChanges, now: u64, hints: &mut Hints) -> bool
         requires nothing { IsTrue hints.old.settled → changes ≡ Nothing → AreCurrent self.old }
-        requires others { IsTrue hints.old.settled → (peer : Peer) → changes ≡ One peer → AreOthersCurrent peer self.old }
+        requires others { IsTrue hints.old.settled → AreCurrentUnless (is_lost Cost self.old) self.old }
         requires in_order { AreSelectionsInOrder self.old }
         ensures state { self.new ≡ reselect_all now self.old }
         ensures current { AreCurrent self.new }
         ensures quiet { IsFalse result → (changes ≡ Nothing) × (self.new ≡ self.old) }
     {
         match changes {
-            CostChanges::Nothing => {
+            CostChanges::Nothing => self.reselect_unless(now, hints),
+            CostChanges::One(_) | CostChanges::Several => {
                 if hints.settled {
-                    return false;
+                    self.reselect_costly(now);
+                } else {
+                    self.reselect_all(now, &mut hints.scratch);
                 }
-                self.reselect_all(now, &mut hints.scratch)
-            }
-            CostChanges::One(peer) => self.reselect_link(LinkChange::Cost, now, &peer, hints),
-            CostChanges::Several => {
-                self.reselect_routed(now, &mut hints.scratch);
                 true
             }
         }
-    }
-
-    /// Makes the set that of the prefixes that have a finite route which is due.
-    fn gather_expiring(&self, now: u64, scratch: &mut Scratch)
-        ensures { scratch.new ≡ gathered (prefixes_expiring now self.now.routes.entries) [] }
-    {
-        scratch.gather_expiring(&self.routes, now);
     }
 
     /// Takes the deadlines of routes (RFC 8966, section 3.5.4). If it returns `false`, none is due.
@@ -100,23 +91,20 @@ impl Core {
         self.routes.expire(now)
     }
 
-    /// Takes the deadlines of routes. Of each prefix of which a finite route is due, the route is
-    /// selected again. All other selections stay current, since an infinite route is no candidate.
-    /// So this leaves what a reselection of all leaves. If it returns `false`, no finite route is
-    /// due, and the selected routes are reported as before.
-    #[tactic(auto, using(crate::proofs::Expiries::expired_reselected, crate::proofs::Expiries::nothing_reselected, crate::proofs::Expiries::expired_current))]
-    fn expire_routes(&mut self, now: u64, scratch: &mut Scratch) -> bool
+    /// Takes the deadlines of routes, and selects the routes again that are lost by that. All other
+    /// selections stay current, so this leaves what a reselection of all leaves. If it returns
+    /// `false`, no selected route was due, and the selected routes are reported as before.
+    #[tactic(auto, using(crate::proofs::Losses::none_expired, crate::proofs::Losses::expired_unless))]
+    fn expire_routes(&mut self, now: u64) -> bool
         requires current { AreCurrent self.old }
         ensures state { self.new ≡ reselect_all now (routes_ticked now self.old) }
         ensures current { AreCurrent self.new }
         ensures kept { IsFalse result → KeepsRoutes self.old self.new }
     {
-        self.gather_expiring(now, scratch);
         if !self.tick_routes(now) {
             return false;
         }
-        self.reselect_each(now, scratch);
-        !scratch.is_empty()
+        self.reselect_lost(now, &Loss::Deadline(now))
     }
 
     /// Collects the entries of the source table whose time has come, if the speaker does so (RFC
@@ -211,7 +199,7 @@ impl Core {
     {
         let changes = self.tick_links(now, &mut hints.gone);
         let selected = self.reselect_links(changes, now, hints);
-        let expired = self.expire_routes(now, &mut hints.scratch);
+        let expired = self.expire_routes(now);
         selected || expired
     }
 

@@ -4,18 +4,12 @@ use Rattle.babel_table.specs.Places.{are_lesser}
 use Rattle.babel_table.proofs.PlaceLemmas.{gap_at_end, lesser_through}
 use Rattle.babel_table.proofs.near.seek_past_all.Goals as goal
 
-pub returns-then-len-eq0-clause-gap : goal.returns-then-len-eq0-clause-gap
-returns-then-len-eq0-clause-gap g c =
-    let es = g.T.Table.entries c.args.table.now in
-    let none = subst (λ n. are_lesser g.K.Key.order c.args.key.now (take n es) ≡ true) (sym c.if-len-eq0.true) refl in
-    λ _. gap_at_end g.K.Key.order c.args.key.now es c.len-len.result none (omega (arith, c.len-len.ensures.len))
-
 pub returns-in-Greater-clause-gap : goal.returns-in-Greater-clause-gap
 returns-in-Greater-clause-gap g c =
     let table = c.args.table.now in
     let es = g.T.Table.entries table in
     let key = c.args.key.now in
-    let len = c.len-len.result in
-    let after : suc (len - 1) ≡ len = omega (arith, c.if-len-eq0.false) in
+    let len = c.args.near.now in
+    let after : suc (len - 1) ≡ len = omega (arith, c.requires.entries) in
     let lesser = lesser_through g.K.Key.order g.met.K.Key.total key es (len - 1) c.in-Some.last (g.met.T.Table.ordered table) (sym c.in-Some.ensures) (sym c.in-Greater.ensures) in
-    λ _. gap_at_end g.K.Key.order key es len (subst (λ n. are_lesser g.K.Key.order key (take n es) ≡ true) after lesser) (omega (arith, c.len-len.ensures.len))
+    λ _. gap_at_end g.K.Key.order key es len (subst (λ n. are_lesser g.K.Key.order key (take n es) ≡ true) after lesser) (sym c.requires.end)

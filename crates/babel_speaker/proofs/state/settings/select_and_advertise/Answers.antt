@@ -5,5 +5,5 @@ use Rattle.babel_speaker.proofs.state.settings.select_and_advertise.Goals as goa
 
 pub returns-clause-kept : goal.returns-clause-kept
 returns-clause-kept c alike =
-    advertised_routes c.args.prefix.now c.args.core.now c.select_near-change.new.self c.queue_updates_to_all.new.self (updates_to_all c.args.prefix.now c.select_near-change.new.self)
-    c.select_near-change.result c.select_near-change.ensures.state c.select_near-change.ensures.change alike c.queue_updates_to_all.ensures
+    advertised_routes c.args.prefix.now c.args.core.now c.select_with-change.new.self c.queue_updates_to_all.new.self (updates_to_all c.args.prefix.now c.select_with-change.new.self)
+    c.select_with-change.result c.select_with-change.ensures.state c.select_with-change.ensures.change alike c.queue_updates_to_all.ensures

@@ -1,6 +1,7 @@
 -- A revision keeps the keys distinct, and doesn't depend on the order of the entries.
 use Rattle.std.proofs.Common.{◌≡◌, true, sym, ap, subst, ◌∙◌}
 use Rattle.babel_table.specs.Insertions.{in_order, are_distinct}
+use Rattle.babel_table.proofs.DueLemmas.{due_in_order}
 use Rattle.babel_table.proofs.RevisionLemmas.{distinct_revised, in_order_revised}
 use Rattle.babel_table.proofs.plain.PlainTableTable.revise.Goals as goal
 
@@ -15,3 +16,7 @@ returns-clause-entries g c =
     let table = c.args.self.now in
     ap (in_order g.K.Key.order) c.compact.ensures.items
     ∙ in_order_revised g.K.Key.order (g.R.Revision.revised c.args.revision.now) g.met.K.Key.total g.met.K.Key.exact table.entries.items table.distinct
+
+pub returns-clause-due : goal.returns-clause-due
+returns-clause-due g c =
+    due_in_order g.M.Moments.moment_of g.K.Key.order c.compact.result c.compact.new.entries.items c.compact.ensures.due

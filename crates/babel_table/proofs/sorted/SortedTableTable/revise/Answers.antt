@@ -7,5 +7,5 @@ use Rattle.babel_table.proofs.sorted.SortedTableTable.revise.Goals as goal
 pub invariant_of-self-clause-sorted : goal.invariant_of-self-clause-sorted
 invariant_of-self-clause-sorted g c =
     let table = c.args.self.now in
-    subst (λ es. is_sorted g.K.Key.order es ≡ true) (sym c.compact.ensures.items)
+    subst (λ es. is_sorted g.K.Key.order es ≡ true) (sym c.revise.ensures.items)
     (sorted_revised g.K.Key.order (g.R.Revision.revised c.args.revision.now) (g.Q.Sequence.items table.entries) table.sorted)

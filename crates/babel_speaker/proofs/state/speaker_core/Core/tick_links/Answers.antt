@@ -1,14 +1,14 @@
--- If no cost changes, the selections stay current; if one does, those that its link doesn't concern.
+-- If no cost changes, the selections stay current; else those that are not lost.
 use Rattle.std.proofs.Common.{◌≡◌, ◌≢◌, sym, subst, ◌∙◌}
-use Rattle.babel_value.specs.declared.keys.Peer.{Peer}
 use Rattle.babel_link.specs.declared.changes.CostChanges.{CostChanges}
-use Rattle.babel_link.specs.declared.changes.CostChanges.TheVariants.{Nothing, One, Several}
+use Rattle.babel_link.specs.declared.changes.CostChanges.TheVariants.{Nothing, Several}
+use Rattle.babel_link.specs.Neighbours.{AreLost}
 use Rattle.babel_state.specs.CurrentSelections.{AreCurrent}
 use Rattle.babel_state.specs.State.{State}
 use Rattle.babel_state.specs.KeptRoutes.{KeepsRoutes}
 use Rattle.babel_speaker.proofs.RoutesKept.{ticked_routes}
 use Rattle.babel_speaker.proofs.Settling.{ticked_current}
-use Rattle.babel_speaker.proofs.LinkChanges.{ticked_others}
+use Rattle.babel_speaker.proofs.Losses.{ticked_unless}
 use Rattle.babel_speaker.proofs.state.speaker_core.Core.tick_links.Goals as goal
 
 known : {changes : CostChanges} → changes ≡ Nothing → changes ≢ Several
@@ -16,12 +16,6 @@ known is several = nothing-several (sym is ∙ several)
   where
     nothing-several : Nothing ≡ Several → ⊥
     nothing-several p = cc
-
-known_one : {changes : CostChanges} (peer : Peer) → changes ≡ One peer → changes ≢ Several
-known_one peer is several = one-several (sym is ∙ several)
-  where
-    one-several : One peer ≡ Several → ⊥
-    one-several p = cc
 
 pub returns-clause-quiet : goal.returns-clause-quiet
 returns-clause-quiet c nothing current =
@@ -66,7 +60,7 @@ returns-clause-kept c nothing =
     (ticked_routes s c.forget_each.new.self costs.new.self c.as_slice.result.now c.forget_each.ensures.state (costs.ensures.costs nothing) (c.as_slice.ensures.value ∙ costs.ensures.flushed (known nothing)))
 
 pub returns-clause-others : goal.returns-clause-others
-returns-clause-others c peer one current =
+returns-clause-others c current =
     let inside = c.self.inside in
     let s : State = record {
       router = inside.router;
@@ -83,5 +77,5 @@ returns-clause-others c peer one current =
       left_out = inside.left_out;
     } in
     let costs = c.tick_costs-changes in
-    ticked_others peer s c.forget_each.new.self costs.new.self c.as_slice.result.now c.forget_each.ensures.state (costs.ensures.others peer one) (c.as_slice.ensures.value ∙ costs.ensures.flushed (known_one peer one))
+    ticked_unless s c.forget_each.new.self costs.new.self c.as_slice.result.now c.forget_each.ensures.state costs.ensures.grown (subst (λ peers. AreLost peers costs.new.self) (sym c.as_slice.ensures.value) costs.ensures.lost)
     (subst AreCurrent (sym c.self.view_is) current)
