@@ -8,8 +8,8 @@ use Rattle.babel_state.specs.Sameness.{is_same_prefix}
 use Rattle.babel_state.specs.State.{State}
 use Rattle.babel_state.specs.KeptRoutes.{KeepsRoutes}
 use Rattle.babel_state.specs.declared.selected.Choice.{Choice}
-use Rattle.babel_replay.specs.Texts.{line, select_text}
-use Rattle.babel_replay.specs.Report.{select_line, select_lines}
+use Rattle.babel_replay.specs.Texts.{select_head, selection_line}
+use Rattle.babel_replay.specs.Report.{line_after, select_lines}
 use Rattle.babel_state.specs.Calls.{choice_of}
 use Rattle.babel_replay.specs.Seen.{SeenPrefix, choice_at, is_same_choice, printed, printed_all, stored, with_seen, seen_after, ArePrinted}
 use Rattle.babel_replay.proofs.Seeing.{is_itself}
@@ -17,17 +17,17 @@ use Rattle.babel_replay.proofs.Seeing.{is_itself}
 -- ---- what was last printed of each is its selected route
 
 -- If its selected route is what was last printed, there is none for it.
-pub no_line : (time : ℕ) (s : State) (es : List SeenPrefix) (i : ℕ) (got : Option SeenPrefix) (p : PrefixValue) (last : Option Choice) →
-    got ≡ slice_get es i → got ≡ Some (p, last) → last ≡ choice_at s p → option_map_or (select_line time s) (slice_get es i) [] ≡ []
-no_line time s es i got p last at is kept =
-    ap (λ m. option_map_or (select_line time s) m []) (sym at ∙ is)
-    ∙ ap (λ b. cond b [] (line (select_text time p (choice_at s p)))) (ap (is_same_choice (choice_at s p)) kept ∙ is_itself (choice_at s p))
+pub no_line : (head : List ℕ) (s : State) (es : List SeenPrefix) (i : ℕ) (got : Option SeenPrefix) (p : PrefixValue) (last : Option Choice) →
+    got ≡ slice_get es i → got ≡ Some (p, last) → last ≡ choice_at s p → option_map_or (line_after head s) (slice_get es i) [] ≡ []
+no_line head s es i got p last at is kept =
+    ap (λ m. option_map_or (line_after head s) m []) (sym at ∙ is)
+    ∙ ap (λ b. cond b [] (head ++ selection_line p (choice_at s p))) (ap (is_same_choice (choice_at s p)) kept ∙ is_itself (choice_at s p))
 
 pub no_lines : (time : ℕ) (s : State) (es : List SeenPrefix) → ArePrinted s es → select_lines time s es ≡ []
 no_lines time s [] same = refl
 no_lines time s (e ∷ es) same =
     let last : e.1 ≡ choice_at s e.0 = ap (λ (l : List SeenPrefix). (get_or l 0 e).1) same in
-    ap (λ b. cond b [] (line (select_text time e.0 (choice_at s e.0))) ++ select_lines time s es) (ap (is_same_choice (choice_at s e.0)) last ∙ is_itself (choice_at s e.0))
+    ap (λ b. cond b [] (select_head time ++ selection_line e.0 (choice_at s e.0)) ++ select_lines time s es) (ap (is_same_choice (choice_at s e.0)) last ∙ is_itself (choice_at s e.0))
     ∙ no_lines time s es (ap (drop 1) same)
 
 printed_again : (s : State) (es : List SeenPrefix) → ArePrinted s (printed_all s es)

@@ -15,7 +15,7 @@ use Rattle.babel_replay.specs.declared.stepping.Outcome.{Outcome}
 use Rattle.babel_replay.specs.declared.stepping.Outcome.TheVariants as outcomes
 use Rattle.babel_replay.specs.Stepping.{Steps}
 use Rattle.babel_replay.specs.Seen.{SeenPrefix, choice_at, is_same_choice, seen_after, printed_all}
-use Rattle.babel_replay.specs.Texts.{line, moment_text, tlv_line, refused_text, cost_refused_text, select_text, table_text, out_text}
+use Rattle.babel_replay.specs.Texts.{line, moment_text, tlv_line, refused_text, cost_refused_text, select_head, selection_line, table_text, out_text}
 
 -- ---- what became of the line itself
 
@@ -52,10 +52,13 @@ seen_by placed outcome es = es
 
 -- ---- the selected routes
 
--- The line of a prefix whose selected route isn't the one that was last printed.
+-- The line of a prefix whose selected route isn't the one that was last printed. It begins with this head.
+abbrev pub line_after : List ℕ → State → SeenPrefix → List ℕ
+line_after head s (prefix, last) =
+    if is_same_choice (choice_at s prefix) last then [] else head ++ selection_line prefix (choice_at s prefix)
+
 abbrev pub select_line : ℕ → State → SeenPrefix → List ℕ
-select_line time s (prefix, last) =
-    if is_same_choice (choice_at s prefix) last then [] else line (select_text time prefix (choice_at s prefix))
+select_line time s e = line_after (select_head time) s e
 
 abbrev pub select_lines : ℕ → State → List SeenPrefix → List ℕ
 select_lines time s es = flat_map (select_line time s) es

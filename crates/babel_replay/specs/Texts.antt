@@ -82,11 +82,26 @@ choice_text None = codes "none"
 choice_text (Some c) =
     codes "via " ++ peer_text c.peer ++ codes " metric " ++ decimal c.metric ++ codes " router " ++ router_text c.router ++ codes " seqno " ++ decimal c.seqno
 
+-- The lines of one report on selected routes have the same head.
+abbrev pub select_head : ℕ → List ℕ
+select_head time = decimal time ++ codes " select "
+
+-- the greatest number of octets of a head: 20 digits, and a word between blanks
+abbrev pub longest_head : ℕ
+longest_head = 28
+
 abbrev pub select_text : ℕ → PrefixValue → Option Choice → List ℕ
-select_text time prefix choice = decimal time ++ codes " select " ++ prefix_text prefix ++ codes " " ++ choice_text choice
+select_text time prefix choice = select_head time ++ prefix_text prefix ++ codes " " ++ choice_text choice
 
 abbrev pub table_text : PrefixValue → Option Choice → List ℕ
 table_text prefix choice = codes "table " ++ prefix_text prefix ++ codes " " ++ choice_text choice
+
+-- What follows the head, and what follows the prefix there.
+abbrev pub choice_end : Option Choice → List ℕ
+choice_end choice = line (codes " " ++ choice_text choice)
+
+abbrev pub selection_line : PrefixValue → Option Choice → List ℕ
+selection_line prefix choice = prefix_text prefix ++ choice_end choice
 
 -- to whom a datagram goes
 abbrev pub target_text : Target → List ℕ

@@ -11,6 +11,6 @@ pub mod parts;
 pub mod routes;
 
 pub use babel_state::Choice;
-pub use choices::{set_select, table_line};
+pub use choices::{push_selection, set_select, set_select_head, table_line};
 pub use notes::{push_tlv, set_cost_refused, set_moment, set_out, set_refused};
 pub use routes::{RouteLine, RouteStatus, route_line};

@@ -1,6 +1,6 @@
 //! A log replayed: what the speaker makes of each line.
 
-ghost use Rattle.std.specs.Prelude.{◌≡◌, ◌≢◌, ◌≤◌, ◌⊎◌, [], length, slice_get, Err, IsOk, IsNone, OnOk, IfOk, IfErr, IfSome, IsFalse, MatchOption};
+ghost use Rattle.std.specs.Prelude.{◌≡◌, ◌≢◌, ◌≤◌, ◌⊎◌, [], length, slice_get, take, Err, IsOk, IsNone, OnOk, IfOk, IfErr, IfSome, IsFalse, MatchOption};
 ghost use Rattle.std.specs.Io.KnownBytes.{Appends};
 ghost use Rattle.std.specs.Option.{option_map_or};
 ghost use Rattle.indexmap.specs.IndexMap.{set_value_at};
@@ -10,13 +10,15 @@ ghost use Rattle.babel_state.specs.KeptRoutes.{KeepsRoutes};
 ghost use Rattle.babel_speaker.specs.Making.{IsMakingFault};
 ghost use Rattle.babel_text.specs.declared.errors.LineFault.TheVariants.{Memory, Write};
 ghost use Rattle.babel_replay.specs.LogReports.{room, whole_report, IsCause, IsReplayFault, IsStopped, OfAllLines, OfLinesBefore, Writes};
-ghost use Rattle.babel_replay.specs.Report.{places_in, IsDecodedAs, note_lines, outcome_lines, seen_by, select_line, select_lines, Reports, ReportsStep, Sends, table_line, table_lines};
+ghost use Rattle.babel_replay.specs.Report.{places_in, IsDecodedAs, note_lines, outcome_lines, seen_by, line_after, select_lines, Reports, ReportsStep, Sends, table_line, table_lines};
 ghost use Rattle.babel_replay.specs.Seen.{updates_in, choice_at, choice_printed, printed_all, ArePrinted};
+ghost use Rattle.babel_replay.specs.Texts.{longest_head};
 ghost use Rattle.babel_replay.specs.Taking.{IsReported, IsReportedLine, TakesLine};
 
 use crate::counting::count_messages;
 use crate::lines::{
-    Choice, push_tlv, set_cost_refused, set_moment, set_out, set_refused, set_select, table_line,
+    Choice, push_selection, push_tlv, set_cost_refused, set_moment, set_out, set_refused,
+    set_select_head, table_line,
 };
 use crate::reading::read_line;
 use crate::seen::{SeenPrefixes, is_same};
@@ -379,24 +381,31 @@ impl Replayer {
         ensures speaker { self.new.speaker.state ≡ self.old.speaker.state }
         ensures failed { IfErr result (λ fault. fault ≡ LineFault.Write) }
     {
+        set_select_head(&mut self.drafts.line, time);
+        let head = self.drafts.line.octets().len();
         // The prefixes were mostly seen in the order of the table of selections.
         let mut near = 0;
         for index in 0..self.seen.len() {
-            self.write_selection(index, time, &mut near, out)?;
+            self.write_selection(index, head, &mut near, out)?;
         }
         Ok(())
     }
 
     /// The same for the seen prefix at the index, which is searched for near an index of the
-    /// selections.
+    /// selections. The draft of the line begins with the head of all lines, and `head` is its
+    /// length.
     fn write_selection<W: Write>(
         &mut self,
         index: usize,
-        time: u64,
+        head: usize,
         near: &mut usize,
         out: &mut W,
     ) -> Result<(), LineFault>
-        ensures written { OnOk result (Appends (W.contents out.old) (W.contents out.new) (option_map_or (select_line time self.old.speaker.state) (slice_get self.old.seen.entries index) [])) }
+        requires begun { head ≤ length self.old.drafts.line }
+        requires short { head ≤ longest_head }
+        ensures begun { head ≤ length self.new.drafts.line }
+        ensures head { take head self.new.drafts.line ≡ take head self.old.drafts.line }
+        ensures written { OnOk result (Appends (W.contents out.old) (W.contents out.new) (option_map_or (line_after (take head self.old.drafts.line) self.old.speaker.state) (slice_get self.old.seen.entries index) [])) }
         ensures seen { OnOk result (self.new.seen.entries ≡ option_map_or (λ e. set_value_at self.old.seen.entries index (choice_printed self.old.speaker.state e)) (slice_get self.old.seen.entries index) self.old.seen.entries) }
         ensures speaker { self.new.speaker.state ≡ self.old.speaker.state }
         ensures failed { IfErr result (λ fault. fault ≡ LineFault.Write) }
@@ -411,9 +420,9 @@ impl Replayer {
         if is_same(&choice, last) {
             return Ok(());
         }
-        let prefix = *prefix;
+        self.drafts.line.truncate(head);
+        push_selection(&mut self.drafts.line, prefix, &choice);
         self.seen.set(index, choice);
-        set_select(&mut self.drafts.line, time, &prefix, &choice);
         write_line(out, &self.drafts.line)
     }
 

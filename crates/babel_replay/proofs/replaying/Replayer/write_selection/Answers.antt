@@ -1,5 +1,5 @@
 -- What was printed last is its selected route still, or what is printed now is.
-use Rattle.std.proofs.Common.{true, refl, sym, ap, subst}
+use Rattle.std.proofs.Common.{true, take, refl, sym, ap, subst}
 use Rattle.std.specs.Io.KnownBytes.{Appends}
 use Rattle.std.specs.Map.Iter.{deref_pair}
 use Rattle.std.specs.Option.{option_map}
@@ -12,7 +12,7 @@ pub returns-in-Kept-clause-written : goal.returns-in-Kept-clause-written
 returns-in-Kept-clause-written g c =
     let contents = g.W.Write.contents c.args.out.now in
     subst (Appends contents contents)
-    (sym (no_line c.args.time c.args.self.now.speaker.state c.args.self.now.seen.entries c.args.index (option_map deref_pair c.get.result)
+    (sym (no_line (take c.args.head c.args.self.now.drafts.line) c.args.self.now.speaker.state c.args.self.now.seen.entries c.args.index (option_map deref_pair c.get.result)
     c.in-Some.prefix.now c.in-Some.last.now c.get.ensures (ap (option_map deref_pair) c.in-Some.is) (c.in-Kept.ensures.kept refl)))
     (appends_none contents)
 
