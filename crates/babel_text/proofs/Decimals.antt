@@ -3,6 +3,7 @@ use Rattle.std.proofs.Common.{◌≡◌, ℕ, ◌^◌, ◌+◌, ◌*◌, ◌-◌
 use Rattle.std.proofs.lemmas.Bool.{cases_lt, and_parts, both_ways, and_from}
 use Rattle.std.proofs.lemmas.Fmt.{decimal_is_IsNumeral, decimal_digit, first_decimal, decimal-digits_value, decimal_injective}
 use Rattle.std.proofs.lemmas.Int.Digits.{digits_value_more}
+use Rattle.std.proofs.lemmas.List.{take_all}
 use Rattle.std.proofs.lemmas.Str.{digit_value_digit}
 use Rattle.std.proofs.lemmas.Str.Parse.{IsNumeralModel, numerals_by_value, tells_digits, tells_by_index, digit_at, digits_value-take-le}
 use Rattle.std.specs.Str.Parse.{IsNumeral, digits_value}
@@ -80,6 +81,15 @@ pub none_goes : (ds : List ℕ) (i value : ℕ) → i < length ds → value ≡ 
 none_goes ds i value within so none (numeral, small) =
     let digit = digit_at ds i numeral.1 within in
     none (digit, omega (arith, value_goes ds i value within digit so, digits_value-take-le 10 ds (i + 1) (lit≤ tt), small))
+
+-- The last digit, of which the number of all digits is made.
+pub last_goes : (ds : List ℕ) (i value : ℕ) → length ds ≡ i + 1 → ((k : ℕ) → k < i → IsInRange 48 57 (get_or ds k 0)) → value ≡ digits_value 10 (take i ds) → (r : Option ℕ) →
+    MatchOption r (¬ (IsInRange 48 57 (get_or ds i 0) × (value * 10 + (get_or ds i 0 - 48) < 2 ^ 64))) (λ next. IsInRange 48 57 (get_or ds i 0) × (next ≡ value * 10 + (get_or ds i 0 - 48)) × (next < 2 ^ 64)) →
+    MatchOption r (¬ (IsNumeral 10 ds × (digits_value 10 ds < 2 ^ 64))) (λ number. IsNumeral 10 ds × (digits_value 10 ds < 2 ^ 64) × (number ≡ digits_value 10 ds))
+last_goes ds i value last before so None none = none_goes ds i value (omega arith) so none
+last_goes ds i value last before so (Some number) (digit, is, small) =
+    let whole = is ∙ value_goes ds i value (omega arith) digit so ∙ ap (digits_value 10) (take_all (i + 1) ds (omega arith)) in
+    (all_are_digits ds (omega arith) (λ k below. in_range_goes ds i before digit k (omega arith)), subst (λ n. n < 2 ^ 64) whole small, whole)
 
 -- A number that is read as one of fewer bits.
 pub number_narrowed : {E : Type 0} (bits : ℕ) (text : List ℕ) (n : ℕ) (r : Result ℕ E) → 2 ^ bits ≤ 2 ^ 64 → IsNumberText 64 text n → OkIff r (n < 2 ^ bits) n → Reads (IsNumberText bits) text (result_ok r)

@@ -107,10 +107,23 @@ fn has_leading_zero(text: &[u8]) -> bool
 }
 
 /// The number that digits write, `None` exactly if there is no digit, if another octet is among
-/// them, or if the number isn't below 2^64.
+/// them, or if the number isn't below 2^64. Most numbers have one digit or two: these are read
+/// without a loop.
 #[inline]
-#[tactic(auto, using(crate::proofs::Decimals::none_goes, crate::proofs::Decimals::value_goes, crate::proofs::Decimals::in_range_goes, crate::proofs::Decimals::all_are_digits))]
 fn value_of(digits: &[u8]) -> Option<u64>
+    ensures { MatchOption result (¬ (IsNumeral 10 digits.now × (digits_value 10 digits.now < 2 ^ 64)))
+        (λ value. IsNumeral 10 digits.now × (digits_value 10 digits.now < 2 ^ 64) × (value ≡ digits_value 10 digits.now)) }
+{
+    match *digits {
+        [one] => next_value(0, one),
+        [ten, one] => next_value(next_value(0, ten)?, one),
+        _ => long_value_of(digits),
+    }
+}
+
+/// The same by a loop.
+#[tactic(auto, using(crate::proofs::Decimals::none_goes, crate::proofs::Decimals::value_goes, crate::proofs::Decimals::in_range_goes, crate::proofs::Decimals::all_are_digits))]
+fn long_value_of(digits: &[u8]) -> Option<u64>
     ensures { MatchOption result (¬ (IsNumeral 10 digits.now × (digits_value 10 digits.now < 2 ^ 64)))
         (λ value. IsNumeral 10 digits.now × (digits_value 10 digits.now < 2 ^ 64) × (value ≡ digits_value 10 digits.now)) }
 {

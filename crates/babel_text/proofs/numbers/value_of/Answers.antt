@@ -1,13 +1,19 @@
--- All octets are digits, and the value is theirs.
-use Rattle.std.proofs.Common.{◌∙◌, ap, subst, arith, rules, length, ◌<◌, ◌^◌}
-use Rattle.std.proofs.lemmas.List.{take_all}
-use Rattle.std.specs.Str.Parse.{digits_value}
-use Rattle.babel_text.proofs.Decimals.{all_are_digits}
+-- One digit, or two of which the first one is read as one.
+use Rattle.std.proofs.Common.{refl, arith, ◌∙◌}
+use Rattle.babel_text.proofs.Decimals.{last_goes, none_goes, value_goes, in_range_goes}
 use Rattle.babel_text.proofs.numbers.value_of.Goals as goal
 
-pub returns : goal.returns
-returns c =
+pub returns-in-len1 : goal.returns-in-len1
+returns-in-len1 c = last_goes c.args.digits.now 0 0 (omega (arith, c.in-len1.len_at_least, c.in-len1.len_below)) (λ k below. absurd (omega (arith, below))) refl c.next_value.result c.next_value.ensures
+
+pub returns-in_err-next_value-in-len2 : goal.returns-in_err-next_value-in-len2
+returns-in_err-next_value-in-len2 c = rw c.from_residual.ensures
+    (none_goes c.args.digits.now 0 0 (omega (arith, c.in-len2.len_at_least)) refl (c.in_err-next_value-in-len2.ensures))
+
+pub returns-in_ok-next_value-in-len2 : goal.returns-in_ok-next_value-in-len2
+returns-in_ok-next_value-in-len2 c =
     let digits = c.args.digits.now in
-    let is = c.loop-octet.invariant.1 ∙ ap (digits_value 10) (take_all c.loop-octet.octet-index digits (omega arith)) in
-    let some : 0 < length digits = search rules in
-    (all_are_digits digits some (λ k less. c.loop-octet.invariant.0 k (omega arith)), subst (λ v. v < 2 ^ 64) is c.loop-octet.invariant.2, is)
+    let first = c.in_ok-next_value-in-len2.ensures in
+    last_goes digits 1 c.in_ok-next_value-in-len2.field-0 (omega (arith, c.in-len2.len_at_least, c.in-len2.len_below))
+    (in_range_goes digits 0 (λ k below. absurd (omega (arith, below))) first.0)
+    (first.1 ∙ value_goes digits 0 0 (omega (arith, c.in-len2.len_at_least)) first.0 refl) c.next_value-in-len2-2.result c.next_value-in-len2-2.ensures
