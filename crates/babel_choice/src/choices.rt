@@ -350,7 +350,9 @@ fn is_feasible<T: Table<Source, SourceEntry>>(
 
 /// Whether the route takes the place of the selection of another neighbour: it is a candidate, and
 /// its metric is lesser, if there is a selection. Metrics are compared first, so the source of most
-/// routes is not looked up.
+/// routes is not looked up. It is compiled into its caller: as a call it had a copy made of the
+/// route and of the selection.
+#[inline(always)]
 pub fn overtakes<E: Table<RouteKey, Entry>, T: Table<Source, SourceEntry>, C: Costs>(
     inputs: &ChoiceInputs<'_, E, T, C>,
     route: &(RouteKey, Entry),

@@ -6,6 +6,7 @@ ghost use Rattle.babel_choice.specs.Routes.{is_from, retracted_entry, retracted_
 use crate::{Entry, RouteKey};
 use babel_table::{Revised, Revision};
 use babel_value::{Metric, Peer, hold_time};
+use std::cell::Cell;
 
 impl Entry {
     /// The entry after a retraction: its metric is infinite, and its hold time begins again.
@@ -63,33 +64,66 @@ impl Revision<RouteKey, Entry> for Flush {
 #[derive(Drop)]
 pub struct FlushEach<'a> {
     /// The neighbours.
-    pub peers: &'a [Peer],
+    peers: &'a [Peer],
+    /// The index after that of the neighbour that was found last. It only matters for speed: a
+    /// search begins there, since the routes of a prefix are in the order of their neighbours.
+    next: Cell<usize>,
+}
+
+impl<'a> FlushEach<'a> {
+    /// The flush of these neighbours. If they ascend, a route of one is mostly found at once.
+    pub fn new(peers: &'a [Peer]) -> FlushEach<'a>
+        ensures { result.peers.now ≡ peers.now }
+    {
+        FlushEach {
+            peers,
+            next: Cell::new(0),
+        }
+    }
+
+    /// Whether the route is of one of the neighbours.
+    #[inline(always)]
+    #[tactic(auto, using(crate::proofs::RevisionLemmas::from_one))]
+    fn has(&self, key: &RouteKey) -> bool
+        ensures { result ≡ is_from_any self.now.peers.now key.now }
+    {
+        let next = self.next.get();
+        match self.peers.get(next) {
+            Some(peer) if key.peer.cmp(peer).is_eq() => {
+                self.next.set(next.wrapping_add(1));
+                true
+            }
+            _ => self.search(key),
+        }
+    }
+
+    /// The same by a search from the first neighbour on.
+    #[inline(never)]
+    fn search(&self, key: &RouteKey) -> bool
+        ensures { result ≡ is_from_any self.now.peers.now key.now }
+    {
+        let mut left = self.peers;
+        while let Some((peer, rest)) = left.split_first() {
+            if key.peer.cmp(peer).is_eq() {
+                self.next.set(self.peers.len().wrapping_sub(rest.len()));
+                return true;
+            }
+            left = rest;
+        }
+        false
+    }
 }
 
 impl<'a> Revision<RouteKey, Entry> for FlushEach<'a> {
     ghost revised = { λ flush. kept_without_each flush.peers.now };
 
     fn revise(&self, key: &RouteKey, _entry: &Entry) -> Revised<Entry> {
-        if is_of_any(self.peers, key) {
+        if self.has(key) {
             Revised::Removed
         } else {
             Revised::Kept
         }
     }
-}
-
-/// Whether the route is of one of the neighbours.
-fn is_of_any(peers: &[Peer], key: &RouteKey) -> bool
-    ensures { result ≡ is_from_any peers.now key.now }
-{
-    let mut left = peers;
-    while let Some((peer, rest)) = left.split_first() {
-        if key.peer.cmp(peer).is_eq() {
-            return true;
-        }
-        left = rest;
-    }
-    false
 }
 
 /// The deadlines that are due at a moment.

@@ -131,14 +131,14 @@ impl<'a, T: Table<RouteKey, Entry>> PrefixRoutes<'a, T> {
         }
     }
 
-    /// The same. The search begins at the index, which goes to the route before the first one of
-    /// the prefix: so the routes of rising prefixes are found in one walk over the table.
+    /// The same. The search begins at the index, which goes to the first route of the prefix: so the
+    /// routes of rising prefixes are found in one walk over the table.
     #[inline(always)]
     pub fn new_near(table: &'a T, prefix: Prefix, near: &mut usize) -> PrefixRoutes<'a, T>
         ensures { result ≡ routes_of prefix (T.entries table.now) }
     {
         let place = places_below_near(table, *near, &Before { prefix });
-        *near = place.saturating_sub(1);
+        *near = place;
         PrefixRoutes {
             table,
             prefix,

@@ -180,7 +180,7 @@ impl<E: Table<RouteKey, Entry>, S: Table<Prefix, Selection>> RoutesOver<E, S> {
         ensures selections_in_order { IsTrue (is_sorted prefix_cmp self.new.selections) }
     {
         if !peers.is_empty() {
-            self.due = revise_dues(&mut self.entries, &FlushEach { peers });
+            self.due = revise_dues(&mut self.entries, &FlushEach::new(peers));
         }
         // The tables are in order.
         let _count = self.len();

@@ -1,4 +1,4 @@
--- What storing an entry leaves of the least moment.
+-- What storing, writing or sorting entries leaves of the moment before which none is due.
 use Rattle.std.proofs.Common.{ℕ, ◌+◌, ◌≤◌, ◌<◌, List, [], ◌∷◌, length, take, set, sym, subst, arith}
 use Rattle.std.specs.declared.cmp.Ordering.{Ordering}
 use Rattle.std.specs.declared.cmp.Ordering.TheVariants.{Less, Equal, Greater}

@@ -2,7 +2,7 @@
 use Rattle.std.proofs.Common.{◌≡◌, ℕ, ◌+◌, ◌<◌, ◌≤◌, true, cond, List, [], ◌∷◌, ◌++◌, length, get_or, set, take, drop, option_map, option_and_then, is_none, Option, Some, None, refl, sym, ap, subst, ◌∙◌, arith, add-one, append_assoc}
 use Rattle.std.specs.List.{cons_option}
 use Rattle.std.proofs.Math.Seq.{drop-cons}
-use Rattle.std.proofs.lemmas.List.{drop-set-lt, take_more_set, drop_all, append-nil}
+use Rattle.std.proofs.lemmas.List.{drop-set-lt, take_more_set}
 use Rattle.std.proofs.lemmas.Bool.{and_parts, and_from, true≢false}
 use Rattle.std.proofs.lemmas.Option.{none-some}
 use Rattle.std.specs.declared.cmp.Ordering.{Ordering}
@@ -107,8 +107,3 @@ module _ {K V : Type 0} (R : K → K → Ordering) (f : K → V → Option V) wh
       (holds (is_sorted R (revised_entries f (in_order R es))) (sorted_revised (in_order R es) (sorted_in_order R o es)))
       (λ k. find_in_order R o k (revised_entries f es) ∙ find_revised_distinct exact k es distinct
       ∙ ap (option_and_then (f k)) (sym (find_in_order R o k es)) ∙ sym (find_revised R o exact f k (in_order R es) (sorted_in_order R o es)))
-
--- At the end nothing is left to revise.
-pub left_all : {K V : Type 0} (f : K → V → Option V) (es : List (K × V)) (i : ℕ) → length es ≤ i → (before whole : List (K × V)) → before ++ revised_entries f (drop i es) ≡ whole → before ≡ whole
-left_all f es i past before whole so_far =
-    sym (append-nil before) ∙ ap (λ rest. before ++ revised_entries f rest) (sym (drop_all i es past)) ∙ so_far

@@ -1,4 +1,4 @@
-//! The least moment at which a value of a table is due.
+//! The moments from which on the values of a table are due.
 
 ghost use Rattle.std.specs.Prelude.{◌≡◌, ℕ};
 ghost use Rattle.babel_table.specs.Dues.{AreDueFrom};

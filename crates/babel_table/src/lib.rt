@@ -5,7 +5,8 @@
 //! - `table`: the trait `Table`, and calls over any table.
 //! - `sorted`, `plain`: the two tables.
 //! - `sequences`, `gap`: what a table in order keeps its entries in.
-//! - `revisions`, `bounds`, `dues`: walks over any table.
+//! - `revisions`, `dues`: a revision of all entries in one pass, and when what it leaves is due.
+//! - `bounds`: indices in any table by a bound on its keys.
 //! - `near`: searches that begin where the last one ended.
 //! - `laws`: laws of the definitions.
 //!

@@ -245,7 +245,7 @@ pub fn seek_near<K: Key, V: Copy, T: Table<K, V>>(table: &T, near: &mut usize, k
         return seek_past_all(table, near, key);
     };
     match order_of(key, &entry.0) {
-        Ordering::Less => walk_back_for(table, near, key),
+        Ordering::Less => back_for(table, near, key),
         Ordering::Equal => true,
         Ordering::Greater => walk_for(table, near, key),
     }
@@ -387,6 +387,35 @@ fn walk_for<K: Key, V: Copy, T: Table<K, V>>(table: &T, near: &mut usize, key: &
     }
     *near = len;
     false
+}
+
+/// The same from an index back whose key is greater. Mostly the key before it is lesser, or is the
+/// sought one. The walk is another call: so this one needs few registers.
+#[inline(never)]
+fn back_for<K: Key, V: Copy, T: Table<K, V>>(table: &T, near: &mut usize, key: &K) -> bool
+    requires within { near.old < length (T.entries table.now) }
+    requires greater { are_greater K.order key.now (drop near.old (T.entries table.now)) ≡ true }
+    ensures at { IsTrue result → IsAt key.now (T.entries table.now) near.new }
+    ensures gap { IsFalse result → IsGap K.order key.now (T.entries table.now) near.new }
+{
+    if *near == 0 {
+        return false;
+    }
+    let place = *near - 1;
+    let Some(entry) = table.at(place) else {
+        return search_for(table, near, key);
+    };
+    match order_of(key, &entry.0) {
+        Ordering::Less => {
+            *near = place;
+            walk_back_for(table, near, key)
+        }
+        Ordering::Equal => {
+            *near = place;
+            true
+        }
+        Ordering::Greater => search_between(table, near, key, place + 1, place + 1),
+    }
 }
 
 /// The same by a walk back from an index whose key is greater.

@@ -24,8 +24,8 @@ walk_for-requires-clause-lesser g c =
     let table = c.args.table.now in
     rw (add-one c.args.near.now) (lesser_through g.K.Key.order g.met.K.Key.total c.args.key.now (g.T.Table.entries table) c.args.near.now c.in-Some.entry (g.met.T.Table.ordered table) (sym c.in-Some.ensures) (sym c.in-Greater.ensures))
 
-pub walk_back_for-requires-clause-greater : goal.walk_back_for-requires-clause-greater
-walk_back_for-requires-clause-greater g c =
+pub back_for-requires-clause-greater : goal.back_for-requires-clause-greater
+back_for-requires-clause-greater g c =
     let table = c.args.table.now in
     greater_from g.K.Key.order g.met.K.Key.total c.args.key.now (g.T.Table.entries table) c.args.near.now c.in-Some.entry (g.met.T.Table.ordered table) (sym c.in-Some.ensures) (sym c.in-Less.ensures)
 
