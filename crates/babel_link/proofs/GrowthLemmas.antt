@@ -19,7 +19,8 @@ use Rattle.babel_link.specs.Neighbours.{Links, tick_of, gone_of, is_gone, peers_
 use Rattle.babel_link.proofs.LookUpLemmas.{absent_below, find-tick_of}
 use Rattle.babel_link.proofs.SilenceLemmas.{is_up_link, ticked_from}
 
--- The cost over an interface of this nominal cost, of a link of which a history is up or none is, and that has this txcost.
+-- The cost of a link with this txcost over an interface of this nominal cost. The truth value means
+-- that a history of the link is up.
 abbrev cost_by : ℕ → Bool → ℕ → ℕ
 cost_by nominal up txcost = cond (eqb (cond up nominal infinity) infinity) infinity txcost
 
@@ -40,6 +41,13 @@ unfolding link_cost link_rxcost
 link_grows now nominal link after ticked =
     let from = ticked_from now link after ticked in
     rw from.txcost (grows_by nominal (is_up_link link) (is_up_link after) (is_txcost_due now link) link.txcost from.down)
+
+pub stays_infinite : (now : ℕ) (link after : Link) → ticked_link now link ≡ Some after → link_cost 0 link ≡ infinity → link_cost 0 after ≡ link_cost 0 link
+stays_infinite now link after ticked lost = by (link_grows now 0 link after ticked)
+  where
+    by : Grows 0 (Some link) (Some after) → link_cost 0 after ≡ link_cost 0 link
+    by (inl same) = same
+    by (inr infinite) = infinite ∙ sym lost
 
 pub costs_only_grow : (now : ℕ) (es : Links) → is_sorted peer_cmp es ≡ true → CostsOnlyGrow es (tick_of now es)
 unfolding cost_of

@@ -15,7 +15,7 @@ pub enum CostChanges {
     Nothing,
     /// At most the cost of the link to this neighbour, and no neighbour is flushed.
     One(Peer),
-    /// More may change, or it isn't known.
+    /// More may have changed: the costs of several links, or a neighbour is flushed.
     Several,
 }
 

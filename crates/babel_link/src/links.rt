@@ -394,10 +394,13 @@ impl Link {
             return Some(LinkCost::Kept);
         }
         let before = self.finite_cost();
-        if self.tick(now) {
-            Some(self.cost_since(before))
-        } else {
-            None
+        if !self.tick(now) {
+            return None;
         }
+        // A tick makes no infinite cost finite.
+        if before == Metric::INFINITE {
+            return Some(LinkCost::Kept);
+        }
+        Some(self.cost_since(before))
     }
 }

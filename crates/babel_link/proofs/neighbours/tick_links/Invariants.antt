@@ -1,5 +1,6 @@
 -- The neighbours before `kept` stay, those from `place` on are still to tick, and those gone so far are in `gone`. None is gone unless several costs may have changed.
--- Those before `place` stay, each with its cost, but for the one whose cost changed.
+-- Unless several costs may have changed, those before `place` stay, each with its cost but for the
+-- one whose cost changed.
 use Rattle.std.proofs.Common.{◌≡◌, ◌≢◌, ◌≤◌, ◌++◌, [], take, drop, All}
 use Rattle.std.specs.Vec.{vec_len, vec_capacity}
 use Rattle.arrayvec.specs.ArrayVec.{array_vec_len}
