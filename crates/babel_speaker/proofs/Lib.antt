@@ -29,6 +29,7 @@ pub mod TickLists
 pub mod QuietTicks
 pub mod Settling
 pub mod LinkChanges
+pub mod Feasibility
 pub mod Losses
 pub mod SelectionChanges
 pub mod StaleReselections

@@ -495,7 +495,7 @@ all_unless s others lost p none = others p (fewer s.routes.selections none)
         by true other rest = rw (other, rest) refl
         by false other rest = rest
 
--- ---- a prefix with one
+-- ---- a prefix with a finite route
 
 -- What a reselection leaves of the selections after the one of its prefix.
 pub next_selected : (now place : ℕ) (p : PrefixValue) (change : OriginChange) (s t u : State) → AreSelectionsInOrder s → IsAt p s.routes.selections place → t ≡ select p s → change ≡ origin_change (selected_at p s) (selected_at p t) → u ≡ reselect now None p s → drop (if is_loss change then place else place + 1) u.routes.selections ≡ drop (place + 1) s.routes.selections

@@ -6,6 +6,7 @@ pub mod Inspecting
 pub mod Costs
 pub mod DueTimers
 pub mod LinkChanges
+pub mod Feasibility
 pub mod Losses
 pub mod Reaching
 pub mod ShortHellos

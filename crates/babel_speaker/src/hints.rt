@@ -15,8 +15,8 @@ use std::mem;
 /// The most TLVs for which a kept list has room: 8 KiB.
 const MOST_KEPT: usize = 128;
 
-/// Where the last call ended that announced or withdrew a prefix. As a `Cursor`, it only matters
-/// for speed.
+/// Where the last call ended that announced or withdrew a prefix, and before the first one where
+/// such a prefix came back from a neighbour. As a `Cursor`, it only matters for speed.
 #[derive(Drop)]
 pub struct OwnCursor {
     /// An index in the announced prefixes.
@@ -31,6 +31,17 @@ impl OwnCursor {
         OwnCursor {
             announced: 0,
             tables: Cursor::new(),
+        }
+    }
+
+    /// The speaker's own route came back from a neighbour. Updates mostly are in the order of their
+    /// prefixes, so the one before it left its cursor near this prefix. Later ones may find the
+    /// table of routes full: then no route is selected again, and only their index in that table is
+    /// near.
+    pub fn hear(&mut self, cursor: &Cursor) {
+        self.tables.entry = cursor.entry;
+        if self.tables.selection == usize::MAX {
+            self.tables.selection = cursor.selection;
         }
     }
 }

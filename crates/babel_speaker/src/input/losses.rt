@@ -116,8 +116,7 @@ impl Core {
     }
 
     /// Removes the first selection while no link has a finite cost, so that its prefix has no
-    /// candidate. The cursor is near the first route of the prefix, and goes to that of the next
-    /// one.
+    /// candidate. The searches begin at the cursor, which then is near the routes of the prefix.
     fn lose_first(&mut self, now: u64, selected: &(Prefix, Selection), cursor: &mut Cursor)
         requires first { slice_get self.old.routes.selections 0 ≡ Some selected.now }
         requires costs { (peer : Peer) → infinity ≤ cost_at self.old peer }

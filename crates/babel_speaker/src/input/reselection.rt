@@ -3,14 +3,15 @@
 
 ghost use Rattle.std.specs.Prelude.{◌≡◌, [], ◌∷◌, Option, None, IsTrue, IsFalse, IsSome};
 ghost use Rattle.babel_choice.specs.declared.entries.Selection.{Selection};
-ghost use Rattle.babel_choice.specs.Choices.{peer_before};
+ghost use Rattle.std.specs.List.{list_any};
+ghost use Rattle.babel_choice.specs.Choices.{routes_of, peer_before};
 ghost use Rattle.babel_choice.specs.Origins.{is_own};
 ghost use Rattle.babel_route.specs.declared.routes.changes.Report.{Report};
 ghost use Rattle.babel_route.specs.SelectionChanges.{origin_change, selection_change};
 ghost use Rattle.babel_sources.specs.Sources.{pair_of};
 ghost use Rattle.babel_state.specs.declared.requests.Resend.TheVariants.{Unfeasible};
 ghost use Rattle.babel_state.specs.Limits.{request_hops};
-ghost use Rattle.babel_state.specs.Reselection.{UnfeasibleUpdate, queue, updates_to_all, update_to, request_seqno, unfeasible_peers, may_request_for_lost, seqno_after, request_for_lost, is_selected_peer, request_for_update, request_from_sender, follow_up, select, reselect, reselect_each, reselect_all};
+ghost use Rattle.babel_state.specs.Reselection.{UnfeasibleUpdate, queue, updates_to_all, update_to, is_unfeasible, request_seqno, unfeasible_peers, seqno_after, request_for_lost, is_selected_peer, request_for_update, request_from_sender, follow_up, select, reselect, reselect_each, reselect_all};
 ghost use Rattle.babel_state.specs.State.{announces, cost_at, prefixes_in, selected_at};
 ghost use Rattle.babel_state.specs.CurrentSelections.{AreCurrent};
 ghost use Rattle.babel_state.specs.KeptRoutes.{KeepsRoutes};
@@ -99,37 +100,6 @@ impl Core {
         });
     }
 
-    /// Records a request for a seqno and queues it to the neighbours of all unfeasible routes to
-    /// its prefix, unless it is redundant (RFC 8966, section 3.8.2.1). The searches begin at the
-    /// cursor.
-    #[tactic(auto, unfolding(babel_state::specs::Reselection::request_seqno, babel_state::specs::Reselection::unfeasible_peers))]
-    fn request_seqno_from_unfeasible(
-        &mut self,
-        now: u64,
-        source: Source,
-        seqno: Seqno,
-        cursor: &mut Cursor,
-    )
-        ensures { self.new ≡ request_seqno now source seqno Unfeasible request_hops (unfeasible_peers source.prefix self.old) self.old }
-    {
-        if self.requests.is_redundant(&source, seqno) {
-            return;
-        }
-        self.requests.record(now, source, seqno, Resend::Unfeasible);
-        let request = SeqnoRequest {
-            source,
-            seqno,
-            hops: REQUEST_HOPS,
-        };
-        queue_requests_to_unfeasible(
-            &mut self.pending,
-            &self.routes,
-            &self.sources,
-            &request,
-            cursor,
-        );
-    }
-
     /// Selects the route of the prefix again, which has this origin (RFC 8966, section 3.6), and
     /// returns what changed. The searches begin at the cursor, which goes to the next prefix.
     #[inline(always)]
@@ -158,22 +128,38 @@ impl Core {
         self.select_with(prefix, origin, cursor)
     }
 
-    /// Whether a lost route may come back by a greater seqno (RFC 8966, section 3.8.2.1). The
-    /// searches begin at the cursor.
-    fn may_request_for_lost(&self, prefix: &Prefix, cursor: &mut Cursor) -> bool
-        ensures { result ≡ may_request_for_lost prefix.now self.now }
-    {
-        !self.announces(prefix) && has_unfeasible(&self.routes, &self.sources, prefix, cursor)
-    }
-
-    /// Requests a greater seqno of a lost route's source: one more than that of its pair, or than
-    /// the lost one if it has no pair (RFC 8966, section 3.8.2.1). The searches begin at the cursor.
-    fn request_for_lost(&mut self, now: u64, source: Source, lost: Seqno, cursor: &mut Cursor)
-        ensures { self.new ≡ request_seqno now source (seqno_after (pair_of source self.old.sources) lost) Unfeasible request_hops (unfeasible_peers source.prefix self.old) self.old }
+    /// Requests a greater seqno of a lost route's source from the neighbours of all unfeasible
+    /// routes to its prefix, unless that is redundant: one more than that of its pair, or than the
+    /// lost one if it has no pair (RFC 8966, section 3.8.2.1). Returns whether a route is
+    /// unfeasible; if not, nothing changed. The searches begin at the cursor.
+    #[tactic(auto, unfolding(babel_state::specs::Reselection::request_seqno, babel_state::specs::Reselection::unfeasible_peers))]
+    fn request_for_lost(
+        &mut self,
+        now: u64,
+        source: Source,
+        lost: Seqno,
+        cursor: &mut Cursor,
+    ) -> bool
+        ensures found { result ≡ list_any (is_unfeasible self.old.sources) (routes_of source.prefix self.old.routes.entries) }
+        ensures requested { IsTrue result → self.new ≡ request_seqno now source (seqno_after (pair_of source self.old.sources) lost) Unfeasible request_hops (unfeasible_peers source.prefix self.old) self.old }
+        ensures none { IsFalse result → self.new ≡ self.old }
     {
         let pair = self.sources.pair_near(&source, &mut cursor.source);
         let seqno = seqno_after(pair, lost);
-        self.request_seqno_from_unfeasible(now, source, seqno, cursor);
+        if self.requests.is_redundant(&source, seqno) {
+            return has_unfeasible(&self.routes, &self.sources, &source.prefix, cursor);
+        }
+        let request = SeqnoRequest {
+            source,
+            seqno,
+            hops: REQUEST_HOPS,
+        };
+        let (pending, routes, sources) = (&mut self.pending, &self.routes, &self.sources);
+        if !queue_requests_to_unfeasible(pending, routes, sources, &request, &pair, cursor) {
+            return false;
+        }
+        self.requests.record(now, source, seqno, Resend::Unfeasible);
+        true
     }
 
     /// Requests a greater seqno from the sender of an unfeasible update (RFC 8966, section
@@ -237,15 +223,14 @@ impl Core {
             }
             OriginChange::Lost { router, seqno } => {
                 self.queue_updates_to_all(prefix);
-                if !self.may_request_for_lost(prefix, cursor) {
+                if self.announces(prefix) {
                     return false;
                 }
                 let source = Source {
                     prefix: *prefix,
                     router,
                 };
-                self.request_for_lost(now, source, seqno, cursor);
-                true
+                self.request_for_lost(now, source, seqno, cursor)
             }
         }
     }

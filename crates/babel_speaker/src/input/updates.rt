@@ -24,7 +24,7 @@ use babel_state::Verdict;
 use babel_value::{Distance, Peer, Prefix, Seqno, Source};
 
 /// Whether an update is feasible against the distance of its source (RFC 8966, section 3.5.1).
-fn is_feasible(pair: &Distance, update: &Distance) -> bool
+pub(crate) fn is_feasible(pair: &Distance, update: &Distance) -> bool
     ensures { result ≡ is_feasible (Some pair.now) update.now }
 {
     let (pair, update) = (*pair, *update);
@@ -203,6 +203,7 @@ impl Core {
         ensures state { (self.new, result) ≡ handle_update now update.now.peer update.now.source.prefix update.now.source.router update.now.next_hop update.now.distance update.now.interval self.old }
     {
         if update.source.router.cmp(&self.router).is_eq() {
+            hints.own.hear(&hints.cursor);
             return Verdict::OwnRouterId;
         }
         self.store_and_judge(now, update, hints)

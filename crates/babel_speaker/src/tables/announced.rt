@@ -43,6 +43,7 @@ impl Announced {
     }
 
     /// Whether the prefix is announced.
+    #[inline(always)]
     pub fn contains(&self, prefix: &Prefix) -> bool
         ensures { result ≡ is_some (find prefix_cmp prefix.now self.now) }
     {

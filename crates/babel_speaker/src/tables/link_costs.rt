@@ -88,7 +88,7 @@ impl<'a> Costs for KnownCosts<'a> {
     }
 }
 
-/// What a Hello, an IHU or a tick changed of all that selections depend on.
+/// What a Hello or an IHU changed of all that selections depend on.
 #[derive(Clone, Copy)]
 pub enum LinkChange {
     /// Nothing.

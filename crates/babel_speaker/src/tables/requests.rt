@@ -1,17 +1,19 @@
 //! The table of pending requests for a seqno (RFC 8966, section 3.2.7).
 
-ghost use Rattle.std.specs.Prelude.{◌≡◌, ◌≤◌, [], false, length, option_map, slice_get, IfOk, IsFalse};
+ghost use Rattle.std.specs.Prelude.{◌≡◌, ◌≤◌, ◌↔◌, [], false, length, option_map, slice_get, IfOk, IsErr, IsFalse, IsNone, OnErr, OnOk};
 ghost use Rattle.std.specs.List.{list_any};
-ghost use Rattle.std.specs.FinMap.{find};
+ghost use Rattle.std.specs.FinMap.{find, put};
 ghost use Rattle.babel_value.specs.Orders.{source_cmp};
 ghost use Rattle.babel_table.specs.Entries.{without, revised_entries};
+ghost use Rattle.babel_state.specs.Limits.{most_requests};
 ghost use Rattle.babel_state.specs.PendingRequests.{is_redundant, recorded};
 ghost use Rattle.babel_state.specs.Ticks.{is_due_request};
 
 use babel_state::{MAX_REQUESTS, PendingRequest, REQUEST_WAIT, Resend};
-use babel_table::{SortedTable, Table, find_in};
+use babel_table::{Full, SortedTable, Table, find_near, put_near};
 use babel_value::{Memory, Seqno, Source};
 use std::alloc::Global;
+use std::cell::Cell;
 use std::marker::Model;
 
 /// A request for a route of a source with at least this seqno, which may still go this number of
@@ -32,11 +34,15 @@ pub struct RequestTable {
     pub(crate) table: SortedTable<Source, PendingRequest>,
     /// Before this moment no wait is over.
     pub(crate) due: u64,
+    /// Where the last search ended. It only matters for speed: a search begins there, since the
+    /// prefixes that are lost at once rise.
+    near: Cell<usize>,
 }
 
 impl Model for RequestTable {
     ghost use Rattle.std.specs.Prelude.{◌≡◌};
     ghost use Rattle.babel_table.specs.Dues.{AreDueFrom};
+    ghost use Rattle.babel_state.specs.Limits.{most_requests};
     ghost use Rattle.babel_state.specs.PendingRequests.{PendingRequests};
     ghost use Rattle.babel_state.specs.Limits.{most_requests};
 
@@ -56,6 +62,7 @@ impl RequestTable {
         Ok(RequestTable {
             table,
             due: u64::MAX,
+            near: Cell::new(0),
         })
     }
 
@@ -63,7 +70,10 @@ impl RequestTable {
     pub fn get(&self, source: &Source) -> Option<PendingRequest>
         ensures { result ≡ find source_cmp source.now self.now }
     {
-        find_in(&self.table, source)
+        let mut near = self.near.get();
+        let request = find_near(&self.table, &mut near, source);
+        self.near.set(near);
+        request
     }
 
     /// Whether a request for the source is pending whose seqno isn't smaller (RFC 8966, section
@@ -90,7 +100,9 @@ impl RequestTable {
             due,
         };
         self.due = self.due.min(due);
-        let _ = self.table.put(source, request);
+        let mut near = self.near.get();
+        let _ = store_near(&mut self.table, &mut near, source, request);
+        self.near.set(near);
     }
 
     /// Removes the request for the source, if there is one.
@@ -121,4 +133,26 @@ impl RequestTable {
     {
         self.table.at(index)
     }
+}
+
+/// Stores the request in place of that for its source. `Full` if and only if it is for a new source
+/// and 64 others are pending. The search begins near the index, which becomes that of the request.
+#[inline(always)]
+fn store_near(
+    table: &mut SortedTable<Source, PendingRequest>,
+    near: &mut usize,
+    source: Source,
+    request: PendingRequest,
+) -> Result<(), Full>
+    requires room { table.old.places ≡ most_requests }
+    ensures full { IsErr result ↔ (IsNone (find source_cmp source table.old.entries.items) × (length table.old.entries.items ≡ most_requests)) }
+    ensures ok { OnOk result (table.new.entries.items ≡ put source_cmp source request table.old.entries.items) }
+    ensures err { OnErr result (table.new.entries.items ≡ table.old.entries.items) }
+    ensures room { table.new.places ≡ table.old.places }
+{
+    if table.len() < MAX_REQUESTS {
+        put_near(table, near, source, request);
+        return Ok(());
+    }
+    table.put(source, request)
 }

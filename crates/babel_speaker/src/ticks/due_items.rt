@@ -46,12 +46,14 @@ fn queue_repeat(
     let seqno = request.seqno;
     match request.resend {
         Resend::Unfeasible => {
+            let cursor = &mut walk.cursor;
+            let pair = sources.pair_near(&source, &mut cursor.source);
             let repeat = SeqnoRequest {
                 source,
                 seqno,
                 hops: REQUEST_HOPS,
             };
-            queue_requests_to_unfeasible(pending, routes, sources, &repeat, &mut walk.cursor);
+            let _ = queue_requests_to_unfeasible(pending, routes, sources, &repeat, &pair, cursor);
         }
         Resend::Neighbour(peer) => pending.push(Item::Request {
             peer,
@@ -63,7 +65,9 @@ fn queue_repeat(
     }
 }
 
-/// Queues each request again whose wait is over, but not for the last time.
+/// Queues each request again whose wait is over, but not for the last time. It is a call of its
+/// own, since its loops need the registers.
+#[inline(never)]
 #[tactic(auto, unfolding(babel_state::specs::Queueing::queued), using(crate::proofs::DueItems::nothing_repeated))]
 pub fn queue_repeats(
     pending: &mut PendingItems,

@@ -186,10 +186,11 @@ impl Core {
         self.interfaces.fire_all(now);
     }
 
-    /// Takes the deadlines of Hellos, IHUs and routes, each followed by a reselection of all. If
-    /// the speaker is settled, it selects no route again unless a cost changes, a neighbour is
-    /// flushed or a finite route is due, and only those of one neighbour's prefixes if only the cost
-    /// of its link changes. If it returns `false`, the selected routes are reported as before.
+    /// Takes the deadlines of Hellos and IHUs, and then those of routes. Each step leaves what a
+    /// reselection of all leaves. If the speaker is settled, it looks only at the selected routes.
+    /// The first step then selects those again to whose neighbour the link costs infinity. The
+    /// second step selects those again that were due. If it returns `false`, the selected routes
+    /// are reported as before.
     #[tactic(auto, using(crate::proofs::Settling::still_current))]
     fn tick_selections(&mut self, now: u64, hints: &mut Hints) -> bool
         requires settled { IsTrue hints.old.settled → AreCurrent self.old }

@@ -1,4 +1,5 @@
--- No neighbour is flushed; if the cost of the link is what it was, nothing changed.
+-- If no neighbour is flushed and the cost of the link is what it was, nothing changed. A flush
+-- loses the routes of the neighbour alone.
 use Rattle.std.proofs.Common.{sym, ◌∙◌}
 use Rattle.babel_speaker.proofs.Settling.{heard_current}
 use Rattle.babel_state.proofs.KeptRoutes.{hello_routes}

@@ -8,6 +8,6 @@ pub invariant_of-self : goal.invariant_of-self
 invariant_of-self c =
     let old = c.self.inside in
     let request : PendingRequest = record { seqno = c.args.seqno; resend = c.args.resend; wait = 200; due = c.saturating_add-due.result } in (
-      c.put.ensures.room ∙ c.self.invariant.0,
-      recorded_due c.put.result c.min-self-inside.result old.due c.args.source request old.table.entries.items c.put.new.self.entries.items (omega (arith, c.min-self-inside.ensures)) (omega (arith, c.min-self-inside.ensures)) c.put.ensures.ok c.put.ensures.err c.self.invariant.1,
+      c.store_near.ensures.room ∙ c.self.invariant.0,
+      recorded_due c.store_near.result c.min-self-inside.result old.due c.args.source request old.table.entries.items c.store_near.new.table.entries.items (omega (arith, c.min-self-inside.ensures)) (omega (arith, c.min-self-inside.ensures)) c.store_near.ensures.ok c.store_near.ensures.err c.self.invariant.1,
     )
