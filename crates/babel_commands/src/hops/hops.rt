@@ -1,14 +1,16 @@
 //! The next hops that were printed last.
 
+ghost use Rattle.std.specs.Prelude.{◌+◌, ◌≤◌, length};
+ghost use Rattle.babel_value.specs.Lines.{line_room};
+
 use crate::hops::networks::{Hop, Runs};
 use babel_choice::Selection;
 use babel_state::Config;
 use babel_text::LineFault;
-use babel_value::{Addr, Peer, Prefix, RouterId};
+use babel_value::{Addr, Line, Peer, Prefix, RouterId};
 use indexmap::IndexSet;
 use std::alloc::{AllocError, Global};
 use std::cmp::Ordering;
-use std::fmt;
 use std::io::Write;
 
 /// What is printed of a selected route.
@@ -205,6 +207,7 @@ fn printed_of<N: Runs>(network: &N, node: usize, prefix: &Prefix) -> Option<Prin
     })
 }
 
+/// Writes the line of a next hop. It is put together first, since an event may change many.
 fn write_hop<W: Write>(
     number: usize,
     node: usize,
@@ -212,29 +215,52 @@ fn write_hop<W: Write>(
     printed: Option<Printed>,
     out: &mut W,
 ) -> Result<(), LineFault> {
-    let written = match printed {
-        Some(printed) => writeln!(out, "{number} hop {node} {prefix} -> {printed}"),
-        None => writeln!(out, "{number} hop {node} {prefix} -> none"),
-    };
-    written.map_err(LineFault::of_writing)
+    let mut line = Line::new();
+    line.push_usize(number);
+    line.push_str(" hop ");
+    line.push_usize(node);
+    line.push_str(" ");
+    line.push_prefix(prefix);
+    match printed {
+        Some(printed) => push_printed(&mut line, &printed),
+        None => line.push_str(" -> none\n"),
+    }
+    out.write_all(line.octets()).map_err(LineFault::of_writing)
 }
 
-impl fmt::Display for Printed {
-    fn fmt<W: fmt::Write>(&self, f: &mut fmt::Formatter<W>) -> fmt::Result {
-        let router = self.router;
-        match self.hop {
-            Hop::Ours(node) => write!(f, "{node} router {router}"),
-            Hop::Foreign {
-                neighbour,
-                next_hop,
-                node,
-            } => {
-                write!(f, "{neighbour} router {router} next-hop {next_hop}")?;
-                match node {
-                    Some(node) => write!(f, " node {node}"),
-                    None => Ok(()),
-                }
+/// Appends the next hop, with which the line ends.
+fn push_printed(line: &mut Line, printed: &Printed)
+    requires { length line.old + 150 ≤ line_room }
+{
+    line.push_str(" -> ");
+    match printed.hop {
+        Hop::Ours(node) => {
+            line.push_usize(node);
+            push_router(line, printed.router);
+        }
+        Hop::Foreign {
+            neighbour,
+            next_hop,
+            node,
+        } => {
+            line.push_addr(&neighbour);
+            push_router(line, printed.router);
+            line.push_str(" next-hop ");
+            line.push_addr(&next_hop);
+            if let Some(node) = node {
+                line.push_str(" node ");
+                line.push_usize(node);
             }
         }
     }
+    line.push_str("\n");
+}
+
+/// Appends the router that announces the prefix.
+fn push_router(line: &mut Line, router: RouterId)
+    requires { length line.old + 24 ≤ line_room }
+    ensures { length line.new ≤ length line.old + 24 }
+{
+    line.push_str(" router ");
+    line.push_router_id(router);
 }
