@@ -96,10 +96,11 @@ select_text time prefix choice = select_head time ++ prefix_text prefix ++ codes
 abbrev pub table_text : PrefixValue → Option Choice → List ℕ
 table_text prefix choice = codes "table " ++ prefix_text prefix ++ codes " " ++ choice_text choice
 
--- What follows the head, and what follows the prefix there.
+-- What follows the prefix in such a line.
 abbrev pub choice_end : Option Choice → List ℕ
 choice_end choice = line (codes " " ++ choice_text choice)
 
+-- What follows the head.
 abbrev pub selection_line : PrefixValue → Option Choice → List ℕ
 selection_line prefix choice = prefix_text prefix ++ choice_end choice
 
