@@ -131,8 +131,8 @@ impl<'a, T: Table<RouteKey, Entry>> PrefixRoutes<'a, T> {
         }
     }
 
-    /// The same. The search begins at the index, which goes to the first route of the prefix: so the
-    /// routes of rising prefixes are found in one walk over the table.
+    /// The same. The search begins at the index, which goes to the first route of the prefix: so
+    /// the routes of rising prefixes are found in one walk over the table.
     #[inline(always)]
     pub fn new_near(table: &'a T, prefix: Prefix, near: &mut usize) -> PrefixRoutes<'a, T>
         ensures { result ≡ routes_of prefix (T.entries table.now) }

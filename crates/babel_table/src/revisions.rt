@@ -1,6 +1,6 @@
 //! A revision of all entries of a table, in one pass.
 
-ghost use Rattle.std.specs.Prelude.{◌≡◌, ℕ, ◌≤◌, ◌<◌, ◌++◌, Option, length, take, drop, vec_len, vec_capacity};
+ghost use Rattle.std.specs.Prelude.{◌≡◌, ℕ, ◌≤◌, ◌<◌, ◌++◌, Option, None, IsTrue, length, take, drop, vec_len, vec_capacity};
 ghost use Rattle.babel_table.specs.Dues.{AreDueFrom};
 ghost use Rattle.babel_table.specs.Entries.{revised_entries};
 ghost use Rattle.babel_table.specs.Revisions.{revised_value};
@@ -89,8 +89,20 @@ fn revise_in_place<K: Copy, V: Copy, R: Revision<K, V>, M: Moments<V>>(
     }
 }
 
+/// Whether the entry is removed.
+#[inline(always)]
+fn is_removed<K: Copy, V: Copy, R: Revision<K, V>>(entry: &(K, V), revision: &R) -> bool
+    ensures { IsTrue result → R.revised revision.now entry.now.0 entry.now.1 ≡ None }
+{
+    match revision.revise(&entry.0, &entry.1) {
+        Revised::Removed => true,
+        Revised::Kept | Revised::Changed(_) => false,
+    }
+}
+
 /// The index of the first entry from an index on that is left, or their number if there is none.
-/// Entries that are removed mostly follow one another, and nothing is copied for them.
+/// Entries that are removed mostly follow one another, and nothing is copied for them. Two are
+/// looked at in each turn, so that the turns take little next to that.
 #[inline(always)]
 fn pass_removed<K: Copy, V: Copy, R: Revision<K, V>>(
     entries: &[(K, V)],
@@ -102,14 +114,19 @@ fn pass_removed<K: Copy, V: Copy, R: Revision<K, V>>(
     ensures within { result ≤ length entries.now }
     ensures removed { revised_entries (R.revised revision.now) (drop result entries.now) ≡ revised_entries (R.revised revision.now) (drop from entries.now) }
 {
-    for index in from..entries.len() {
-        let entry = &entries[index];
-        match revision.revise(&entry.0, &entry.1) {
-            Revised::Removed => {}
-            Revised::Kept | Revised::Changed(_) => return index,
+    let mut left = &entries[from..];
+    while let [first, second, rest @ ..] = left {
+        if !is_removed(first, revision) || !is_removed(second, revision) {
+            break;
+        }
+        left = rest;
+    }
+    if let [first, rest @ ..] = left {
+        if is_removed(first, revision) {
+            left = rest;
         }
     }
-    entries.len()
+    entries.len() - left.len()
 }
 
 /// Revises the entries after those that are left already, of which the first is removed. Each that

@@ -1,6 +1,6 @@
 -- Which texts spell a number: those of digits alone that no zero begins.
-use Rattle.std.proofs.Common.{◌≡◌, ℕ, ◌^◌, ◌+◌, ◌*◌, ◌-◌, ◌<◌, ◌≤◌, ◌==◌, ◌&&◌, nat_lt, Bool, true, false, List, [], length, take, get_or, sym, ap, subst, ◌∙◌, lit≤, arith, inl, inr, eq-eqb, eqb-true, ltb-true, lt-ltb, Option, Some, None, MatchOption, Result, Ok, Err}
-use Rattle.std.proofs.lemmas.Bool.{cases_lt, and_parts, both_ways, and_from}
+use Rattle.std.proofs.Common.{◌≡◌, refl, ℕ, ◌^◌, ◌+◌, ◌*◌, ◌-◌, ◌<◌, ◌≤◌, ◌==◌, ◌&&◌, nat_lt, Bool, true, false, List, [], length, take, get_or, sym, ap, subst, ◌∙◌, lit≤, arith, inl, inr, eq-eqb, eqb-true, ltb-true, lt-ltb, Option, Some, None, MatchOption, Result, Ok, Err}
+use Rattle.std.proofs.lemmas.Bool.{cases_lt, and_parts, both_ways, and_from, false_from_ne_true}
 use Rattle.std.proofs.lemmas.Fmt.{decimal_is_IsNumeral, decimal_digit, first_decimal, decimal-digits_value, decimal_injective}
 use Rattle.std.proofs.lemmas.Int.Digits.{digits_value_more}
 use Rattle.std.proofs.lemmas.List.{take_all}
@@ -90,6 +90,29 @@ last_goes ds i value last before so None none = none_goes ds i value (omega arit
 last_goes ds i value last before so (Some number) (digit, is, small) =
     let whole = is ∙ value_goes ds i value (omega arith) digit so ∙ ap (digits_value 10) (take_all (i + 1) ds (omega arith)) in
     (all_are_digits ds (omega arith) (λ k below. in_range_goes ds i before digit k (omega arith)), subst (λ n. n < 2 ^ 64) whole small, whole)
+
+-- Two digits, of which the first one is no zero.
+pub two_spelled : (text : List ℕ) → length text ≡ 2 → (r : Option ℕ) →
+    MatchOption r (¬ (IsInRange 49 57 (get_or text 0 0) × IsInRange 48 57 (get_or text 1 0))) (λ n. IsInRange 49 57 (get_or text 0 0) × IsInRange 48 57 (get_or text 1 0) × (n ≡ (get_or text 0 0 - 48) * 10 + (get_or text 1 0 - 48))) →
+    Reads (IsNumberText 64) text r
+two_spelled text two None none = λ n spelled.
+    let is : IsNumeral 10 text = rw spelled.1 (decimal_is_IsNumeral n spelled.0).0 in
+    let first = digit_at text 0 is.1 (omega (arith, two)) in
+    let second = digit_at text 1 is.1 (omega (arith, two)) in
+    elim (cases_lt (get_or text 0 0) 49) [
+      | inl less ↦
+          let zero : get_or text 0 0 ≡ 48 = omega (arith, less, first.0) in
+          no_number text (and_from _ _ (eq-eqb _ 48 zero) (lt-ltb 1 (length text) (omega (arith, two)))) n spelled
+      | inr not_less ↦ none ((not_less, first.1), second)
+    ]
+two_spelled text two (Some n) (first, second, is) =
+    let ten : IsInRange 48 57 (get_or text 0 0) = (omega (arith, first.0), first.1) in
+    let tens = value_goes text 0 0 (omega (arith, two)) ten refl in
+    let whole = is ∙ value_goes text 1 (get_or text 0 0 - 48) (omega (arith, two)) second (omega (arith, tens)) ∙ ap (digits_value 10) (take_all 2 text (omega (arith, two))) in
+    let numeral = all_are_digits text (omega (arith, two)) (λ k below. in_range_goes text 1 (in_range_goes text 0 (λ k below. absurd (omega (arith, below))) ten) second k (omega (arith, two, below))) in
+    let front = false_from_ne_true (has_leading_zero text) (λ begins. let zero = eqb-true (get_or text 0 0) 48 (and_parts (get_or text 0 0 == 48) _ begins).0 in omega (arith, zero, first.0)) in
+    let small : digits_value 10 text < 2 ^ 64 = omega (arith, whole, is, first.1, second.1) in
+    rw whole (number_read text front numeral small)
 
 -- A number that is read as one of fewer bits.
 pub number_narrowed : {E : Type 0} (bits : ℕ) (text : List ℕ) (n : ℕ) (r : Result ℕ E) → 2 ^ bits ≤ 2 ^ 64 → IsNumberText 64 text n → OkIff r (n < 2 ^ bits) n → Reads (IsNumberText bits) text (result_ok r)

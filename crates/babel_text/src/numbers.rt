@@ -54,10 +54,29 @@ pub fn u16_of(text: &[u8]) -> Option<u16>
 pub fn u64_of(text: &[u8]) -> Option<u64>
     ensures { Reads (IsNumberText 64) text.now result }
 {
+    if let [ten, one] = *text {
+        return two_digits(ten, one);
+    }
     if has_leading_zero(text) {
         return None;
     }
     value_of(text)
+}
+
+/// The number of two digits, `None` exactly if the first one is no digit but zero, or the second
+/// one no digit.
+#[inline(always)]
+fn two_digits(ten: u8, one: u8) -> Option<u64>
+    ensures { MatchOption result (¬ (IsInRange 49 57 ten × IsInRange 48 57 one))
+        (λ number. IsInRange 49 57 ten × IsInRange 48 57 one × (number ≡ (ten - 48) * 10 + (one - 48))) }
+{
+    // So one test refuses a first zero, too.
+    let tens = ten.wrapping_sub(b'1');
+    let ones = one.wrapping_sub(b'0');
+    if tens > 8 || ones > 9 {
+        return None;
+    }
+    Some((u64::from(tens) + 1) * 10 + u64::from(ones))
 }
 
 /// The number before the first blank, and the octets after that. `None` exactly if there is no
@@ -107,8 +126,8 @@ fn has_leading_zero(text: &[u8]) -> bool
 }
 
 /// The number that digits write, `None` exactly if there is no digit, if another octet is among
-/// them, or if the number isn't below 2^64. Most numbers have one digit or two: these are read
-/// without a loop.
+/// them, or if the number isn't below 2^64. Many numbers have one digit: these are read without a
+/// loop.
 #[inline]
 fn value_of(digits: &[u8]) -> Option<u64>
     ensures { MatchOption result (¬ (IsNumeral 10 digits.now × (digits_value 10 digits.now < 2 ^ 64)))
@@ -116,7 +135,6 @@ fn value_of(digits: &[u8]) -> Option<u64>
 {
     match *digits {
         [one] => next_value(0, one),
-        [ten, one] => next_value(next_value(0, ten)?, one),
         _ => long_value_of(digits),
     }
 }

@@ -134,9 +134,9 @@ pub fn has_finite(routes: &Routes, prefix: &Prefix, near: &mut usize) -> bool
     false
 }
 
-/// Queues a request to the neighbour of each unfeasible route to the prefix of the source, which has
-/// this pair. Returns whether there is one. The routes of a prefix are mostly of one router, so the
-/// pair is that of most. The searches begin at the cursor, which goes to the next prefix.
+/// Queues a request to the neighbour of each unfeasible route to the prefix of the source, which
+/// has this pair. Returns whether there is one. The routes of a prefix are mostly of one router, so
+/// the pair is that of most. The searches begin at the cursor, which goes to the next prefix.
 #[inline(always)]
 #[tactic(auto, unfolding(babel_state::specs::Queueing::queued), using(crate::proofs::Feasibility::unfeasible_of, crate::proofs::Feasibility::any_unfeasible_of))]
 pub fn queue_requests_to_unfeasible(

@@ -44,7 +44,6 @@ impl Model for RequestTable {
     ghost use Rattle.babel_table.specs.Dues.{AreDueFrom};
     ghost use Rattle.babel_state.specs.Limits.{most_requests};
     ghost use Rattle.babel_state.specs.PendingRequests.{PendingRequests};
-    ghost use Rattle.babel_state.specs.Limits.{most_requests};
 
     ghost Value = { PendingRequests };
 

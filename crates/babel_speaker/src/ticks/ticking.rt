@@ -56,8 +56,8 @@ impl Core {
 
     /// Selects routes again after the deadlines of Hellos and IHUs. It leaves what a reselection of
     /// all leaves. A settled speaker looks only at the selected routes, of which those are lost to
-    /// whose neighbour the link costs infinity now. If it returns `false`, nothing changed by it and
-    /// no cost did either.
+    /// whose neighbour the link costs infinity now. If it returns `false`, nothing changed by it
+    /// and no cost did either.
     #[tactic(auto, using(crate::proofs::Settling::settled_all))]
     fn reselect_links(&mut self, changes: CostChanges, now: u64, hints: &mut Hints) -> bool
         requires nothing { IsTrue hints.old.settled → changes ≡ Nothing → AreCurrent self.old }
