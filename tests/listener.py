@@ -73,7 +73,11 @@ def hellos_in(octets):
 
 
 class Stalls:
-    """A process that wakes every 20 ms. It shows how late the machine wakes any process meanwhile."""
+    """A process that wakes on each processor every 20 ms. It shows how late the machine wakes one.
+
+    Each processor counts: a virtual one may pause while the others run, and with it the process
+    that is to send a Hello.
+    """
 
     def __init__(self):
         self.process = subprocess.Popen([sys.executable, os.path.abspath(__file__)], stdin=subprocess.PIPE, stdout=subprocess.PIPE, text=True)
@@ -83,16 +87,34 @@ class Stalls:
         return float(self.process.communicate()[0])
 
 
+class Watch(threading.Thread):
+    """Wakes on one processor until it is ended, and keeps by how much that was too late at most."""
+
+    def __init__(self, processor, ended):
+        super().__init__(daemon=True)
+        self.processor, self.ended, self.latest = processor, ended, 0.0
+
+    def run(self):
+        # (0 is the thread that calls)
+        os.sched_setaffinity(0, {self.processor})
+        last = time.monotonic()
+        while not self.ended.is_set():
+            time.sleep(PERIOD)
+            now = time.monotonic()
+            self.latest, last = max(self.latest, now - last - PERIOD), now
+
+
 def watch():
-    """Wakes until the input ends, and prints by how much that was too late at most."""
+    """Wakes on each processor until the input ends. Prints by how much it was too late at most."""
     ended = threading.Event()
-    threading.Thread(target=lambda: (sys.stdin.read(), ended.set()), daemon=True).start()
-    latest, last = 0.0, time.monotonic()
-    while not ended.is_set():
-        time.sleep(PERIOD)
-        now = time.monotonic()
-        latest, last = max(latest, now - last - PERIOD), now
-    print(latest)
+    watches = [Watch(processor, ended) for processor in os.sched_getaffinity(0)]
+    for it in watches:
+        it.start()
+    sys.stdin.read()
+    ended.set()
+    for it in watches:
+        it.join()
+    print(max(it.latest for it in watches))
 
 
 if __name__ == "__main__":
