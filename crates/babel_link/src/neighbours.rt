@@ -155,6 +155,16 @@ impl Neighbours {
         }
     }
 
+    /// Forgets all neighbours. Their room stays.
+    pub fn clear(&mut self)
+        ensures { self.new ≡ [] }
+    {
+        self.links.clear();
+        self.due = u64::MAX;
+        self.near.set(0);
+        self.sender.set(0);
+    }
+
     /// Where the peer's entry is, or where it would be inserted.
     fn search(&self, peer: &Peer) -> Result<usize, usize>
         ensures found { IfOk result (IsPlaceOf peer.now self.now) }

@@ -5,13 +5,14 @@ use Rattle.std.proofs.lemmas.Bool.Decides.{nat_tests}
 use Rattle.std.proofs.lemmas.Option.{none-some, slice_get_past, slice_get-get_or, slice_get_read, slice_get_cases}
 use Rattle.babel_value.specs.declared.addresses.Addr.TheVariants.{V4}
 use Rattle.babel_state.specs.declared.configs.Config.{Config}
+use Rattle.babel_state.specs.Restarts.{restarted}
 use Rattle.babel_state.specs.State.{State}
 use Rattle.babel_machine.specs.declared.events.Event.{Event}
 use Rattle.babel_machine.specs.declared.events.Event.TheVariants as events
 use Rattle.babel_machine.specs.declared.errors.StepFault.{StepFault}
 use Rattle.babel_machine.specs.declared.errors.StepFault.TheVariants.{NoNode, NoDatagram}
 use Rattle.babel_net.specs.Networks.{NetworkState, SentOctets, with_speaker_state}
-use Rattle.babel_net.specs.Steps.{MakesCall, Makes, step_of}
+use Rattle.babel_net.specs.Steps.{MakesCall, MakesRestart, Makes, step_of}
 use Rattle.babel_net.specs.EventRefusals.{node_of, call_fault, event_fault, deliver_fault, interface_fault, fault_at, step_fault, IsFaultOrMemory, IsStepFault}
 use Rattle.babel_net.specs.Invariants.{IsRunning}
 use Rattle.babel_net.proofs.SeenWorlds.{written_back}
@@ -150,6 +151,18 @@ pub emit_accepted : {T : Type 0} (r : Result T StepFault) (event : Event) (node 
 emit_accepted (Ok done) event node now n net is inside =
     subst (λ (e : Event). step_fault e n ≡ None) (sym is) (emit_free node now n net (subst (λ (e : Event). node_of e < length n.speakers) is inside))
 emit_accepted (Err fault) event node now n net is inside = tt
+
+-- What a restart leaves at its node's place, whether or not it was refused.
+pub restart_made : {T : Type 0} (r : Result T StepFault) (node now : ℕ) (old new : NetworkState) (s t : State) (c : Config) → slice_get old.speakers node ≡ Some s → slice_get old.configs node ≡ Some c →
+    new ≡ with_speaker_state old node t → OnOk r (t ≡ restarted now c s) → OnOk r (MakesRestart node now old new)
+restart_made (Ok done) node now old new s t c speaker config next is =
+    record { speaker = s; is = speaker; config = c; configured = config; next = next ∙ ap (with_speaker_state old node) is }
+restart_made (Err fault) node now old new s t c speaker config next is = tt
+
+pub restart_same : {T : Type 0} (r : Result T StepFault) (node : ℕ) (old new : NetworkState) (s t : State) → slice_get old.speakers node ≡ Some s → new ≡ with_speaker_state old node t → OnErr r (t ≡ s) →
+    OnErr r (new ≡ old)
+restart_same (Ok done) node old new s t speaker next same = tt
+restart_same (Err fault) node old new s t speaker next same = next ∙ ap (with_speaker_state old node) same ∙ written_back old node s speaker
 
 restart_free : (node now : ℕ) (n : NetworkState) → IsRunning n → node < length n.speakers → step_fault (events.Restart node now) n ≡ None
 restart_free node now n net inside =

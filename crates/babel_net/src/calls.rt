@@ -27,7 +27,6 @@ use babel_state::laws::{datagrams_send, items_mean_messages};
 use babel_state::{Config, ConfigFault, RecvFault, RestoreFault, SetCostFault, Target};
 use babel_tlv::DATAGRAM_LEN;
 use babel_value::{Addr, Prefix};
-use std::alloc::Global;
 
 /// The node that an event is of.
 pub fn node_of(event: &Event) -> usize
@@ -204,23 +203,19 @@ pub(crate) fn hear(speaker: &mut NodeSpeaker, heard: &Heard<'_>) -> Result<Heari
     }
 }
 
-/// The speaker after a restart: it is saved, and restored with its configuration.
-pub(crate) fn restart(
-    alloc: Global,
-    speaker: &NodeSpeaker,
-    config: &Config,
-    now: u64,
-) -> Result<NodeSpeaker, StepFault>
-    requires router { speaker.now.router ≡ config.now.router_id }
+/// The speaker restarts: it is saved, and restored with its configuration in its own place.
+pub(crate) fn restart(speaker: &mut NodeSpeaker, config: &Config, now: u64) -> Result<(), StepFault>
+    requires router { speaker.old.router ≡ config.now.router_id }
     requires valid { config_fault config.now ≡ None }
-    ensures ok { IfOk result (λ new. new ≡ restarted now config.now speaker.now) }
+    ensures ok { OnOk result (speaker.new ≡ restarted now config.now speaker.old) }
     ensures refused { IfErr result (λ fault. fault ≡ StepFault.Memory) }
+    ensures err { OnErr result (speaker.new ≡ speaker.old) }
 {
     let Ok(octets) = speaker.save() else {
         return Err(StepFault::Memory);
     };
-    match NodeSpeaker::restore_from(alloc, config, now, &octets) {
-        Ok(speaker) => Ok(speaker),
+    match speaker.restore_in_place(config, now, &octets) {
+        Ok(()) => Ok(()),
         Err(RestoreFault::Config(ConfigFault::Memory)) => Err(StepFault::Memory),
         Err(_) => unreachable!(),
     }

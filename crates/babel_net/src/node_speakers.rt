@@ -56,21 +56,19 @@ impl NodeSpeaker {
         }
     }
 
-    pub(crate) fn restore_from(
-        alloc: Global,
+    pub(crate) fn restore_in_place(
+        &mut self,
         config: &Config,
         now: u64,
         octets: &[u8],
-    ) -> Result<NodeSpeaker, RestoreFault>
-        ensures ok { IfOk result (λ speaker. speaker ≡ restored now config.now (snapshot_in octets.now)) }
+    ) -> Result<(), RestoreFault>
+        ensures ok { OnOk result (self.new ≡ restored now config.now (snapshot_in octets.now)) }
         ensures valid { IsOk result → IsNone (config_fault config.now) }
         ensures whole { IsOk result → IsNone (restore_fault config.now.router_id octets.now) }
         ensures refused { IfErr result (λ fault. IsRestoreFault (config_fault config.now) (restore_fault config.now.router_id octets.now) fault) }
+        ensures err { OnErr result (self.new ≡ self.old) }
     {
-        match Speaker::restore_from(alloc, config, now, octets) {
-            Ok(speaker) => Ok(NodeSpeaker { speaker }),
-            Err(fault) => Err(fault),
-        }
+        self.speaker.restore_in_place(config, now, octets)
     }
 
     pub(crate) fn save(&self) -> Result<Vec<u8>, Memory>

@@ -231,9 +231,7 @@ impl Nodes {
         ensures refused { IfErr result (λ fault. fault ≡ StepFault.Memory) }
         ensures err { OnErr result (self.new ≡ self.old) }
     {
-        let speaker = restart(self.alloc, &self.speakers[node], &self.configs[node], now)?;
-        self.speakers[node] = speaker;
-        Ok(())
+        restart(&mut self.speakers[node], &self.configs[node], now)
     }
 
     /// The configurations.

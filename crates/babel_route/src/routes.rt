@@ -433,6 +433,18 @@ impl<E: Table<RouteKey, Entry>, S: Table<Prefix, Selection>> RoutesOver<E, S> {
     }
 }
 
+impl RoutesOver<RouteTable, SelectionTable> {
+    /// Removes all routes and selections. Their room stays.
+    pub fn clear(&mut self)
+        ensures { self.new ≡ record { entries = []; selections = [] } }
+    {
+        self.entries.clear();
+        self.selections.clear();
+        self.due = u64::MAX;
+        self.taken = 0;
+    }
+}
+
 /// Who announces the prefix, by whether it is the speaker's own.
 fn origin_of(local: bool) -> Origin
     ensures { is_own result ≡ local }

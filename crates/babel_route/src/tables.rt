@@ -2,6 +2,7 @@
 //! about a call over any tables takes them by their names: as aliases of `SortedTable` each such
 //! call of a speaker takes seconds.
 
+ghost use Rattle.std.specs.Prelude.{◌≡◌, []};
 ghost use Rattle.babel_table.specs.Digits.{binary_digits};
 ghost use Rattle.babel_table.specs.Gaps.{around};
 
@@ -154,5 +155,25 @@ impl Table<Prefix, Selection> for SelectionTable {
     #[inline(always)]
     fn at(&self, place: usize) -> Option<(Prefix, Selection)> {
         self.table.at(place)
+    }
+}
+
+impl RouteTable {
+    /// Removes all entries.
+    pub(crate) fn clear(&mut self)
+        ensures entries { self.new.table.entries.items ≡ [] }
+        ensures places { self.new.table.places ≡ self.old.table.places }
+    {
+        self.table.clear();
+    }
+}
+
+impl SelectionTable {
+    /// Removes all entries.
+    pub(crate) fn clear(&mut self)
+        ensures entries { around self.new.table.entries.gap self.new.table.entries.hole self.new.table.entries.slots.items ≡ [] }
+        ensures places { self.new.table.places ≡ self.old.table.places }
+    {
+        self.table.clear();
     }
 }

@@ -1,5 +1,8 @@
 pub mod RecordsWritten
 pub mod RecordsRead
+pub mod TestedRecords
+pub mod Zeros
+pub mod ClearBits
 pub mod Orders
 pub mod SnapshotsRead
 pub mod SnapshotsWritten

@@ -1,8 +1,5 @@
 -- A record that is read has the octets of its source.
 use Rattle.std.specs.Prelude.{◌≡◌, ℕ, ◌<◌, ◌≤◌, Bool, true, false, List, [], ◌∷◌, ◌++◌, take, drop, length, replicate, slice_index, nat_le, nat_lt, ◌==◌, Option, Some, None, option_and_then, option_map, if◌then◌else◌}
-use Rattle.std.specs.declared.cmp.Ordering.{Ordering}
-use Rattle.std.specs.declared.cmp.Ordering.TheVariants.{Less, Equal, Greater}
-use Rattle.std.specs.Ordering.{is_eq}
 use Rattle.std.specs.Str.{bytes_eq}
 use Rattle.std.specs.Cmp.Lexicographic.{bytes_decides}
 use Rattle.std.proofs.Common.{refl, sym, ap, subst, ◌∙◌, arith, drop-drop}
@@ -15,14 +12,13 @@ use Rattle.babel_value.specs.declared.addresses.Addr.TheVariants.{V4, V6}
 use Rattle.babel_value.specs.declared.distances.Distance.{Distance}
 use Rattle.babel_value.specs.declared.keys.Source.{Source}
 use Rattle.babel_value.specs.Addresses.{width_of}
-use Rattle.babel_value.specs.Orders.{addr_cmp}
 use Rattle.babel_value.specs.Prefixes.{PrefixValue, cleared_addr, prefix_of}
 use Rattle.babel_value.specs.RouterIds.{is_reserved, router_id_of}
-use Rattle.babel_value.proofs.OrderLaws.{addr_exact}
 use Rattle.babel_state.specs.Sameness.{is_same_addr}
 use Rattle.babel_snapshot.specs.Octets.{addr_octets, source_octets}
 use Rattle.babel_snapshot.specs.Reading.{addr_in, is_prefix, prefix_with, prefix_in, source_with, source_in, distance_in, with_distance, record_in}
 use Rattle.babel_snapshot.specs.SnapshotLaws.{addr_len, wanted_len, IsSource}
+use Rattle.babel_snapshot.proofs.ClearBits.{same_addr}
 
 -- ---- what a value comes from
 
@@ -41,11 +37,6 @@ if_some false m a is = absurd (none-some a is)
 unless_some : {A : Type 0} (b : Bool) (m : Option A) (a : A) → (if b then None else m) ≡ Some a → (b ≡ false) × (m ≡ Some a)
 unless_some true m a is = absurd (none-some a is)
 unless_some false m a is = (refl, is)
-
-tied : (r : Ordering) → is_eq r ≡ true → r ≡ Equal
-tied Less e = cc
-tied Equal e = refl
-tied Greater e = cc
 
 first_octet : (xs : List ℕ) → 0 < length xs → take 1 xs ≡ slice_index xs 0 ∷ []
 first_octet [] e = absurd (omega arith)
@@ -92,7 +83,7 @@ addr_read r addr e is = by (slice_index r 0 == 1) refl is
 
 -- ---- the prefix
 
-abbrev made_prefix : Addr → ℕ → PrefixValue
+abbrev pub made_prefix : Addr → ℕ → PrefixValue
 made_prefix addr n = record { addr = addr; length = n }
 
 abbrev made_source : PrefixValue → List ℕ → Source
@@ -104,16 +95,30 @@ record IsPrefixRead (r : List ℕ) (p : PrefixValue) : Type 0 where
   bits : p.length ≤ width_of p.addr
   cleared : cleared_addr p.length p.addr ≡ p.addr
 
+-- A prefix that is read is the address with the length: the address is wide enough, and has no bits past the length.
+pub record IsPrefixWith (n : ℕ) (addr : Addr) (p : PrefixValue) : Type 0 where
+  pub bits : n ≤ width_of addr
+  pub cleared : cleared_addr n addr ≡ addr
+  pub named : made_prefix addr n ≡ p
+
+pub prefix_with_parts : (n : ℕ) (addr : Addr) (p : PrefixValue) → prefix_with n addr ≡ Some p → IsPrefixWith n addr p
+prefix_with_parts n addr p is =
+    let parts = if_some (is_prefix addr n) (prefix_of addr n) p is in
+    let tests = and_parts (nat_le n (width_of addr)) (is_same_addr (cleared_addr n addr) addr) parts.0 in
+    let clear : cleared_addr n addr ≡ addr = same_addr (cleared_addr n addr) addr tests.1 in
+    let same = if_some (nat_le n (width_of addr)) (Some (made_prefix (cleared_addr n addr) n)) p parts.1 in
+    record {
+      bits = leb-true n (width_of addr) tests.0;
+      cleared = clear;
+      named = ap (λ a. made_prefix a n) (sym clear) ∙ same_Some (made_prefix (cleared_addr n addr) n) p same.1;
+    }
+
 prefix_with_read : (r : List ℕ) (addr : Addr) (p : PrefixValue) → IsAddrRead r addr → prefix_with (slice_index r 17) addr ≡ Some p → IsPrefixRead r p
 prefix_with_read r addr p read is =
     let n = slice_index r 17 in
-    let parts = if_some (is_prefix addr n) (prefix_of addr n) p is in
-    let tests = and_parts (nat_le n (width_of addr)) (is_same_addr (cleared_addr n addr) addr) parts.0 in
-    let clear : cleared_addr n addr ≡ addr = addr_exact (cleared_addr n addr) addr (tied (addr_cmp (cleared_addr n addr) addr) tests.1) in
-    let same = if_some (nat_le n (width_of addr)) (Some (made_prefix (cleared_addr n addr) n)) p parts.1 in
-    let whole : IsPrefixRead r (made_prefix addr n) = record { addr = read; length = refl; bits = leb-true n (width_of addr) tests.0; cleared = clear } in
-    let named : made_prefix addr n ≡ p = ap (λ a. made_prefix a n) (sym clear) ∙ same_Some (made_prefix (cleared_addr n addr) n) p same.1 in
-    subst (IsPrefixRead r) named whole
+    let parts : IsPrefixWith n addr p = prefix_with_parts n addr p is in
+    let whole : IsPrefixRead r (made_prefix addr n) = record { addr = read; length = refl; bits = parts.bits; cleared = parts.cleared } in
+    subst (IsPrefixRead r) parts.named whole
 
 prefix_read : (r : List ℕ) (p : PrefixValue) → length r ≡ 30 → prefix_in r ≡ Some p → IsPrefixRead r p
 unfolding prefix_in

@@ -1,5 +1,5 @@
 -- What is read of octets without a fault: each record, and that their sources rise.
-use Rattle.std.specs.Prelude.{◌≡◌, ℕ, zero, suc, ◌+◌, ◌*◌, ◌<◌, ◌≤◌, ◌^◌, Bool, true, false, not, nat_lt, ◌==◌, List, [], ◌∷◌, ◌++◌, All, take, drop, length, slice_get, Option, Some, None, is_some, option_to_list, if◌then◌else◌}
+use Rattle.std.specs.Prelude.{◌≡◌, ℕ, zero, suc, ◌+◌, ◌*◌, ◌<◌, ◌≤◌, ◌^◌, Bool, true, false, not, nat_lt, ◌==◌, List, [], ◌∷◌, ◌++◌, All, take, drop, length, slice_get, Option, Some, None, IsSome, is_some, option_to_list, if◌then◌else◌}
 use Rattle.std.specs.Option.{option_or}
 use Rattle.std.specs.declared.cmp.Ordering.{Ordering}
 use Rattle.std.specs.declared.cmp.Ordering.TheVariants.{Less, Greater}
@@ -134,6 +134,18 @@ sources_at (suc n) i octets none below =
     by f len before (inr more) =
         let same : n ≡ i = omega arith in
         get_last (sources_in n octets) f.e i (len ∙ same) ∙ sym (subst (λ k. record_in (record_at k octets) ≡ Some f.e) same f.is)
+
+pub record_is_there : (n i : ℕ) (octets : List ℕ) → records_fault n octets ≡ None → i < n → IsSome (record_in (record_at i octets))
+record_is_there zero i octets none below = absurd (omega arith)
+record_is_there (suc n) i octets none below =
+    let parts = or_none (records_fault n octets) (record_fault n octets) none in
+    by (fine n octets parts.1) (λ less. record_is_there n i octets parts.0 less) (cases_lt i n)
+  where
+    by : IsFine n octets → (i < n → IsSome (record_in (record_at i octets))) → (i < n) ⊎ (n ≤ i) → IsSome (record_in (record_at i octets))
+    by f before (inl less) = before less
+    by f before (inr more) =
+        let same : n ≡ i = omega arith in
+        subst (λ k. IsSome (record_in (record_at k octets))) same (ap is_some f.is)
 
 pub none_past : (n i : ℕ) (octets : List ℕ) → records_fault n octets ≡ None → n ≤ i → slice_get (sources_in n octets) i ≡ None
 none_past n i octets none past = slice_get_past (sources_in n octets) i (omega (arith, sources_len n octets none, past))

@@ -7,7 +7,7 @@ ghost use Rattle.babel_snapshot.specs.Reading.{snapshot_in, router_in, seqno_in,
 
 use crate::layout::head::{COUNT, RAISES, ROUTER_ID, SEQNO};
 use crate::layout::{BEGINNING, HEAD_LEN, MAX_RECORDS, RECORD_LEN, ROUTER_ID_LEN};
-use crate::records::{is_less, record_in};
+use crate::records::{is_less, record_in, tested_record};
 use babel_state::RestoreFault;
 use babel_value::{Distance, Seqno, Source};
 use byteorder::{BigEndian, ByteOrder};
@@ -167,13 +167,13 @@ impl<'a> SavedState<'a> {
     }
 
     /// The source with this index, and its feasibility distance.
-    #[tactic(auto, using(crate::proofs::SnapshotsRead::sources_at, crate::proofs::SnapshotsRead::none_past), unfolding(crate::specs::Reading::snapshot_in))]
+    #[tactic(auto, using(crate::proofs::SnapshotsRead::sources_at, crate::proofs::SnapshotsRead::none_past, crate::proofs::SnapshotsRead::record_is_there), unfolding(crate::specs::Reading::snapshot_in))]
     pub fn source(&self, index: usize) -> Option<(Source, Distance)>
         ensures { result ≡ slice_get self.now.sources index }
     {
         if index >= count_in(self.octets) {
             return None;
         }
-        record_in(record_at(self.octets, index))
+        tested_record(record_at(self.octets, index))
     }
 }

@@ -2,6 +2,7 @@
 //! call over any table takes it by its name: as an alias of `SortedTable` each such call of a
 //! speaker takes seconds.
 
+ghost use Rattle.std.specs.Prelude.{◌≡◌, []};
 ghost use Rattle.babel_table.specs.Digits.{binary_digits};
 
 use crate::sources::SourceEntry;
@@ -81,5 +82,15 @@ impl Table<Source, SourceEntry> for SourceTable {
     #[inline(always)]
     fn at(&self, place: usize) -> Option<(Source, SourceEntry)> {
         self.table.at(place)
+    }
+}
+
+impl SourceTable {
+    /// Removes all entries.
+    pub(crate) fn clear(&mut self)
+        ensures entries { self.new.table.entries.items ≡ [] }
+        ensures places { self.new.table.places ≡ self.old.table.places }
+    {
+        self.table.clear();
     }
 }

@@ -1,16 +1,18 @@
 //! The source table (RFC 8966, section 3.2.5).
 
-ghost use Rattle.std.specs.Prelude.{◌≡◌, ◌+◌, ◌≤◌, ◌<◌, ◌↔◌, [], length, slice_get, option_map, IfOk, OnOk, OnErr, IsErr, IsNone, IsTrue, IsFalse};
+ghost use Rattle.std.specs.Prelude.{◌≡◌, ◌+◌, ◌≤◌, ◌<◌, ◌↔◌, [], None, length, slice_get, option_map, IfOk, OnOk, OnErr, IsErr, IsNone, IsTrue, IsFalse};
 ghost use Rattle.std.specs.FinMap.{find, is_sorted};
 ghost use Rattle.babel_value.specs.Orders.{source_cmp};
 ghost use Rattle.babel_table.specs.Digits.{binary_digits};
 ghost use Rattle.babel_sources.specs.Distances.{is_feasible, improves_on, better_pair};
 ghost use Rattle.babel_sources.specs.Sources.{pair_of, lowered, collected, collected_entry};
 
+mod clearing;
+
 use crate::source_table::SourceTable;
 use babel_table::{
     Change, Due, Full, Memory, Revised, Revision, Sought, Steps, Table, change_near, find_in,
-    find_near, revise_dues,
+    find_near, put_near, revise_dues,
 };
 use babel_value::{Distance, Source};
 use std::alloc::Global;
@@ -188,6 +190,22 @@ impl<T: Table<Source, SourceEntry>> SourcesOver<T> {
             Ok(before) => Ok(distance_of(before)),
             Err(full) => Err(full),
         }
+    }
+
+    /// Records the same of a source that has no entry yet, for which the table has room. The search
+    /// begins near an index, which becomes that of the source: sources that rise are one pass.
+    pub fn add_near(&mut self, now: u64, source: Source, sent: Distance, near: &mut usize)
+        requires room { length self.old < SOURCE_PLACES }
+        requires absent { pair_of source self.old ≡ None }
+        ensures { self.new ≡ lowered now source sent self.old }
+    {
+        let due = now.saturating_add(COLLECTION_TIME);
+        self.due = self.due.min(due);
+        let entry = SourceEntry {
+            distance: sent,
+            due,
+        };
+        put_near(&mut self.table, near, source, entry);
     }
 
     /// Removes each entry whose time of collection has come (RFC 8966, section 3.2.5). Returns

@@ -1,5 +1,5 @@
 -- Sources that are put into a table in their order come one after the other.
-use Rattle.std.specs.Prelude.{◌≡◌, ℕ, zero, suc, ◌+◌, ◌<◌, true, List, [], ◌∷◌, ◌++◌, take, length, slice_get, ◌&&◌, Option, Some, None, option_map}
+use Rattle.std.specs.Prelude.{◌≡◌, ℕ, zero, suc, ◌+◌, ◌<◌, true, List, [], ◌∷◌, ◌++◌, take, length, slice_get, ◌&&◌, Some, None, option_map}
 use Rattle.std.specs.declared.cmp.Ordering.{Ordering}
 use Rattle.std.specs.declared.cmp.Ordering.TheVariants.{Greater}
 use Rattle.std.specs.Ordering.{is_gt}
@@ -11,13 +11,10 @@ use Rattle.std.proofs.lemmas.List.{map-append}
 use Rattle.std.proofs.lemmas.Option.{none-some, same_Some}
 use Rattle.babel_value.specs.declared.distances.Distance.{Distance}
 use Rattle.babel_value.specs.declared.keys.Source.{Source}
-use Rattle.babel_value.specs.Moments.{later}
 use Rattle.babel_value.specs.Orders.{source_cmp}
 use Rattle.babel_value.proofs.OrderLaws.{source_total}
 use Rattle.babel_table.specs.Places.{are_lesser}
 use Rattle.babel_table.proofs.PlaceLemmas.{greater, turned, greater_at, others_greater, tail_sorted}
-use Rattle.babel_sources.specs.declared.sources.SourceEntry.{SourceEntry}
-use Rattle.babel_sources.specs.Distances.{better_pair}
 use Rattle.babel_sources.specs.Sources.{Sources, pair_of, lowered, source_entry_after}
 use Rattle.babel_state.specs.Restarts.{restored_source, restored_sources}
 
@@ -55,14 +52,22 @@ take_next [] i x at = absurd (none-some x at)
 take_next (y ∷ ys) zero x at = ap (λ z. z ∷ []) (same_Some y x at)
 take_next (y ∷ ys) (suc i) x at = ap (λ zs. y ∷ zs) (take_next ys i x at)
 
+lesser_sources : (now : ℕ) (es : List (Source × Distance)) (i : ℕ) (e : Source × Distance) → is_sorted source_cmp es ≡ true → slice_get es i ≡ Some e →
+    are_lesser source_cmp e.0 (restored_sources now (take i es)) ≡ true
+lesser_sources now es i e sorted at = lesser_restored now e.0 (take i es) ∙ lesser_before source_cmp source_total es i e sorted at
+
+pub absent_source : (now : ℕ) (es : List (Source × Distance)) (i : ℕ) (e : Source × Distance) → is_sorted source_cmp es ≡ true → slice_get es i ≡ Some e →
+    pair_of e.0 (restored_sources now (take i es)) ≡ None
+absent_source now es i e sorted at =
+    ap (option_map (λ s. s.distance)) (find_last source_cmp e.0 (restored_sources now (take i es)) (lesser_sources now es i e sorted at))
+
 pub next_source : (now : ℕ) (es : List (Source × Distance)) (i : ℕ) (e : Source × Distance) → is_sorted source_cmp es ≡ true → slice_get es i ≡ Some e →
     lowered now e.0 e.1 (restored_sources now (take i es)) ≡ restored_sources now (take (i + 1) es)
 next_source now es i e sorted at =
     let before : Sources = restored_sources now (take i es) in
-    let lesser : are_lesser source_cmp e.0 before ≡ true = lesser_restored now e.0 (take i es) ∙ lesser_before source_cmp source_total es i e sorted at in
-    let none : find source_cmp e.0 before ≡ None = find_last source_cmp e.0 before lesser in
+    let lesser : are_lesser source_cmp e.0 before ≡ true = lesser_sources now es i e sorted at in
     let entry : source_entry_after now (pair_of e.0 before) e.1 ≡ (restored_source now e).1 =
-    ap (λ (m : Option SourceEntry). record { distance = better_pair (option_map (λ s. s.distance) m) e.1; due = later now 18000 }) none in
+    ap (λ pair. source_entry_after now pair e.1) (absent_source now es i e sorted at) in
     let longer : take (i + 1) es ≡ take i es ++ e ∷ [] = ap (λ n. take n es) (add-one i) ∙ take_next es i e at in
     ap (λ v. put source_cmp e.0 v before) entry
     ∙ put_last source_cmp e.0 (restored_source now e).1 before lesser

@@ -38,7 +38,7 @@ use crate::input::records::Arrival;
 use crate::output::datagrams::next_datagram;
 use crate::state::Core;
 use crate::state::making::make;
-use crate::state::restarts::restore;
+use crate::state::restarts::{restore, restore_in_place};
 use crate::versions::{counted, has_grown, is_other, own_seqno};
 use arrayvec::ArrayVec;
 use babel_build::Builder;
@@ -204,6 +204,34 @@ impl Speaker {
             Ok(speaker) => Ok(speaker),
             Err(_) => Err(RestoreFault::Config(ConfigFault::Memory)),
         }
+    }
+
+    /// The same in place of this speaker, in the room of its tables: none is made again.
+    ///
+    /// # Errors
+    ///
+    /// Those of [`Speaker::restore`]. The speaker is as it was.
+    pub fn restore_in_place(
+        &mut self,
+        config: &Config,
+        now: u64,
+        octets: &[u8],
+    ) -> Result<(), RestoreFault>
+        ensures ok { OnOk result (self.new.state ≡ restored now config.now (snapshot_in octets.now)) }
+        ensures valid { IsOk result → IsNone (config_fault config.now) }
+        ensures whole { IsOk result → IsNone (restore_fault config.now.router_id octets.now) }
+        ensures refused { IfErr result (λ fault. IsRestoreFault (config_fault config.now) (restore_fault config.now.router_id octets.now) fault) }
+        ensures seen { OnOk result (IsRestartedFrom config.now (snapshot_in octets.now) self.new.state) }
+        ensures current { OnOk result (AreCurrent self.new.state) }
+        ensures counted { CountsChanges self.old self.new }
+        ensures err { OnErr result (self.new ≡ self.old) }
+    {
+        restarts_are_seen();
+        restore_in_place(&mut self.core, self.alloc, config, now, octets)?;
+        self.hints.settled = false;
+        self.routes = counted(self.routes, true);
+        self.snapshot = counted(self.snapshot, true);
+        Ok(())
     }
 
     /// A speaker in a state that is well formed. It isn't known to be settled.

@@ -1,13 +1,13 @@
 //! Making a speaker: the room for all that it may ever keep, and its first state.
 
-ghost use Rattle.std.specs.Prelude.{◌≡◌, None, IsOk, IsNone, IfOk, IfErr, IfSome};
-ghost use Rattle.babel_state.specs.Calls.{first_state};
+ghost use Rattle.std.specs.Prelude.{◌≡◌, None, map, IsOk, IsNone, IfOk, IfErr, IfSome};
+ghost use Rattle.babel_state.specs.Calls.{first_state, new_interface};
 ghost use Rattle.babel_state.specs.Configs.{config_fault};
 ghost use Rattle.babel_speaker.specs.Making.{IsMakingFault};
 
 use crate::state::Core;
-use crate::tables::first_tables::{first_announced, first_interfaces};
-use crate::tables::{PendingItems, RequestTable};
+use crate::tables::first_tables::{announce_configured, first_announced, first_interfaces};
+use crate::tables::{Interfaces, PendingItems, RequestTable};
 use babel_link::Neighbours;
 use babel_route::Routes;
 use babel_sources::Sources;
@@ -54,6 +54,29 @@ fn first(alloc: Global, router: RouterId, config: &Config) -> Option<Core>
         pending,
         left_out: 0,
     })
+}
+
+/// The first state of a configuration that has no fault, in place of another state and in the room
+/// of its tables.
+#[tactic(auto, unfolding(babel_state::specs::Calls::first_state))]
+pub fn begin_again(core: &mut Core, router: RouterId, config: &Config, interfaces: Interfaces)
+    requires router { router ≡ config.now.router_id }
+    requires valid { IsNone (config_fault config.now) }
+    requires interfaces { interfaces ≡ map new_interface config.now.interfaces.items }
+    ensures { core.new ≡ first_state config.now }
+{
+    core.router = router;
+    core.collects = config.collect;
+    core.seqno = Seqno(config.seqno);
+    core.raises = 0;
+    announce_configured(&mut core.announced, config);
+    core.interfaces = interfaces;
+    core.neighbours.clear();
+    core.sources.clear();
+    core.routes.clear();
+    core.requests.clear();
+    core.pending.clear();
+    core.left_out = 0;
 }
 
 /// The first state of a speaker, with the room for all that it may ever keep.

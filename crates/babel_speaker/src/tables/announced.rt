@@ -42,6 +42,13 @@ impl Announced {
         Ok(Announced { table })
     }
 
+    /// Removes all prefixes. Their room stays.
+    pub fn clear(&mut self)
+        ensures { self.new ≡ [] }
+    {
+        self.table.clear();
+    }
+
     /// Whether the prefix is announced.
     #[inline(always)]
     pub fn contains(&self, prefix: &Prefix) -> bool

@@ -103,3 +103,13 @@ pub fn first_announced(alloc: Global, config: &Config) -> Option<Announced>
     insert_prefixes(&mut announced, &config.prefixes);
     Some(announced)
 }
+
+/// Announces the configured prefixes, and no others.
+#[tactic(auto, using(crate::proofs::FirstTables::few_prefixes))]
+pub fn announce_configured(announced: &mut Announced, config: &Config)
+    requires { IsNone (config_fault config.now) }
+    ensures { announced.new ≡ gathered config.now.prefixes.items [] }
+{
+    announced.clear();
+    insert_prefixes(announced, &config.prefixes);
+}

@@ -56,6 +56,15 @@ impl PendingItems {
         })
     }
 
+    /// Removes all items, and forgets how many were dropped. Their room stays.
+    pub fn clear(&mut self)
+        ensures { self.new ≡ record { items = []; dropped = 0 } }
+    {
+        self.items.clear();
+        self.run.clear();
+        self.dropped = 0;
+    }
+
     /// Queues an item. If 4,096 are pending, the oldest one is dropped and counted.
     #[tactic(auto, unfolding(babel_state::specs::Queueing::queued))]
     pub fn push(&mut self, item: Item)

@@ -65,8 +65,29 @@ impl RequestTable {
         })
     }
 
-    /// The pending request for the source.
+    /// Removes all requests. Their room stays.
+    pub fn clear(&mut self)
+        ensures { self.new ≡ [] }
+    {
+        self.table.clear();
+        self.due = u64::MAX;
+        self.near.set(0);
+    }
+
+    /// The pending request for the source. Mostly none is pending, which is tested in the caller.
+    #[inline(always)]
     pub fn get(&self, source: &Source) -> Option<PendingRequest>
+        ensures { result ≡ find source_cmp source.now self.now }
+    {
+        if self.table.len() == 0 {
+            return None;
+        }
+        self.search(source)
+    }
+
+    /// The same by a search.
+    #[inline(never)]
+    fn search(&self, source: &Source) -> Option<PendingRequest>
         ensures { result ≡ find source_cmp source.now self.now }
     {
         let mut near = self.near.get();

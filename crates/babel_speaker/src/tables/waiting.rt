@@ -44,6 +44,14 @@ impl<T: Copy> Waiting<T> {
         Ok(Waiting { ring, removed: 0 })
     }
 
+    /// Removes all elements. Their room stays.
+    pub fn clear(&mut self)
+        ensures { self.new ≡ [] }
+    {
+        self.ring.clear();
+        self.removed = 0;
+    }
+
     /// Queues an element. If 4,096 wait, the oldest one is dropped, and the result is `true`.
     pub fn push(&mut self, element: T) -> bool
         ensures elements { self.new ≡ keep_last most_pending (self.old ++ element ∷ []) }

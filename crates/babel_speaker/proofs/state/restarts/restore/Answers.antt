@@ -8,4 +8,4 @@ use Rattle.babel_speaker.proofs.state.restarts.restore.Goals as goal
 pub returns-in-Err-make-clause-refused : goal.returns-in-Err-make-clause-refused
 returns-in-Err-make-clause-refused c =
     out_of_memory (config_fault c.args.config.now) (restore_fault c.args.config.now.router_id c.args.octets.now) c.in-Err-make.fault
-    (c.in_default.ensures.ok.0 refl) (c.in-Ok.ensures.valid.0 refl) c.in-Err-make.ensures.refused
+    (c.in-Ok.ensures.valid refl) (c.in-Ok.ensures.whole refl) c.in-Err-make.ensures.refused
