@@ -12,13 +12,12 @@ use Rattle.babel_wire.proofs.Members.{AreIn, none_in, not_in_none, first_in, lat
 use Rattle.babel_wire.specs.Keeping.{AreOctetsOf}
 use Rattle.babel_wire.specs.Cuts.{File, sent_in}
 use Rattle.babel_wire.specs.Intakes.{DurableStep, Turning, TakingIn, Intake, IsIntake, AreSteps, receipts_in, taken_by, IsCoveredBySteps, WhatIsKeptCoversWithIntakes}
-use Rattle.babel_machine.specs.declared.events.Event.{Event}
 use Rattle.babel_machine.specs.declared.events.Event.TheVariants as events
 use Rattle.babel_machine.specs.NetworkLaws.{SoundHasNoLoop, SoundHasNoLoopWithOneOrigin}
 use Rattle.babel_net.specs.Invariants.{IsNetwork}
 use Rattle.babel_net.specs.Laws.{EventsKeepNetworks}
 use Rattle.babel_net.specs.Networks.{NetworkState, SentOctets, with_speaker_state, world_of}
-use Rattle.babel_crashes.specs.NodeSteps.{IsAt, IsFrom, IsRecorded, LeadsTo, IsRestart}
+use Rattle.babel_crashes.specs.NodeSteps.{IsAt, IsFrom, IsRecorded, IsRestart}
 use Rattle.babel_crashes.specs.IntakeLaws.{AreReceiptsFrom, AreStepEvents, StepsAreEvents, CrashesWithIntakesAreRestartEvents}
 use Rattle.babel_crashes.proofs.Events.{Settings, leads_on, leads_nowhere, tick_leads, restart_made, restart_accepted, at_restarted}
 use Rattle.babel_crashes.proofs.NodeTurns.{Comes, AllSent, receives, still_from, still_recorded, turn_made}

@@ -32,13 +32,6 @@ Adds-push pair sent each = (Contains-push_cases sent pair each, joined)
     joined (inl was) = Contains-append_left sent (pair ∷ []) each was
     joined (inr is) = subst (Contains (sent ++ pair ∷ [])) is (Contains-push sent pair)
 
-pub Adds-again : (pair : Pair) (sent : List Pair) → Contains sent pair → Adds pair sent sent
-Adds-again pair sent there each = (λ h. inl h, joined)
-  where
-    joined : (Contains sent each ⊎ (pair ≡ each)) → Contains sent each
-    joined (inl was) = was
-    joined (inr is) = subst (Contains sent) is there
-
 -- what was sent stays so
 pub sent_stays : (s : SourceState) (a : ℕ) (pair : Pair) (sent : List Pair) → Adds pair (node_at s a).sent sent → a < length s.nodes → (b : ℕ) (q : Pair) → HasSent s b q → HasSent (with_sent s a sent) b q
 sent_stays s a pair sent adds inside =

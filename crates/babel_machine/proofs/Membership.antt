@@ -31,14 +31,6 @@ Contains-map f (y ∷ ys) x h = by (Contains-map f ys x) (Contains-cons_cases y 
     by more (inl is) = subst (λ z. Contains (f y ∷ map f ys) (f z)) is (Contains-here (f y) (map f ys))
     by more (inr h) = Contains-there (f y) (map f ys) (f x) (more h)
 
-pub Contains-from_map : {X Y : Type 0} (f : X → Y) → (xs : List X) (y : Y) → Contains (map f xs) y → (x : X) × Contains xs x × (f x ≡ y)
-Contains-from_map f [] y h = absurd (Contains-nil y h)
-Contains-from_map {X} f (z ∷ zs) y h = by (Contains-from_map f zs y) (Contains-cons_cases (f z) (map f zs) y h)
-  where
-    by : (Contains (map f zs) y → (x : X) × Contains zs x × (f x ≡ y)) → ((f z ≡ y) ⊎ Contains (map f zs) y) → (x : X) × Contains (z ∷ zs) x × (f x ≡ y)
-    by more (inl is) = (z, Contains-here z zs, is)
-    by more (inr h) = let r = more h in (r.0, Contains-there z zs r.0 r.1, r.2)
-
 pub Contains-filter : {X : Type 0} (p : X → Bool) → (xs : List X) (x : X) → p x ≡ true → Contains xs x → Contains (filter p xs) x
 Contains-filter p [] x is h = absurd (Contains-nil x h)
 Contains-filter p (y ∷ ys) x is h = by (Contains-filter p ys x is) (p y) refl (Contains-cons_cases y ys x h)

@@ -5,7 +5,7 @@ use Rattle.babel_state.specs.Seen.{Seen}
 use Rattle.babel_machine.specs.declared.machine.pick.Pick.{Pick}
 use Rattle.babel_machine.specs.declared.machine.step.Step.{Step}
 use Rattle.babel_machine.specs.declared.machine.step.Step.TheVariants.{Choose, Drop}
-use Rattle.babel_machine.specs.Machine.{SourceState, with_pick, Steps, Run}
+use Rattle.babel_machine.specs.Machine.{with_pick, Steps, Run}
 use Rattle.babel_machine.specs.Owners.{AreApart}
 use Rattle.babel_machine.specs.Worlds.{World, speaker_at, with_speaker}
 use Rattle.babel_machine.specs.Views.{NetSource, IsSource, IsCounted, sent_by, pick_of, view}
@@ -15,11 +15,6 @@ use Rattle.babel_machine.proofs.SourceEntries.{Bounds-raised}
 use Rattle.babel_machine.proofs.Speakers.{length-view, picture, picture_now}
 use Rattle.babel_machine.proofs.ViewRuns.{raised, raise_run, Run-join}
 use Rattle.babel_machine.proofs.Moving.{Moved, Grew, grew, source_kept, may_pick}
-
--- two states of a source with the same owner, count and nodes
-pub state_same : (s t : SourceState) → s.owner ≡ t.owner → s.raises ≡ t.raises → s.nodes ≡ t.nodes → s ≡ t
-state_same s t owner raises nodes =
-    ap (λ o. record s { owner = o }) owner ∙ ap (λ n. record s { owner = t.owner; raises = n }) raises ∙ ap (λ ns. record s { owner = t.owner; raises = t.raises; nodes = ns }) nodes
 
 -- the first seqno of a source is a word
 pub start_word : (configs : List Config) (s : NetSource) → AreApart configs → IsSource configs s → s.start < 65536

@@ -2,7 +2,7 @@
 use Rattle.std.proofs.Common.{◌≡◌, ◌<◌, ◌≤◌, ℕ, false, Option, Some, None, Result, Ok, Err, is_ok, OnOk, OnErr, IfErr, length, nat_lt, slice_get, cond, refl, sym, ap, ◌∙◌, subst, inl, inr, ◌⊎◌, get_or, [], arith}
 use Rattle.std.proofs.lemmas.Bool.{cases_lt}
 use Rattle.std.proofs.lemmas.Bool.Decides.{nat_tests}
-use Rattle.std.proofs.lemmas.Option.{none-some, slice_get_past, slice_get-get_or, slice_get_read, slice_get_cases}
+use Rattle.std.proofs.lemmas.Option.{none-some, slice_get-get_or, slice_get_read, slice_get_cases}
 use Rattle.babel_value.specs.declared.addresses.Addr.TheVariants.{V4}
 use Rattle.babel_state.specs.declared.configs.Config.{Config}
 use Rattle.babel_state.specs.Restarts.{restarted}
@@ -10,7 +10,7 @@ use Rattle.babel_state.specs.State.{State}
 use Rattle.babel_machine.specs.declared.events.Event.{Event}
 use Rattle.babel_machine.specs.declared.events.Event.TheVariants as events
 use Rattle.babel_machine.specs.declared.errors.StepFault.{StepFault}
-use Rattle.babel_machine.specs.declared.errors.StepFault.TheVariants.{NoNode, NoDatagram}
+use Rattle.babel_machine.specs.declared.errors.StepFault.TheVariants.{NoDatagram}
 use Rattle.babel_net.specs.Networks.{NetworkState, SentOctets, with_speaker_state}
 use Rattle.babel_net.specs.Steps.{MakesCall, MakesRestart, Makes, step_of}
 use Rattle.babel_net.specs.EventRefusals.{node_of, call_fault, event_fault, deliver_fault, interface_fault, fault_at, step_fault, IsFaultOrMemory, IsStepFault}
@@ -25,9 +25,7 @@ fault_is event n s c speaker config =
     ap (λ (o : Option State). fault_at o (slice_get n.configs (node_of event)) event n) speaker
     ∙ ap (λ (o : Option Config). fault_at (Some s) o event n) config
 
-pub fault_past : (event : Event) (n : NetworkState) → length n.speakers ≤ node_of event → step_fault event n ≡ Some NoNode
 unfolding step_fault
-fault_past event n past = ap (λ (o : Option State). fault_at o (slice_get n.configs (node_of event)) event n) (slice_get_past n.speakers (node_of event) past)
 
 -- an event without a datagram that takes no memory
 abbrev pub IsCall : Event → Type 0

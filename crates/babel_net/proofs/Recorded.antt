@@ -1,7 +1,7 @@
 -- The record of what was sent: more octets leave each datagram as it was.
 use Rattle.std.proofs.Common.{◌≡◌, ◌≤◌, ◌+◌, ◌-◌, ℕ, List, [], ◌∷◌, ◌++◌, All, length, map, slice_range, take, drop, refl, ap, ◌∙◌, arith}
-use Rattle.std.proofs.lemmas.List.{take-append-le, drop-append-le, length-append, length-drop, map-append}
-use Rattle.std.proofs.lemmas.List.Elements.{All-nil, All-cons, All-head, All-tail, All-append}
+use Rattle.std.proofs.lemmas.List.{take-append-le, drop-append-le, length-drop, map-append}
+use Rattle.std.proofs.lemmas.List.Elements.{All-head, All-tail}
 use Rattle.std.proofs.Math.Seq.{drop-append_seam, take-length}
 use Rattle.babel_value.specs.declared.addresses.Addr.{Addr}
 use Rattle.babel_net.specs.declared.sent.Place.{Place}
@@ -26,12 +26,6 @@ datagrams_kept xs ys (p ∷ ps) all =
     ap (λ (d : SentOctets). d ∷ map (datagram_in (xs ++ ys)) ps) (datagram_kept xs ys p (All-head (IsWithin (length xs)) p ps all))
     ∙ ap (λ (ds : List SentOctets). datagram_in xs p ∷ ds) (datagrams_kept xs ys ps (All-tail (IsWithin (length xs)) p ps all))
 
-all_within : (m n : ℕ) (ps : List Place) → m ≤ n → All (IsWithin m) ps → All (IsWithin n) ps
-all_within m n [] more all = All-nil (IsWithin n)
-all_within m n (p ∷ ps) more all =
-    let is = All-head (IsWithin m) p ps all in
-    All-cons (IsWithin n) p ps (record { ordered = is.ordered; within = omega (arith, is.within, more) }) (all_within m n ps more (All-tail (IsWithin m) p ps all))
-
 -- where the octets of a datagram are that are added after these
 abbrev pub place_after : ℕ → Addr → List ℕ → List ℕ → Place
 place_after node source xs ys = record { node = node; source = source; start = length xs; end = length xs + length ys }
@@ -46,13 +40,6 @@ datagram_added xs ys ps node source all =
     map-append (datagram_in (xs ++ ys)) ps (place_after node source xs ys ∷ [])
     ∙ ap (λ (ds : List SentOctets). ds ++ datagram_in (xs ++ ys) (place_after node source xs ys) ∷ []) (datagrams_kept xs ys ps all)
     ∙ ap (λ (octets : List ℕ). map (datagram_in xs) ps ++ with_octets (place_after node source xs ys) octets ∷ []) (range_added xs ys)
-
-pub place_added : (xs ys : List ℕ) (ps : List Place) (node : ℕ) (source : Addr) → All (IsWithin (length xs)) ps → All (IsWithin (length (xs ++ ys))) (ps ++ place_after node source xs ys ∷ [])
-place_added xs ys ps node source all =
-    let more : length xs ≤ length (xs ++ ys) = omega (arith, length-append xs ys) in
-    let is : IsWithin (length (xs ++ ys)) (place_after node source xs ys) = record { ordered = omega arith; within = omega (arith, length-append xs ys) } in
-    All-append (IsWithin (length (xs ++ ys))) ps (place_after node source xs ys ∷ []) (all_within (length xs) (length (xs ++ ys)) ps more all)
-    (All-cons (IsWithin (length (xs ++ ys))) (place_after node source xs ys) [] is (All-nil (IsWithin (length (xs ++ ys)))))
 
 -- the record after one more datagram, whose octets are these
 pub recorded_next : (xs xs' os ys zs : List ℕ) (ps ps' qs : List Place) (node : ℕ) (source : Addr) (old : List SentOctets) → All (IsWithin (length xs)) ps → map (datagram_in xs) ps ≡ old → ps' ≡ ps → xs' ≡ xs → qs ≡ ps' ++ place_after node source xs' ys ∷ [] → os ≡ xs' ++ ys → ys ≡ zs → map (datagram_in os) qs ≡ old ++ (record { node = node; source = source; octets = zs }) ∷ []

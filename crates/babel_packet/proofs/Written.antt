@@ -247,10 +247,7 @@ ihu_of_again size to ae rxcost interval e long some =
     let fits : nat_lt (length p) size ≡ false = le-ltb _ _ (omega arith) in
     rw (fits, drop_all size p (omega arith), two_again rxcost, two_again interval, not_zero rxcost parts.0, not_zero interval parts.1) refl
 
-ihu_in : (d : ParserState) (ae rxcost interval : ℕ) (e : List ℕ) →
-    content d 5 (ae ∷ 0 ∷ (two rxcost ++ (two interval ++ e))) ≡ ihu (ae ∷ 0 ∷ (two rxcost ++ (two interval ++ e)))
 unfolding content
-ihu_in d ae rxcost interval e = refl
 
 -- the length of the fields before the address
 ihu_long : (ae rxcost interval : ℕ) (e : List ℕ) → nat_lt (length (ae ∷ 0 ∷ (two rxcost ++ (two interval ++ e)))) 6 ≡ false

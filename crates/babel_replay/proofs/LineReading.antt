@@ -6,7 +6,7 @@ use Rattle.std.specs.Option.{unwrap_or, is_some}
 use Rattle.memchr.specs.Find.{IsFirstByte, Nowhere, Passes, is_byte}
 use Rattle.std.specs.Io.{StartsWith}
 use Rattle.std.specs.Io.KnownBytes.{Consumes, IsAtEnd}
-use Rattle.std.proofs.KnownBytes.{starts_with_rest, Consumes-trans}
+use Rattle.std.proofs.KnownBytes.{starts_with_rest}
 use Rattle.babel_replay.specs.Reading.{lines_of, join_first, first_of, IsTooLong, ReadsLine, HasNoLineFeed, AppendsPart, ShowsTooMuch}
 
 other : (x : ℕ) (xs : List ℕ) → HasNoLineFeed (x ∷ xs) → (rest : List ℕ) → lines_of (x ∷ rest) ≡ join_first x (lines_of rest)
@@ -40,12 +40,6 @@ length-first_of (x ∷ xs) rest plain =
 
 joined : (line part : List ℕ) → HasNoLineFeed line → HasNoLineFeed part → HasNoLineFeed (line ++ part)
 joined line part = All-append (λ y. y ≢ 10) line part
-
-pub AppendsPart-more : (a b c : Option (List ℕ)) (line after : List ℕ) → Consumes a b line → HasNoLineFeed line → AppendsPart b c line after []
-    → HasNoLineFeed after × Consumes a c after
-AppendsPart-more a b c line after p plain m =
-    let whole : after ≡ line ++ (m.part ++ []) = m.appended ∙ ap (λ l. line ++ l) (sym (append-nil m.part)) in
-    (subst HasNoLineFeed (sym m.appended) (joined line m.part plain m.plain), subst (Consumes a c) (sym whole) (Consumes-trans a b c line (m.part ++ []) p m.taken))
 
 pub ReadsLine-last : (a b c : Option (List ℕ)) (line after : List ℕ) → Consumes a b line → HasNoLineFeed line → AppendsPart b c line after (10 ∷ []) → ReadsLine a c true after
 ReadsLine-last None b c line after p plain m = tt

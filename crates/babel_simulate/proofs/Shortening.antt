@@ -54,9 +54,6 @@ relaxed origins edges k e ds new node next false shorter lowered kept at joins l
     let P : List ℕ → Type 0 = λ xs. AreWays origins edges xs in
     subst P (sym (kept refl)) ways
 
-pub lower_lower : (first second third : List ℕ) → AreLower first second → AreLower second third → AreLower first third
-lower_lower first second third one two = (two.0 ∙ one.0, λ k. omega (arith, one.1 k, two.1 k))
-
 -- Origins keep their distance, and no other is less than 0.
 pub zero_kept : (origins : List Bool) (old new : List ℕ) → AreLower old new → AreAtOrigins origins old → AreAtOrigins origins new
 zero_kept origins old new lower zero node is = omega (arith, lower.1 node, zero node is)

@@ -1,5 +1,5 @@
 -- What a way to an origin is, and what it costs (profile: RFC 8966 leaves the measure of a way to its metrics).
-use Rattle.std.specs.Prelude.{◌≡◌, ◌<◌, ◌≤◌, ◌≢◌, ◌+◌, ℕ, List, [], ◌∷◌, Bool, true, false, ◌⊎◌, Some, length, slice_get, slice_index, if◌then◌else◌}
+use Rattle.std.specs.Prelude.{◌≡◌, ◌<◌, ◌≤◌, ◌≢◌, ◌+◌, ℕ, List, [], ◌∷◌, Bool, true, false, ◌⊎◌, Some, length, slice_get, slice_index}
 use Rattle.babel_simulate.specs.declared.shortest.Edge.{Edge}
 
 -- The next node of a way, and what the link to it costs.

@@ -1,6 +1,6 @@
 -- One more record after those that are written.
-use Rattle.std.specs.Prelude.{◌≡◌, ℕ, zero, suc, ◌+◌, ◌<◌, List, [], ◌∷◌, ◌++◌, All, map, take, length, slice_get, Some, None, option_map}
-use Rattle.std.proofs.Common.{refl, sym, ap, subst, ◌∙◌, arith, append_assoc, add-one}
+use Rattle.std.specs.Prelude.{◌≡◌, ℕ, zero, suc, ◌+◌, List, [], ◌∷◌, ◌++◌, All, map, take, slice_get, Some, option_map}
+use Rattle.std.proofs.Common.{refl, sym, ap, subst, ◌∙◌, append_assoc, add-one}
 use Rattle.std.proofs.lemmas.List.{append-nil}
 use Rattle.std.proofs.lemmas.List.Elements.{All-nil, All-cons, All-append}
 use Rattle.std.proofs.lemmas.Option.{none-some, same_Some, slice_get-map}
@@ -43,8 +43,3 @@ pub whole_next : (es : Sources) (i : ℕ) (e : Source × Distance) → option_ma
     All IsRecord (map kept_source (take i es)) → All IsRecord (map kept_source (take (i + 1) es))
 whole_next es i e at whole all =
     subst (All IsRecord) (sym (kept_next es i e at)) (All-append IsRecord (map kept_source (take i es)) (e ∷ []) all (All-cons IsRecord e [] whole (All-nil IsRecord)))
-
-pub no_gap : (es : Sources) (i : ℕ) → i < length es → option_map kept_source (slice_get es i) ≡ None → ⊥
-no_gap [] i below none = omega (arith, below)
-no_gap (e ∷ es) zero below none = none-some (kept_source e) (sym none)
-no_gap (e ∷ es) (suc i) below none = no_gap es i (omega (arith, below)) none

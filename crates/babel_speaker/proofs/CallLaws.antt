@@ -53,10 +53,6 @@ pub can_decode : (placed : List Placed) → AreEncodable (messages_of placed) �
 unfolding placed_or
 can_decode placed encodable others is = subst (λ read. AreEncodable (messages_of (placed_or read placed))) is encodable
 
-pub received_well : (notes : List Note) (arrival : Arrival) (core new : State) → PlacesMove → CanDecode arrival.read → Receives arrival core new notes →
-    IsWellFormed core → IsWellFormed new
-received_well notes arrival core new law each r well = subst IsWellFormed (sym r.3) (law arrival.now arrival.peer r.0 core (each r.0 r.2) well).0
-
 pub received_moves : (notes : List Note) (arrival : Arrival) (old core new : State) → PlacesMove → CanDecode arrival.read → core ≡ old →
     Receives arrival core new notes → IsWellFormed core → MovesByDatagram arrival.peer arrival.read old new
 received_moves notes arrival old core new law each view r well =

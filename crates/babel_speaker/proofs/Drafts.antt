@@ -125,10 +125,6 @@ skipped_nothing old s t x before first out is = record {
 
 -- ---- filling
 
--- Filling begins with the messages that are there.
-pub filling_begins : (now : ℕ) (b : Built) (t : Target) (s : State) (ms : List Message) (built : Built) → built ≡ built_of b ms → IsFilling now b ms t (drafted now (fits_at b) s.pending.items (draft_to t s ms)) built s built
-filling_begins now b t s ms built has = record { ms = ms; has = has; same = refl; encoded = λ given whole. given whole }
-
 parts_encodable : (ms : List Message) (out : Outgoing) → are_encodable (with_outgoing ms out) ≡ true → (are_encodable ms ≡ true) × (is_encodable_outgoing out ≡ true)
 parts_encodable ms outgoings.Nothing whole = (whole, refl)
 parts_encodable ms outgoings.LeftOut whole = (whole, refl)

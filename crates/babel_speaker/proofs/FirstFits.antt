@@ -1,5 +1,5 @@
 -- The first message of a datagram fits.
-use Rattle.std.specs.Prelude.{◌≡◌, ℕ, zero, suc, ◌+◌, ◌≤◌, Bool, true, false, ◌||◌, List, [], ◌++◌, drop, length, IsSome, Option, Some, None, if◌then◌else◌}
+use Rattle.std.specs.Prelude.{◌≡◌, ℕ, ◌+◌, ◌≤◌, Bool, true, false, ◌||◌, List, [], ◌++◌, drop, length, IsSome, Option, Some, None, if◌then◌else◌}
 use Rattle.std.specs.Str.{bytes_eq}
 use Rattle.std.proofs.Common.{arith, length-append}
 use Rattle.std.proofs.lemmas.Bool.{false≢true, le-leb}
@@ -18,10 +18,6 @@ use Rattle.babel_packet.specs.Payloads.{octets, is_link_local, encoded, prefix_w
 use Rattle.babel_packet.specs.Prefixes.{octets_of}
 use Rattle.babel_state.specs.Addresses.{transport_at}
 use Rattle.babel_speaker.specs.Sending.{fits_from, FirstMessagesFit}
-
-spelled_small : (k : ℕ) (payload : List ℕ) → length (spelled k payload) ≤ 2 + length payload
-spelled_small zero payload = omega arith
-spelled_small (suc k) payload = omega arith
 
 octets_small : (addr : Addr) → IsAddr addr → length (octets addr) ≤ 16
 octets_small (V4 o) is = omega (arith, is.0)

@@ -1,17 +1,12 @@
 -- Prefixes put into a set one after the other.
-use Rattle.std.proofs.Common.{◌≡◌, ◌≤◌, ◌+◌, None, List, [], ◌∷◌, ◌++◌, length, refl, arith}
+use Rattle.std.proofs.Common.{◌≡◌, ◌≤◌, ◌+◌, List, [], ◌∷◌, ◌++◌, length, refl, arith}
 use Rattle.std.specs.declared.cmp.Ordering.{Ordering}
 use Rattle.std.specs.declared.cmp.Ordering.TheVariants.{Less, Equal, Greater}
 use Rattle.std.specs.FinMap.{put}
 use Rattle.std.specs.FinMap.Entries.{by_order}
 use Rattle.babel_value.specs.Orders.{prefix_cmp}
 use Rattle.babel_value.specs.Prefixes.{PrefixValue}
-use Rattle.babel_table.specs.Entries.{revised_entries}
 use Rattle.babel_state.specs.State.{PrefixSet, gathered}
-
-pub all_removed : (es : PrefixSet) → revised_entries (λ prefix value. None) es ≡ []
-all_removed [] = refl
-all_removed (e ∷ es) = all_removed es
 
 pub put_at_most : (p : PrefixValue) (es : PrefixSet) → length (put prefix_cmp p tt es) ≤ length es + 1
 put_at_most p [] = omega arith

@@ -54,10 +54,6 @@ TicksHearNothing =
 
 -- ---- each call, for the network
 
--- A well-formed state's selections are good.
-abbrev pub WellFormedIsSelecting : Type 0
-WellFormedIsSelecting = (s : State) → IsWellFormed s → IsSelecting (seen s)
-
 abbrev pub AreEncodable : List Message → Type 0
 AreEncodable = All (λ message. is_encodable message ≡ true)
 

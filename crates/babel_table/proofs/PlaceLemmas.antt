@@ -1,5 +1,5 @@
 -- What is at each index of a list of entries whose keys rise, and what `find`, `put` and `without` make of it there.
-use Rattle.std.proofs.Common.{◌≡◌, ℕ, zero, suc, ◌+◌, ◌<◌, ◌≤◌, Bool, true, false, cond, not, T, List, [], ◌∷◌, ◌++◌, length, take, drop, set, get_or, remove, insert, slice_get, option_map, option_and_then, append_assoc, length-append, length-take-le, Option, Some, None, refl, sym, ap, subst, ◌∙◌, arith}
+use Rattle.std.proofs.Common.{◌≡◌, ℕ, zero, suc, ◌+◌, ◌<◌, ◌≤◌, Bool, true, false, cond, not, T, List, [], ◌∷◌, ◌++◌, length, take, drop, set, get_or, remove, insert, slice_get, option_map, option_and_then, append_assoc, length-take-le, Option, Some, None, refl, sym, ap, subst, ◌∙◌, arith}
 use Rattle.std.specs.List.{cons_option}
 use Rattle.std.proofs.lemmas.List.Sums.{sum_by-cons}
 use Rattle.std.proofs.lemmas.List.{take_more, drop_more, drop_all, set_at}
@@ -240,11 +240,6 @@ pub past_end : {A : Type 0} (es : List A) (i : ℕ) → slice_get es i ≡ None 
 past_end [] i at = omega arith
 past_end (e ∷ es) zero at = absurd (none-some e (sym at))
 past_end (e ∷ es) (suc i) at = omega (arith, past_end es i at)
-
--- an entry is at each place within what is in front
-pub never_past : {A : Type 0} (old following now : List A) (i p : ℕ) → i + 1 ≡ p → p ≤ length old → now ≡ take p old ++ following → slice_get now i ≡ None → ⊥
-never_past old following now i p next within is at =
-    omega (arith, past_end now i at, ap length is, length-append (take p old) following, length-take-le p old within)
 
 -- what a revision leaves at a key
 module _ {K V : Type 0} (R : K → K → Ordering) (o : IsTotalOrder R) where

@@ -120,6 +120,3 @@ number_narrowed bits text n (Ok m) fits spelled h = rw h.1 (h.0, spelled.1)
 number_narrowed bits text n (Err e) fits spelled h = λ m (small, same).
     let equal = decimal_injective m n (omega arith) spelled.0 (sym same ∙ spelled.1) in
     h (rw equal at small)
-
-pub number_not_narrowed : (bits : ℕ) (text : List ℕ) → 2 ^ bits ≤ 2 ^ 64 → ((n : ℕ) → ¬ (IsNumberText 64 text n)) → (m : ℕ) → ¬ (IsNumberText bits text m)
-number_not_narrowed bits text fits none m spelled = none m (omega arith, spelled.1)

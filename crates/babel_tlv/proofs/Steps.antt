@@ -70,17 +70,6 @@ goes bytes o kind payload end from to first =
       fault = found.fault ∙ ap (λ n. fault_at 0 n (drop end bytes)) there;
     }
 
--- a walk has come to the fault if octets are left and no TLV is first, and not as long as one is
-pub reached-first : (o : ℕ) (bs : List ℕ) (f : ℕ × List ℕ × List ℕ) → first_of bs ≡ Some f → fault_if_last (places_at 0 o bs) (fault_at 0 o bs) ≡ None
-reached-first o [] f first = cc
-reached-first o (zero ∷ bs) f first = refl
-reached-first o (suc k ∷ []) f first = cc
-reached-first o (suc k ∷ len ∷ bs) f first =
-    elim (cases_Bool (ltb (length bs) len)) [
-      | inl runs_past ↦ let none = rw runs_past at first in cc
-      | inr fits ↦ rw fits refl
-    ]
-
 pub reached-stuck : (o : ℕ) (bs : List ℕ) → 0 < length bs → first_of bs ≡ None → fault_if_last (places_at 0 o bs) (fault_at 0 o bs) ≡ Some o
 reached-stuck o [] some first = absurd (omega arith)
 reached-stuck o (zero ∷ bs) some first = cc

@@ -1,7 +1,7 @@
 -- Durable turns, one after another.
 use Rattle.std.proofs.Common.{◌≡◌, ◌+◌, ◌≤◌, ℕ, Bool, true, false, List, [], ◌∷◌, ◌++◌, map, length, All, Option, Some, None, add-zero, refl, sym, ap, ◌∙◌, subst, arith, append_assoc, true≢false, if◌then◌else◌}
 use Rattle.std.proofs.lemmas.List.{length-append, length-map, append-nil}
-use Rattle.std.proofs.lemmas.List.Elements.{All-nil, All-push}
+use Rattle.std.proofs.lemmas.List.Elements.{All-push}
 use Rattle.std.proofs.lemmas.List.Sums.{sum_by_push}
 use Rattle.std.proofs.lemmas.Option.{none-some}
 use Rattle.babel_state.specs.Restarts.{Snapshot, snapshot_of}
@@ -10,7 +10,7 @@ use Rattle.babel_speaker.specs.Versions.{SpeakerValue, CountsChanges}
 use Rattle.babel_wire.specs.declared.report.Report.{Report}
 use Rattle.babel_wire.specs.Calls.{Call, Recv, Now, Send, Sending, Receipt, Grows}
 use Rattle.babel_wire.specs.Turns.{IsReceived, SendsPending, received_by, refused_by, failed_by, sent_by, lost_by}
-use Rattle.babel_wire.proofs.Sendings.{grows_not, grows_more}
+use Rattle.babel_wire.proofs.Sendings.{grows_more}
 use Rattle.babel_wire.specs.declared.durable.report.DurableReport.{DurableReport}
 use Rattle.babel_wire.specs.Keeping.{DurableTurn, Keeping, Unchanged, IsDurableTurn, calls_of, calls_of_turn, calls_of_keeping, is_kept, last_kept}
 use Rattle.babel_wire.specs.DurableRuns.{Fits, IsKept, IsKeeping, IsDurableRun, IsOneDurableTurn, AreGiven, counts_of, counts_of_turn, failed_keep, unsent_by, kept_version, together}
@@ -138,19 +138,6 @@ report_more ts t = sixes _ _ _ _ _ _ _ _ _ _ _ _
     (sym (sum_by_push (λ (t : DurableTurn). (counts_of_turn t).report.faults) ts t))
     (sym (sum_by_push (λ (t : DurableTurn). failed_keep t.keeping) ts t))
     (sym (sum_by_push unsent_by ts t))
-
-pub run_begins : (last : Option Snapshot) (known : Option ℕ) (s : SpeakerValue) (h : Option (List Call)) → Fits last known s →
-    IsDurableRun 0 last known s h known s h (six 0 0 0 0 0 0)
-run_begins last known s h fits = record {
-  turns = [];
-  kept = last;
-  so_many = refl;
-  speaker = (refl, refl);
-  fits = fits;
-  calls = grows_not h;
-  counts = refl;
-  quiet = λ _. (All-nil (λ (t : DurableTurn). t.keeping ≡ Unchanged), refl);
-}
 
 known_at_most : (last : Option Snapshot) (known : Option ℕ) (s : SpeakerValue) (count : ℕ) → Fits last known s → known ≡ Some count → count ≤ s.snapshot_version
 known_at_most None None s count fits same = absurd (none-some count same)

@@ -1,13 +1,13 @@
 -- What is kept covers what was sent, also with intakes between the turns.
-use Rattle.std.proofs.Common.{◌≡◌, ◌⊎◌, ℕ, suc, List, [], ◌∷◌, ◌++◌, map, take, Contains, Option, Some, refl, sym, ap, ◌∙◌, subst, inl, inr, append_assoc}
+use Rattle.std.proofs.Common.{◌≡◌, ◌⊎◌, ℕ, suc, List, [], ◌∷◌, ◌++◌, take, Contains, Option, Some, refl, sym, ap, ◌∙◌, subst, inl, inr, append_assoc}
 use Rattle.std.proofs.lemmas.List.{append-nil}
 use Rattle.std.proofs.lemmas.List.Elements.{Contains-append_left}
 use Rattle.babel_state.specs.Restarts.{Snapshot, snapshot_of, restored}
 use Rattle.babel_state.specs.State.{State}
 use Rattle.babel_wire.specs.Calls.{Call, Now, Sending}
-use Rattle.babel_wire.specs.Keeping.{DurableTurn, AreOctetsOf, IsDurableTurn, AreDurableTurns, last_kept, given_in, calls_of_turn}
-use Rattle.babel_wire.specs.Cuts.{File, IsCutOf, IsOnDisk, on_disk, sent_in}
-use Rattle.babel_wire.specs.Intakes.{DurableStep, Turning, TakingIn, IsIntake, calls_of_intake, calls_of_steps, AreDurableSteps, AreSteps, taken_by, IsCoveredBySteps, TurnsAreSteps, StepsGoOn, WhatIsKeptCoversWithIntakes, CrashesWithIntakesAreRestarts}
+use Rattle.babel_wire.specs.Keeping.{DurableTurn, AreOctetsOf, IsDurableTurn, last_kept, given_in, calls_of_turn}
+use Rattle.babel_wire.specs.Cuts.{File, IsCutOf, on_disk, sent_in}
+use Rattle.babel_wire.specs.Intakes.{DurableStep, Turning, TakingIn, calls_of_intake, calls_of_steps, AreDurableSteps, taken_by, IsCoveredBySteps, TurnsAreSteps, StepsGoOn, WhatIsKeptCoversWithIntakes, CrashesWithIntakesAreRestarts}
 use Rattle.babel_wire.proofs.Covering.{After, cut_in, whole_cut, sent_joined, Same, after_recv, after_now, IsOf, turn_cut, disk_after_keeping, sent_given}
 use Rattle.babel_wire.proofs.Files.{disk_joined}
 use Rattle.babel_wire.proofs.Members.{AreIn, none_in, joined_in}

@@ -1,6 +1,5 @@
 -- What a keeper knows.
 use Rattle.std.proofs.Common.{◌≡◌, ◌<◌, ℕ, true, false, List, [], ◌∷◌, Option, Some, None, refl, sym, ap, ◌∙◌, subst, arith}
-use Rattle.std.proofs.lemmas.Option.{none-some}
 use Rattle.babel_state.specs.Restarts.{Snapshot, snapshot_of}
 use Rattle.babel_snapshot.specs.Octets.{snapshot_octets}
 use Rattle.babel_snapshot.specs.SnapshotLaws.{IsRead}
@@ -24,27 +23,6 @@ keepers_fit_on (Some snapshot) (Some version) old new fits counted = (
       let then : new.snapshot_version ≡ old.snapshot_version = sym same ∙ first in
       fits.1 first below ∙ sym (counted.snapshot then (subst (λ v. v < greatest_version) same below)),
 )
-
--- The speaker's snapshot is the one that was kept last.
-known_is_last : (last : Option Snapshot) (known : Option ℕ) (speaker : SpeakerValue) → Fits last known speaker → IsKept known speaker.snapshot_version →
-    last ≡ Some (snapshot_of speaker.state)
-known_is_last None None speaker fits kept = absurd (none-some speaker.snapshot_version kept.0)
-known_is_last None (Some version) speaker fits kept = absurd fits
-known_is_last (Some snapshot) None speaker fits kept = absurd fits
-known_is_last (Some snapshot) (Some version) speaker fits kept =
-    let same : version ≡ speaker.snapshot_version = some_same version speaker.snapshot_version kept.0 in
-    ap Some (fits.1 same (subst (λ v. v < greatest_version) (sym same) kept.1))
-
-pub keeping_unchanged : (speaker : SpeakerValue) (known : Option ℕ) (h : Option (List Call)) (count : ℕ) → count ≡ speaker.snapshot_version →
-    IsKept known count → IsKeeping speaker known h known h true
-keeping_unchanged speaker known h count is kept = record {
-  keeping = Unchanged;
-  keeps = λ last fits. known_is_last last known speaker fits (subst (IsKept known) is kept);
-  done = refl;
-  keeper = refl;
-  calls = grows_not h;
-  quiet = λ _. refl;
-}
 
 pub keeping_not_made : (speaker : SpeakerValue) (known : Option ℕ) (h : Option (List Call)) (count : ℕ) → count ≡ speaker.snapshot_version →
     (IsKept known count → ⊥) → IsKeeping speaker known h known h false

@@ -1,5 +1,5 @@
 -- Datagrams that are sent one after another.
-use Rattle.std.proofs.Common.{◌≡◌, ◌+◌, ◌<◌, ℕ, Bool, true, false, not, cond, List, [], ◌∷◌, ◌++◌, map, Option, Some, None, Result, Ok, Err, add-zero, refl, sym, ap, ◌∙◌, subst, inl, inr, arith, append_assoc}
+use Rattle.std.proofs.Common.{◌≡◌, ◌+◌, ℕ, Bool, true, false, not, cond, List, [], ◌∷◌, ◌++◌, map, Option, Some, None, Result, Ok, Err, add-zero, refl, sym, ap, ◌∙◌, subst, arith, append_assoc}
 use Rattle.std.proofs.lemmas.List.{map-append, length-append, append-nil}
 use Rattle.std.proofs.lemmas.List.Sums.{sum_by_push}
 use Rattle.babel_state.specs.declared.items.Target.{Target}
@@ -9,7 +9,7 @@ use Rattle.babel_speaker.specs.Sending.{IsBuiltFrom, MeansFrom, draft_at}
 use Rattle.babel_wire.specs.declared.errors.WireFault.{WireFault}
 use Rattle.babel_wire.specs.declared.report.Report.{Report}
 use Rattle.babel_wire.specs.Calls.{Call, Send, Sending, Grows, call_of_send, sending_of, failures}
-use Rattle.babel_wire.specs.Turns.{IsDraftSent, AreSent, AreSentSoFar, IsSent, sent_by, lost_by}
+use Rattle.babel_wire.specs.Turns.{IsDraftSent, AreSent, AreSentSoFar, sent_by, lost_by}
 
 -- One datagram more.
 pub sent_more : (now : ℕ) (old mid : State) (xs : List Sending) (x : Sending) → AreSent now old xs mid → IsDraftSent now mid x →
@@ -81,24 +81,4 @@ sending_goes count now old h mid h1 r target out octets new result h2 q so goes 
   }));
   calls = subst (λ cs. Grows h cs h2) (sym (map-append Send so.sendings (sending_of target octets result ∷ []))) (grows_more h (map Send so.sendings) h1 (Send (sending_of target octets result) ∷ []) h2 so.calls grows);
   counts = counts ∙ ap (λ r. counted r (sending_of target octets result)) so.counts ∙ counted_more so.sendings (sending_of target octets result);
-}
-
--- No datagram is left.
-pub sending_stops : (count now : ℕ) (old : State) (h : Option (List Call)) (mid : State) (h1 : Option (List Call)) (r : Report) →
-    AreSentSoFar count now old h mid h1 r → count < 64 → (draft_at now mid).target ≡ None → IsSent now old h (draft_at now mid).state h1 r
-sending_stops count now old h mid h1 r so few none = record {
-  sendings = so.sendings;
-  speaker = record { last = mid; each = so.each; ends = inr (subst (λ n. n < 64) (sym so.so_many) few, none, refl) };
-  calls = so.calls;
-  counts = so.counts;
-}
-
--- There were 64.
-pub sending_ends : (count now : ℕ) (old : State) (h : Option (List Call)) (mid : State) (h1 : Option (List Call)) (r : Report) →
-    AreSentSoFar count now old h mid h1 r → count ≡ 64 → IsSent now old h mid h1 r
-sending_ends count now old h mid h1 r so all = record {
-  sendings = so.sendings;
-  speaker = record { last = mid; each = so.each; ends = inl (so.so_many ∙ all, refl) };
-  calls = so.calls;
-  counts = so.counts;
 }

@@ -1,5 +1,5 @@
 -- Datagrams that are taken, and given to the wire later.
-use Rattle.std.proofs.Common.{◌≡◌, ◌+◌, ◌<◌, ℕ, Bool, true, false, not, cond, List, [], ◌∷◌, ◌++◌, map, length, take, All, Option, Some, None, Result, add-zero, refl, sym, ap, ◌∙◌, subst, inl, inr}
+use Rattle.std.proofs.Common.{◌≡◌, ◌+◌, ℕ, Bool, true, false, not, cond, List, [], ◌∷◌, ◌++◌, map, take, All, Option, Some, Result, add-zero, refl, sym, ap, ◌∙◌, subst}
 use Rattle.std.proofs.lemmas.List.{map-append, length-append, length-map}
 use Rattle.std.proofs.lemmas.List.Elements.{All-nil, All-cons}
 use Rattle.std.proofs.lemmas.List.Sums.{sum_by_push}
@@ -11,13 +11,10 @@ use Rattle.babel_wire.specs.declared.errors.WireFault.{WireFault}
 use Rattle.babel_wire.specs.declared.report.Report.{Report}
 use Rattle.babel_wire.specs.Calls.{Call, Send, Sending, Grows, call_of_send, sending_of}
 use Rattle.babel_wire.specs.Turns.{AreSent, SendsPending, Ends, sent_by, lost_by}
-use Rattle.babel_wire.proofs.Sendings.{sent_more, grows_not, grows_more, counted}
+use Rattle.babel_wire.proofs.Sendings.{sent_more, grows_more, counted}
 use Rattle.babel_wire.specs.declared.durable.outbox.Datagram.{Datagram}
 use Rattle.babel_wire.specs.Taken.{Taken, taken_of, waiting, datagram_of}
 use Rattle.babel_wire.specs.DurableRuns.{AreTakenSoFar, AreGiven}
-
-pub taking_begins : (now : ℕ) (s : State) (taken : List Taken) → taken ≡ [] → AreTakenSoFar 0 now s taken s
-taking_begins now s taken none = subst (λ ts. AreTakenSoFar 0 now s ts s) (sym none) (record { so_many = refl; each = refl })
 
 -- The next datagram was taken.
 pub taking_goes : (count now : ℕ) (old mid : State) (taken : List Taken) (target : Target) (octets : List ℕ) (new : State) (later : List Taken) →
@@ -36,29 +33,7 @@ taking_goes count now old mid taken target octets new later so goes means built 
           (sent_more now old mid (map waiting taken) (waiting one) so.each (record { target = sym goes; octets = means; built = built })));
     })
 
--- No datagram is left.
-pub taking_stops : (count now : ℕ) (old mid : State) (taken : List Taken) (new : State) →
-    AreTakenSoFar count now old taken mid → count < 64 → (draft_at now mid).target ≡ None → new ≡ (draft_at now mid).state →
-    SendsPending now old (map waiting taken) new
-taking_stops count now old mid taken new so few none state = record {
-  last = mid;
-  each = so.each;
-  ends = inr (subst (λ n. n < 64) (sym (length-map taken waiting ∙ so.so_many)) few, none, state);
-}
-
--- There were 64.
-pub taking_ends : (count now : ℕ) (old mid : State) (taken : List Taken) →
-    AreTakenSoFar count now old taken mid → count ≡ 64 → SendsPending now old (map waiting taken) mid
-taking_ends count now old mid taken so all = record {
-  last = mid;
-  each = so.each;
-  ends = inl (length-map taken waiting ∙ so.so_many ∙ all, refl);
-}
-
 -- ---- the datagrams are given to the wire
-
-pub given_none : (h : Option (List Call)) → AreGiven [] h h (record { received = 0; sent = 0; refused = 0; faults = 0 })
-given_none h = record { sendings = []; same = refl; calls = grows_not h; counts = refl }
 
 abbrev counts_of : List Sending → Report
 counts_of xs = record { received = 0; sent = sent_by xs; refused = 0; faults = lost_by xs }
@@ -103,9 +78,6 @@ given_next datagrams index one h h1 r octets result h2 q so next same grows coun
 sent_same : (now : ℕ) (s new : State) (xs : List Sending) → AreSent now s (map waiting (map datagram_of xs)) new → AreSent now s xs new
 sent_same now s new [] same = same
 sent_same now s new (x ∷ xs) (first, rest) = (record { target = first.target; octets = first.octets; built = first.built }, sent_same now (draft_at now s).state new xs rest)
-
-pub lengths_same : (xs : List Sending) (taken : List Taken) → map datagram_of xs ≡ taken → length xs ≡ length taken
-lengths_same xs taken same = sym (length-map xs datagram_of) ∙ ap (λ (ts : List Taken). length ts) same
 
 -- Datagrams that were taken, and given to the wire afterwards.
 pub pending_given : (now : ℕ) (old new : State) (taken : List Taken) (xs : List Sending) → map datagram_of xs ≡ taken →

@@ -7,7 +7,7 @@ use Rattle.babel_state.specs.Ticks.{ticked}
 use Rattle.babel_wire.specs.declared.report.Report.{Report}
 use Rattle.babel_wire.specs.Calls.{Call, Recv, Now, Send, Receipt, Grows}
 use Rattle.babel_wire.specs.Turns.{Turn, IsTurn, AreTurns, calls_of_turn, calls_of, counts_of, counts_of_turn, received_by, refused_by, failed_by, sent_by, lost_by, IsRun, IsOneTurn, IsReceived, IsSent, SendsPending}
-use Rattle.babel_wire.proofs.Sendings.{grows_not, grows_more}
+use Rattle.babel_wire.proofs.Sendings.{grows_more}
 
 -- One turn more.
 pub turns_more : (old mid new : State) (ts : List Turn) (t : Turn) → AreTurns old ts mid → IsTurn mid t new → AreTurns old (ts ++ t ∷ []) new
@@ -30,9 +30,6 @@ report_more ts t =
       sum_by_push (λ (t : Turn). refused_by t.is_refused) ts t,
       sum_by_push (λ (t : Turn). failed_by t.receipt + lost_by t.sendings) ts t,
     ) refl
-
-pub run_begins : (s : State) (h : Option (List Call)) → IsRun 0 s h s h (counts_of [])
-run_begins s h = record { turns = []; so_many = refl; speaker = refl; calls = grows_not h; counts = refl }
 
 pub run_goes : (count : ℕ) (old : State) (h : Option (List Call)) (mid : State) (h1 : Option (List Call)) (r : Report) (new : State) (h2 : Option (List Call)) (q : Report) →
     IsRun count old h mid h1 r → IsOneTurn mid h1 new h2 q → IsRun (count + 1) old h new h2 (together r q)

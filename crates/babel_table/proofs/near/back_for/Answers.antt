@@ -1,5 +1,5 @@
 -- What a comparison means for all entries on its side, since the keys rise.
-use Rattle.std.proofs.Common.{◌-◌, sym, ap, arith, add-one}
+use Rattle.std.proofs.Common.{◌-◌, sym, ap, add-one}
 use Rattle.std.specs.Ordering.{is_eq}
 use Rattle.babel_table.proofs.PlaceLemmas.{lesser_through, greater_from}
 use Rattle.babel_table.proofs.NearLemmas.{at_there}

@@ -1,5 +1,5 @@
 -- A key that is greater than the last one is greater than all.
-use Rattle.std.proofs.Common.{◌≡◌, ◌-◌, suc, true, take, refl, sym, subst, arith}
+use Rattle.std.proofs.Common.{◌≡◌, ◌-◌, suc, true, take, sym, subst, arith}
 use Rattle.babel_table.specs.Places.{are_lesser}
 use Rattle.babel_table.proofs.PlaceLemmas.{gap_at_end, lesser_through}
 use Rattle.babel_table.proofs.near.seek_past_all.Goals as goal
