@@ -1,5 +1,5 @@
-//! Links the static library of bench/library, and the toolchain's memory functions. `bench/run` gives
-//! their folders.
+//! Links the static library of bench/library, and the toolchain's memory functions. `bench/run`
+//! gives their folders.
 
 use std::env;
 

@@ -1,4 +1,5 @@
-"""What one run of a command costs: instructions, processor time, and peak memory with its output."""
+"""What one run of a command costs: instructions, processor time, and peak memory with its
+output."""
 import hashlib
 import os
 import re
@@ -7,8 +8,13 @@ import subprocess
 import sys
 
 TIME = "/usr/bin/time"
-# valgrind counts a `rep movsb` once for each octet, and glibc moves large blocks by it. So glibc is asked for moves by vectors.
-TUNED = {"GLIBC_TUNABLES": "glibc.cpu.x86_rep_movsb_threshold=1000000000:glibc.cpu.x86_rep_stosb_threshold=1000000000"}
+# valgrind counts a `rep movsb` once for each octet, and glibc moves large blocks by it. So glibc is
+# asked for moves by vectors.
+TUNED = {
+    "GLIBC_TUNABLES": (
+        "glibc.cpu.x86_rep_movsb_threshold=1000000000:glibc.cpu.x86_rep_stosb_threshold=1000000000"
+    )
+}
 
 
 def instructions(command):
@@ -17,7 +23,8 @@ def instructions(command):
         return None
     tool = ["valgrind", "--tool=cachegrind", "--cache-sim=no", "--cachegrind-out-file=/dev/null"]
     ran = subprocess.run(
-        [*tool, *command], env={**os.environ, **TUNED}, stdin=subprocess.DEVNULL, stdout=subprocess.DEVNULL, stderr=subprocess.PIPE, check=False
+        [*tool, *command], env={**os.environ, **TUNED}, stdin=subprocess.DEVNULL,
+        stdout=subprocess.DEVNULL, stderr=subprocess.PIPE, check=False
     )
     counted = re.search(rb"I +refs: +([\d,]+)", ran.stderr)
     if not counted:
@@ -26,17 +33,22 @@ def instructions(command):
 
 
 def peak(command):
-    """The peak memory of one run in KiB, or None without /usr/bin/time, and a digest of its output. The run must succeed."""
+    """The peak memory of one run in KiB, or None without /usr/bin/time, and a digest of its output.
+    The run must succeed."""
     timed = [TIME, "-q", "-f", "%M", *command] if os.access(TIME, os.X_OK) else command
     ran = subprocess.run(timed, stdin=subprocess.DEVNULL, capture_output=True, check=False)
     if ran.returncode:
-        sys.exit(f"status {ran.returncode} of {' '.join(command)}: {ran.stderr.decode(errors='replace')}")
+        sys.exit(
+            f"status {ran.returncode} of {' '.join(command)}: {ran.stderr.decode(errors='replace')}"
+        )
     return int(ran.stderr) if timed is not command else None, hashlib.sha256(ran.stdout).digest()
 
 
 def seconds(command, output=subprocess.DEVNULL):
     """The processor time of one run."""
-    with subprocess.Popen(command, stdin=subprocess.DEVNULL, stdout=output, stderr=subprocess.STDOUT) as run:
+    with subprocess.Popen(
+        command, stdin=subprocess.DEVNULL, stdout=output, stderr=subprocess.STDOUT
+    ) as run:
         _, status, usage = os.wait4(run.pid, 0)
         run.returncode = os.waitstatus_to_exitcode(status)
     return usage.ru_utime + usage.ru_stime

@@ -1,7 +1,9 @@
-"""The inputs of bench/scaling: logs for `replay` and scenarios for `net`, each of two lengths. All of it is deterministic."""
+"""The inputs of bench/scaling: logs for `replay` and scenarios for `net`, each of two lengths. All
+of it is deterministic."""
 import collections
 
-# What is counted of an input lies between its two texts: the long one goes on where the short one ends. `units` are its lines or events.
+# What is counted of an input lies between its two texts: the long one goes on where the short one
+# ends. `units` are its lines or events.
 Cell = collections.namedtuple("Cell", ["size", "config", "short", "long", "units"])
 # A row of the table: what the input is, what grows along it, and a cell for each size.
 Row = collections.namedtuple("Row", ["kind", "name", "axis", "cells"])
@@ -53,7 +55,14 @@ def router(host):
 
 def update(prefix, metric, seqno=0, interval=LONG):
     """An Update of 10.0.PREFIX.0/24, or, above 255, of a net that follows."""
-    return b"\x08\x0d\x01\0\x18\0" + interval + number(seqno) + number(metric) + b"\x0a" + number(prefix)
+    return (
+        b"\x08\x0d\x01\0\x18\0"
+        + interval
+        + number(seqno)
+        + number(metric)
+        + b"\x0a"
+        + number(prefix)
+    )
 
 
 RETRACT_ALL = b"\x08\x0a\0\0\0\0" + LONG + b"\0\0\xff\xff"
@@ -74,13 +83,16 @@ def line(time, neighbour, body):
 
 
 def introduction(neighbours, routes):
-    """Each neighbour has a link of cost 96 and a route to each of the first prefixes, `routes` in all."""
+    """Each neighbour has a link of cost 96 and a route to each of the first prefixes, `routes` in
+    all."""
     return neighbours_with(neighbours, lambda _neighbour: range(routes // neighbours))
 
 
 def parted_introduction(neighbours, routes):
     """Each neighbour has a link of cost 96, and the prefixes are parted among them."""
-    return neighbours_with(neighbours, lambda neighbour: range(routes * neighbour // neighbours, routes * (neighbour + 1) // neighbours))
+    return neighbours_with(neighbours,
+                           lambda neighbour: range(routes * neighbour // neighbours,
+                                                   routes * (neighbour + 1) // neighbours))
 
 
 def neighbours_with(neighbours, prefixes_of, interval=LONG):
@@ -88,7 +100,9 @@ def neighbours_with(neighbours, prefixes_of, interval=LONG):
     lines = []
     for neighbour in range(neighbours):
         lines += [line(0, neighbour, hello(0)), line(0, neighbour, hello(1) + ihu(96))]
-        updates = [update(prefix, neighbour % 2, interval=interval) for prefix in prefixes_of(neighbour)]
+        updates = [
+            update(prefix, neighbour % 2, interval=interval) for prefix in prefixes_of(neighbour)
+        ]
         for first in range(0, len(updates), UPDATES_A_DATAGRAM):
             body = router(200) + b"".join(updates[first : first + UPDATES_A_DATAGRAM])
             lines.append(line(0, neighbour, body))
@@ -96,7 +110,8 @@ def neighbours_with(neighbours, prefixes_of, interval=LONG):
 
 
 def flapping_metrics(index, neighbours, routes):
-    """Each turn over the routes gives each another metric, below the advertised one, so it is feasible."""
+    """Each turn over the routes gives each another metric, below the advertised one, so it is
+    feasible."""
     turn, place = divmod(index, routes)
     return update_line(index, place, neighbours, routes, 1 + turn % 2)
 
@@ -155,11 +170,14 @@ def front_cell(size, front, more, units):
 def new_routes_cell(size):
     """The last quarter of the routes come, each in a line of its own."""
     known = size - size // 4
-    return front_cell(size, introduction(1, known), [update_line(0, prefix, 1, size, 1) for prefix in range(known, size)], size - known)
+    return front_cell(size, introduction(1, known),
+                      [update_line(0, prefix, 1, size, 1) for prefix in range(known, size)],
+                      size - known)
 
 
 def expiry_cell(size, ticks):
-    """The last of the ticks is counted for each route: the first finds that all routes are too old, and by the second all have gone."""
+    """The last of the ticks is counted for each route: the first finds that all routes are too old,
+    and by the second all have gone."""
     front = neighbours_with(1, lambda _neighbour: range(size), interval=number(100))
     lines = [f"{1_000 * (turn + 1)} tick\n" for turn in range(ticks)]
     return front_cell(size, front + lines[:-1], lines[-1:], size)
@@ -172,7 +190,8 @@ def log_cell(size, make_line, neighbours, routes, counted, introduce=introductio
 
 
 def log_rows():
-    """What grows along a row is the number of routes, or else of neighbours that have routes to the same four prefixes, and nothing else."""
+    """What grows along a row is the number of routes, or else of neighbours that have routes to the
+    same four prefixes, and nothing else."""
     kinds = [
         ("an Update with another metric", flapping_metrics, COUNTED),
         ("an Update that repeats its route", repeated_updates, COUNTED),
@@ -184,24 +203,34 @@ def log_rows():
         ("a nominal cost", nominal_costs, COUNTED),
     ]
     for name, make_line, counted in kinds:
-        yield Row("replay", f"{name}; 1 neighbour", "routes", [log_cell(size, make_line, 1, size, counted) for size in ROUTES])
-    yield Row("replay", "an Update of a new route; 1 neighbour", "routes", [new_routes_cell(size) for size in ROUTES])
-    yield Row("replay", "a route of those that a tick retracts; 1 neighbour", "routes", [expiry_cell(size, 1) for size in ROUTES])
-    yield Row("replay", "a route of those that a tick removes; 1 neighbour", "routes", [expiry_cell(size, 2) for size in ROUTES])
+        yield Row("replay", f"{name}; 1 neighbour", "routes",
+                  [log_cell(size, make_line, 1, size, counted) for size in ROUTES])
+    yield Row("replay", "an Update of a new route; 1 neighbour", "routes",
+              [new_routes_cell(size) for size in ROUTES])
+    yield Row("replay", "a route of those that a tick retracts; 1 neighbour", "routes",
+              [expiry_cell(size, 1) for size in ROUTES])
+    yield Row("replay", "a route of those that a tick removes; 1 neighbour", "routes",
+              [expiry_cell(size, 2) for size in ROUTES])
     for name, make_line, counted in kinds:
-        cells = [log_cell(size, make_line, size, size * SHARED_PREFIXES, counted) for size in NEIGHBOURS]
+        cells = [
+            log_cell(size, make_line, size, size * SHARED_PREFIXES, counted) for size in NEIGHBOURS
+        ]
         yield Row("replay", f"{name}; {SHARED_PREFIXES} prefixes", "neighbours", cells)
     # The tables are full for any number of neighbours: each of the prefixes is of one neighbour.
     counted = COUNTED // 4
-    cells = [log_cell(size, refused_updates, size, MOST_ROUTES, counted, parted_introduction) for size in NEIGHBOURS]
+    cells = [
+        log_cell(size, refused_updates, size, MOST_ROUTES, counted, parted_introduction)
+        for size in NEIGHBOURS
+    ]
     yield Row("replay", "60 Updates that full tables refuse; 256 prefixes", "neighbours", cells)
 
 
 # Scenarios.
 
 HELLO = 400
-# Events of one kind that are counted in a settled network. Among fewer the first ones weigh too much: of 2,048 glibc's malloc took 300
-# instructions an event more for a plain speaker with 16 nodes than with 64, and of 8,192 it takes 60 more.
+# Events of one kind that are counted in a settled network. Among fewer the first ones weigh too
+# much: of 2,048 glibc's malloc took 300 instructions an event more for a plain speaker with 16
+# nodes than with 64, and of 8,192 it takes 60 more.
 CALLS = 8_192
 # Ticks of each node while no datagram comes.
 SILENT_TICKS = 64
@@ -216,9 +245,10 @@ def mesh_neighbours(node, nodes):
     return [other for other in range(nodes) if other != node]
 
 
-# A node sends all its Updates with each fourth Hello, and its IHUs with each third. The counted turns of a ring are whole periods of
-# both. A full mesh of 64 nodes has 4,160 events a turn, and a scenario of ten turns is too long (F5): there one period of
-# Updates is counted. In a ring of 64 nodes a route comes to the last node after 32 turns.
+# A node sends all its Updates with each fourth Hello, and its IHUs with each third. The counted
+# turns of a ring are whole periods of both. A full mesh of 64 nodes has 4,160 events a turn, and a
+# scenario of ten turns is too long (F5): there one period of Updates is counted. In a ring of 64
+# nodes a route comes to the last node after 32 turns.
 SHAPES = [Shape("a ring", ring_neighbours, 40, 24), Shape("a full mesh", mesh_neighbours, 5, 4)]
 
 
@@ -232,7 +262,8 @@ def node_table(node, announces):
 
 
 def turn_events(turn, nodes, receivers):
-    """Each node sends one datagram with its Hello and what else fits, which each of its neighbours receives.
+    """Each node sends one datagram with its Hello and what else fits, which each of its neighbours
+    receives.
 
     A Hello is due at each turn, so the number of a datagram follows from its turn and its node.
     """
@@ -245,7 +276,9 @@ def turn_events(turn, nodes, receivers):
 
 
 def scenario_cell(shape, nodes, announcers):
-    turns = [turn_events(turn, nodes, shape.receivers) for turn in range(shape.warm + shape.counted)]
+    turns = [
+        turn_events(turn, nodes, shape.receivers) for turn in range(shape.warm + shape.counted)
+    ]
     tables = "".join(node_table(node, node in announcers) for node in range(nodes))
     short, long = (scenario(turns[:count], tables) for count in (shape.warm, len(turns)))
     return Cell(nodes, None, short, long, sum(map(len, turns[shape.warm :])))
@@ -256,7 +289,9 @@ def settled_cell(shape, nodes, make_events):
     turns = [turn_events(turn, nodes, shape.receivers) for turn in range(shape.warm)]
     events = list(make_events(nodes, shape.warm * HELLO))
     tables = "".join(node_table(node, True) for node in range(nodes))
-    return Cell(nodes, None, scenario(turns, tables), scenario([*turns, events], tables), len(events))
+    return Cell(
+        nodes, None, scenario(turns, tables), scenario([*turns, events], tables), len(events)
+    )
 
 
 def nominal_cost_events(nodes, _time):
@@ -270,8 +305,11 @@ def own_prefix_events(nodes, _time):
 
 
 def silent_ticks(nodes, time):
-    """A tick of each node each second, while no datagram comes: all links are lost, and then all routes."""
-    return (f"tick {node} {time + 100 * turn}" for turn in range(SILENT_TICKS) for node in range(nodes))
+    """A tick of each node each second, while no datagram comes: all links are lost, and then all
+    routes."""
+    return (
+        f"tick {node} {time + 100 * turn}" for turn in range(SILENT_TICKS) for node in range(nodes)
+    )
 
 
 def scenario(turns, tables):
@@ -292,7 +330,8 @@ def scenario_rows():
             ("an own prefix, withdrawn or announced", own_prefix_events),
             ("a tick while no datagram comes", silent_ticks),
         ):
-            yield Row("net", f"{words}, in {shape.name}", "nodes", [settled_cell(shape, nodes, make_events) for nodes in NODES])
+            yield Row("net", f"{words}, in {shape.name}", "nodes",
+                      [settled_cell(shape, nodes, make_events) for nodes in NODES])
 
 
 def rows():
@@ -327,15 +366,18 @@ def retract_all_or_update(index):
 def costly_datagrams():
     known, nothing = router(200), b""
     kinds = [
-        ("IHUs that flip the link between 96 and infinity", nothing, lambda index: ihu(96 if index % 2 else INFINITY)),
+        ("IHUs that flip the link between 96 and infinity", nothing,
+         lambda index: ihu(96 if index % 2 else INFINITY)),
         ("IHUs that each change the link's cost by 1", nothing, lambda index: ihu(97 - index % 2)),
         ("Hellos that each flush the neighbour", nothing, lambda index: hello(1_000 * (index + 1))),
         ("Updates that each change the router-id", nothing, other_router),
         ("retractions of all routes", nothing, lambda index: RETRACT_ALL),
         ("retractions of all routes, each followed by an Update", known, retract_all_or_update),
         ("Updates that full tables refuse", known, lambda index: update(1_000 + index, 0)),
-        ("Updates that are feasible", known, lambda index: update(index % MOST_ROUTES, index // MOST_ROUTES % 2)),
-        ("Updates that are unfeasible", known, lambda index: update(index % MOST_ROUTES, 200 + index % 9)),
+        ("Updates that are feasible", known,
+         lambda index: update(index % MOST_ROUTES, index // MOST_ROUTES % 2)),
+        ("Updates that are unfeasible", known,
+         lambda index: update(index % MOST_ROUTES, 200 + index % 9)),
         ("requests for all routes", nothing, lambda index: DUMP_REQUEST),
     ]
     return [Costly(name, first, filled(first, make_tlv)) for name, first, make_tlv in kinds]

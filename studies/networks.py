@@ -16,7 +16,8 @@ def table(items):
 
 
 def topology(nodes, links, duration, plan=(), hello=None):
-    """The text of a topology. Nodes are dictionaries, or names; a link is a pair of names with more keys, or without."""
+    """The text of a topology. Nodes are dictionaries, or names; a link is a pair of names with more
+    keys, or without."""
     lines = [f'duration = "{duration} s"', f"plan = {json.dumps(list(plan))}", "node = ["]
     for node in nodes:
         keys = dict(node) if isinstance(node, dict) else {"name": node}
@@ -31,26 +32,34 @@ def topology(nodes, links, duration, plan=(), hello=None):
 
 def ring(size, plan=(), duration=180, hello=None, loss=0):
     """A ring, whose first node announces a prefix."""
-    nodes = [{"name": f"n{number}", **({"prefixes": ["10.0.0.0/8"]} if number == 0 else {})} for number in range(size)]
+    nodes = [
+        {"name": f"n{number}", **({"prefixes": ["10.0.0.0/8"]} if number == 0 else {})}
+        for number in range(size)
+    ]
     links = [(f"n{number}", f"n{(number + 1) % size}", {"loss": loss}) for number in range(size)]
     return topology(nodes, links, duration, plan, hello)
 
 
 def grid(width, plan=(), duration=600, announcing=4096):
     """A square, whose nodes announce a prefix of their own each, or the first ones alone."""
-    nodes = [{"name": f"n{number}", "prefixes": [f"10.0.{number}.0/24"][: number < announcing]} for number in range(width * width)]
+    nodes = [
+        {"name": f"n{number}", "prefixes": [f"10.0.{number}.0/24"][: number < announcing]}
+        for number in range(width * width)
+    ]
     links = [(f"n{number - 1}", f"n{number}") for number in range(width * width) if number % width]
     links += [(f"n{number - width}", f"n{number}") for number in range(width, width * width)]
     return topology(nodes, links, duration, plan)
 
 
 def line_with_crash(restarts, cut, crash, restart, duration, more=()):
-    """A line a, b, c with a prefix at a. The link a-b is cut, and b crashes and begins again, at these seconds.
+    """A line a, b, c with a prefix at a. The link a-b is cut, and b crashes and begins again, at
+    these seconds.
 
     More steps of the plan come before it begins again.
     """
     nodes = [{"name": "a", "prefixes": ["10.0.0.0/8"]}, {"name": "b", "restarts": restarts}, "c"]
-    plan = [f"at {cut} s cut a-b", f"at {crash} s crash b", *more[:1], f"at {restart} s restart b", *more[1:]]
+    plan = [f"at {cut} s cut a-b", f"at {crash} s crash b", *more[:1], f"at {restart} s restart b",
+            *more[1:]]
     return topology(nodes, [("a", "b"), ("b", "c")], duration, plan)
 
 
@@ -79,7 +88,9 @@ def stranded(objects, origin, moment, cut):
     names = {item["node"] for item in objects if item["type"] == "route"}
     end = next(item for item in objects if item["type"] == "end")["time"]
     hops = {}
-    changes = sorted((item for item in objects if item["type"] == "hop"), key=lambda item: item["time"])
+    changes = sorted(
+        (item for item in objects if item["type"] == "hop"), key=lambda item: item["time"]
+    )
     moments = sorted({moment, end, *(item["time"] for item in changes)})
     for at, until in zip(moments, [*moments[1:], end]):
         hops.update({item["node"]: item["via"] for item in changes if item["time"] == at})
@@ -89,7 +100,8 @@ def stranded(objects, origin, moment, cut):
 
 
 def outage(objects, origin, moment, cut):
-    """How long after the moment until every node has a way from then on; None if one has none at the end."""
+    """How long after the moment until every node has a way from then on; None if one has none at
+    the end."""
     restored = None
     for at, _, without in stranded(objects, origin, moment, cut):
         if without:
@@ -100,14 +112,18 @@ def outage(objects, origin, moment, cut):
 
 
 def first_restored(objects, origin, moment, cut):
-    """How long after the moment until every node has a way for the first time; None if that never was so."""
-    return next((at for at, _, without in stranded(objects, origin, moment, cut) if not without), None)
+    """How long after the moment until every node has a way for the first time; None if that never
+    was so."""
+    return next(
+        (at for at, _, without in stranded(objects, origin, moment, cut) if not without), None
+    )
 
 
 def share_stranded(objects, origin, moment, cut, since):
     """Which part of the time after `since` the nodes were without a way, in percent."""
     names = {item["node"] for item in objects if item["type"] == "route"} - {origin}
-    spans = [(max(at, since), until, without) for at, until, without in stranded(objects, origin, moment, cut) if until > since]
+    spans = [(max(at, since), until, without) for at, until,
+             without in stranded(objects, origin, moment, cut) if until > since]
     total = sum(until - at for at, until, _ in spans)
     return 100 * sum((until - at) * without for at, until, without in spans) / (total * len(names))
 

@@ -1,11 +1,14 @@
-"""Three speakers in a line on loopback, with a link that can be cut, and one in the middle that is killed.
+"""Three speakers in a line on loopback, with a link that can be cut, and one in the middle that is
+killed.
 
-The router 1 is the origin of 10.1.0.0/16, and the link between it and the router 2 goes over a relay of this module. The relay drops
-all datagrams while the link is cut. A speaker knows the relay's address as its neighbour's, so the relay writes the right one into
-IHUs (RFC 8966, section 4.6.6). The routers 2 and 3 are linked directly, and the router 2 is the one that is killed.
+The router 1 is the origin of 10.1.0.0/16, and the link between it and the router 2 goes over a
+relay of this module. The relay drops all datagrams while the link is cut. A speaker knows the
+relay's address as its neighbour's, so the relay writes the right one into IHUs (RFC 8966, section
+4.6.6). The routers 2 and 3 are linked directly, and the router 2 is the one that is killed.
 
-What each speaker prints of its routes is read as it comes. All pipes are read until none has more, and then next hops are followed. A
-line is written before anything is sent that depends on it, so what was read by then is a state that the routers were in together.
+What each speaker prints of its routes is read as it comes. All pipes are read until none has more,
+and then next hops are followed. A line is written before anything is sent that depends on it, so
+what was read by then is a state that the routers were in together.
 """
 import os
 import random
@@ -45,7 +48,10 @@ class Link(threading.Thread):
         super().__init__(daemon=True)
         self.port, self.is_cut, self.is_closed = port, False, False
         self.faces = {}
-        for own, router, peer, peer_face in (("127.0.0.22", "127.0.0.1", "127.0.0.2", "127.0.0.21"), ("127.0.0.21", "127.0.0.2", "127.0.0.1", "127.0.0.22")):
+        for own, router, peer, peer_face in (
+            ("127.0.0.22", "127.0.0.1", "127.0.0.2", "127.0.0.21"),
+            ("127.0.0.21", "127.0.0.2", "127.0.0.1", "127.0.0.22"),
+        ):
             face = socket.socket(socket.AF_INET, socket.SOCK_DGRAM)
             face.bind((own, port))
             face.settimeout(0.2)
@@ -82,22 +88,38 @@ class Router:
     """A speaker, and what it printed of its routes."""
 
     def __init__(self, folder, number, babel, port, keeps):
-        self.folder, self.number, self.babel, self.port, self.keeps = folder, number, babel, port, keeps
-        self.path, self.kept, self.err = (os.path.join(folder, f"router{number}.{end}") for end in ("toml", "kept", "err"))
+        self.folder, self.number, self.babel, self.port, self.keeps = (
+            folder,
+            number,
+            babel,
+            port,
+            keeps,
+        )
+        self.path, self.kept, self.err = (
+            os.path.join(folder, f"router{number}.{end}") for end in ("toml", "kept", "err")
+        )
         with open(self.path, "w", encoding="utf-8") as sink:
             peers = ", ".join(f'"{peer}"' for peer in PEERS[number])
-            sink.write(f'router-id = "000000000000000{number}"\nprefixes = ["10.{number}.0.0/16"]\n\n')
-            sink.write(f'[[interface]]\ntransport = "ipv4"\nipv4 = "127.0.0.{number}/8"\nhello = 20\npeers = [{peers}]\n')
+            sink.write(
+                f'router-id = "000000000000000{number}"\nprefixes = ["10.{number}.0.0/16"]\n\n'
+            )
+            sink.write(
+                f'[[interface]]\ntransport = "ipv4"\nipv4 = "127.0.0.{number}/8"\nhello = 20\npeers'
+                f' = [{peers}]\n'
+            )
         self.hops, self.process, self.rest = {}, None, b""
 
     def start(self):
         """Starts it, from its file if that is there. A new process has no routes."""
-        words = [self.babel, "speak", self.path, "--turns", TURNS, "--port", str(self.port), "--routes"]
+        words = [self.babel, "speak", self.path, "--turns", TURNS, "--port", str(self.port),
+                 "--routes"]
         if self.keeps:
             words += ["--keep", self.kept] + ([] if os.path.exists(self.kept) else ["--new"])
         self.hops, self.rest = {}, b""
         with open(self.err, "ab") as err:
-            self.process = subprocess.Popen(words, stdin=subprocess.DEVNULL, stdout=subprocess.PIPE, stderr=err)
+            self.process = subprocess.Popen(
+                words, stdin=subprocess.DEVNULL, stdout=subprocess.PIPE, stderr=err
+            )
         os.set_blocking(self.process.stdout.fileno(), False)
 
     def kill(self):
@@ -125,7 +147,8 @@ class Router:
         """Whether `check` takes the file, which is there once the first turn has kept it."""
         if not os.path.exists(self.kept):
             return True
-        ran = subprocess.run([self.babel, "check", self.path, "--restore", self.kept], capture_output=True, text=True, timeout=60)
+        ran = subprocess.run([self.babel, "check", self.path, "--restore", self.kept],
+                             capture_output=True, text=True, timeout=60)
         return ran.returncode == 0 and ran.stdout.startswith("ok ") and ran.stderr == ""
 
 
@@ -142,7 +165,8 @@ def loop_in(routers, prefix):
 
 
 class Line:
-    """The three routers. `keeps`: their snapshots are kept; else a router that is killed starts as a new one."""
+    """The three routers. `keeps`: their snapshots are kept; else a router that is killed starts as
+    a new one."""
 
     def __init__(self, folder, babel, port, keeps=True):
         self.link = Link(int(port))
@@ -174,12 +198,15 @@ class Line:
             if not loop and prefix in self.loops_began:
                 began, seen = self.loops_began.pop(prefix)
                 self.loops.append((prefix, seen, time.monotonic() - began))
-        self.routes += sum(self.routers[number].hops.get(PREFIXES[0]) is not None for number in (2, 3))
+        self.routes += sum(
+            self.routers[number].hops.get(PREFIXES[0]) is not None for number in (2, 3)
+        )
 
     def has_all(self):
         """Whether each router has each other's prefix, along the line."""
         wanted = {1: {2: 2, 3: 2}, 2: {1: 1, 3: 3}, 3: {1: 2, 2: 2}}
-        return all(self.routers[at].hops.get(f"10.{to}.0.0/16") == hop for at, hops in wanted.items() for to, hop in hops.items())
+        return all(self.routers[at].hops.get(f"10.{to}.0.0/16") == hop for at,
+                   hops in wanted.items() for to, hop in hops.items())
 
     def until_all(self, seconds):
         """How long it takes until each router has each prefix, or None."""
@@ -199,7 +226,8 @@ class Line:
         middle.start()
 
     def kill_often(self, chance, kills):
-        """So many kills, at random moments: half of them in the first tenth of a second after the start, the others within two seconds."""
+        """So many kills, at random moments: half of them in the first tenth of a second after the
+        start, the others within two seconds."""
         for _ in range(kills):
             self.link.is_cut = chance.random() < 0.6
             self.cuts += self.link.is_cut
@@ -213,4 +241,6 @@ class Line:
         self.link.close()
         for prefix, (began, seen) in self.loops_began.items():
             self.loops.append((prefix, seen, time.monotonic() - began))
-        return "".join(open(router.err, encoding="utf-8").read() for router in self.routers.values())
+        return "".join(
+            open(router.err, encoding="utf-8").read() for router in self.routers.values()
+        )

@@ -1,7 +1,9 @@
-"""The Hellos that come over a link, with the kernel's times of arrival, and how long this machine stalls meanwhile.
+"""The Hellos that come over a link, with the kernel's times of arrival, and how long this machine
+stalls meanwhile.
 
-A peer that counts a Hello as missed doesn't tell whether it wasn't sent, or came late since the machine was busy. On the wire both
-can be seen: a Hello that wasn't sent is a seqno that is missing, and a late one has its time.
+A peer that counts a Hello as missed doesn't tell whether it wasn't sent, or came late since the
+machine was busy. On the wire both can be seen: a Hello that wasn't sent is a seqno that is missing,
+and a late one has its time.
 """
 import contextlib
 import os
@@ -40,9 +42,12 @@ class Listener(threading.Thread):
         while not self.ended.is_set():
             with contextlib.suppress(TimeoutError):
                 octets, controls, _, _ = self.socket.recvmsg(1 << 16, 256)
-                times = [struct.unpack("=qq", data) for level, kind, data in controls if (level, kind) == (socket.SOL_SOCKET, TIMESTAMPS)]
+                times = [struct.unpack("=qq", data) for level, kind,
+                         data in controls if (level, kind) == (socket.SOL_SOCKET, TIMESTAMPS)]
                 if times and octets[8:24] == self.address:
-                    self.hellos += [(times[0][0] + times[0][1] / 1e9, *hello) for hello in hellos_in(octets)]
+                    self.hellos += [
+                        (times[0][0] + times[0][1] / 1e9, *hello) for hello in hellos_in(octets)
+                    ]
         self.socket.close()
 
     def end(self):
@@ -55,13 +60,22 @@ class Listener(threading.Thread):
         return sum(1 for one, other in zip(seqnos, seqnos[1:]) if (other - one) % 65536 != 1)
 
     def latest(self):
-        """By how much the latest Hello came after the interval that the one before it announced, in seconds."""
-        return max((other[0] - one[0] - one[2] for one, other in zip(self.hellos, self.hellos[1:])), default=0)
+        """By how much the latest Hello came after the interval that the one before it announced, in
+        seconds."""
+        return max(
+            (other[0] - one[0] - one[2] for one, other in zip(self.hellos, self.hellos[1:])),
+            default=0,
+        )
 
 
 def hellos_in(octets):
     """The seqno and the interval of each Hello of an IPv6 packet with a Babel datagram."""
-    if len(octets) < 52 or octets[6] != UDP or struct.unpack_from(">H", octets, 42)[0] != PORT or octets[48:50] != b"\x2a\x02":
+    if (
+        len(octets) < 52
+        or octets[6] != UDP
+        or struct.unpack_from(">H", octets, 42)[0] != PORT
+        or octets[48:50] != b"\x2a\x02"
+    ):
         return
     at, end = 52, 52 + struct.unpack_from(">H", octets, 50)[0]
     while at + 2 <= min(end, len(octets)):
@@ -80,7 +94,8 @@ class Stalls:
     """
 
     def __init__(self):
-        self.process = subprocess.Popen([sys.executable, os.path.abspath(__file__)], stdin=subprocess.PIPE, stdout=subprocess.PIPE, text=True)
+        self.process = subprocess.Popen([sys.executable, os.path.abspath(__file__)],
+                                        stdin=subprocess.PIPE, stdout=subprocess.PIPE, text=True)
 
     def end(self):
         """By how much it was woken too late, at most, in seconds."""

@@ -20,7 +20,8 @@ class Clock(threading.Thread):
 
 
 def undisturbed(name, attempt, pause, tries):
-    """How much differs, which `attempt` returns. After a pause of the machine it is called again."""
+    """How much differs, which `attempt` returns. After a pause of the machine it is called
+    again."""
     clock = Clock()
     clock.start()
     for turn in range(1, tries + 1):

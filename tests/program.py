@@ -10,10 +10,13 @@ SKIPPED = 77
 
 
 def find_program():
-    """The program that BABEL names, or else the one that ./babel runs, which is built first if need be."""
+    """The program that BABEL names, or else the one that ./babel runs, which is built first if need
+    be."""
     if "BABEL" in os.environ:
         return os.environ["BABEL"]
-    ran = subprocess.run([os.path.join(ROOT, "tools", "program")], stdout=subprocess.PIPE, text=True, check=True)
+    ran = subprocess.run(
+        [os.path.join(ROOT, "tools", "program")], stdout=subprocess.PIPE, text=True, check=True
+    )
     return ran.stdout.strip()
 
 

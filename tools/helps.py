@@ -1,4 +1,5 @@
-"""What `babel --help` and the `--help` of each command say: the man page and the completions are made from it."""
+"""What `babel --help` and the `--help` of each command say: the man page and the completions are
+made from it."""
 import os
 import re
 import subprocess
@@ -9,7 +10,8 @@ ROOT = os.path.dirname(os.path.dirname(os.path.realpath(__file__)))
 
 @dataclass
 class Item:
-    """An argument or an option: its names, the name of its value (empty if it has none), and its help."""
+    """An argument or an option: its names, the name of its value (empty if it has none), and its
+    help."""
 
     names: list[str]
     value: str
@@ -34,14 +36,17 @@ def find_program():
     """The program that BABEL names, or else the one that ./babel runs."""
     if "BABEL" in os.environ:
         return os.environ["BABEL"]
-    ran = subprocess.run([os.path.join(ROOT, "tools", "program")], stdout=subprocess.PIPE, text=True, check=True)
+    ran = subprocess.run(
+        [os.path.join(ROOT, "tools", "program")], stdout=subprocess.PIPE, text=True, check=True
+    )
     return ran.stdout.strip()
 
 
 def output_of(program, *words):
     """What the program prints, on standard output or else on standard error."""
     # The usage has the name by which the program is called.
-    ran = subprocess.run(["babel", *words], executable=program, stdout=subprocess.PIPE, stderr=subprocess.PIPE, stdin=subprocess.DEVNULL, text=True)
+    ran = subprocess.run(["babel", *words], executable=program, stdout=subprocess.PIPE,
+                         stderr=subprocess.PIPE, stdin=subprocess.DEVNULL, text=True)
     return ran.stdout or ran.stderr
 
 
@@ -86,7 +91,9 @@ def read_help(name, text):
 def read_all(program):
     """The program's help, and that of each of its commands."""
     top = read_help("babel", output_of(program, "--help"))
-    commands = [read_help(item.value, output_of(program, item.value, "--help")) for item in top.arguments]
+    commands = [
+        read_help(item.value, output_of(program, item.value, "--help")) for item in top.arguments
+    ]
     return top, commands
 
 
@@ -96,7 +103,9 @@ def version_of(program):
 
 def words_of(program):
     """The words of --only, which the program names if it gets another one."""
-    found = re.search(r"\[possible values: ([^\]]*)\]", output_of(program, "replay", "--only", "?", "c", "l"))
+    found = re.search(
+        r"\[possible values: ([^\]]*)\]", output_of(program, "replay", "--only", "?", "c", "l")
+    )
     return found[1].split(", ") if found else []
 
 

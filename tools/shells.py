@@ -39,7 +39,9 @@ def bash(top, commands, words):
         "    local word=${COMP_WORDS[COMP_CWORD]} last=${COMP_WORDS[COMP_CWORD-1]}",
         "    COMPREPLY=()",
         "    if [ \"$COMP_CWORD\" -eq 1 ]; then",
-        f'        COMPREPLY=($(compgen -W "{" ".join([*(c.name for c in commands), *(n for o in top.options for n in o.names)])}" -- "$word"))',
+        f'        COMPREPLY=($(compgen -W '
+        f'"{" ".join([*(c.name for c in commands), *(n for o in top.options for n in o.names)])}" '
+        f'-- "$word"))',
         "        return",
         "    fi",
         '    case "${COMP_WORDS[1]}" in',
@@ -48,15 +50,23 @@ def bash(top, commands, words):
         lines += [f"    {command.name})", '        case "$last" in']
         for option in command.options:
             if option.value:
-                lines.append(f"        {'|'.join(option.names)}) {bash_values(kind_of(option.value), words)}; return ;;")
+                lines.append(
+                    f"        {'|'.join(option.names)})"
+                    f" {bash_values(kind_of(option.value), words)}; return ;;"
+                )
         names = " ".join(name for option in command.options for name in option.names)
-        lines += ["        esac", f'        if [[ $word == -* ]]; then COMPREPLY=($(compgen -W "{names}" -- "$word")); return; fi']
+        lines += ["        esac",
+                  f'        if [[ $word == -* ]]; then COMPREPLY=($(compgen -W "{names}" -- '
+                  f'"$word")); return; fi']
         kinds = {kind_of(item.value) for item in command.arguments}
         kind = "files" if "files" in kinds else "device" if "device" in kinds else "other"
         for item in command.arguments:
             if kind_of(item.value) == "listed":
                 listed = " ".join(listed_words(item))
-                lines.append(f"        case ' {listed} ' in *\" $last \"*) ;; *) {bash_values('words', listed_words(item))}; return ;; esac")
+                lines.append(
+                    f"        case ' {listed} ' in *\" $last \"*) ;; *)"
+                    f" {bash_values('words', listed_words(item))}; return ;; esac"
+                )
         lines += [f"        {bash_values(kind, words)}", "        ;;"]
     return "\n".join([*lines, "    esac", "}", "complete -o default -F _babel babel"]) + "\n"
 
@@ -77,9 +87,14 @@ def zsh_values(value, words):
 
 
 def zsh(top, commands, words):
-    lines = ["#compdef babel", f"# {HEAD}", "_babel() {", "    local context state line", "    typeset -A opt_args", "    local -a commands", "    commands=("]
+    lines = ["#compdef babel", f"# {HEAD}", "_babel() {", "    local context state line",
+             "    typeset -A opt_args", "    local -a commands", "    commands=("]
     lines += [f"        '{command.name}:{zsh_text(command.about)}'" for command in commands]
-    lines += ["    )", "    _arguments -C '(-)'{-h,--help}'[Print help]' '(-)'{-V,--version}'[Print version]' '1:command:->command' '*::argument:->argument'", "    case $state in", "    command) _describe command commands ;;", "    argument)", "        case $words[1] in"]
+    lines += ["    )",
+              "    _arguments -C '(-)'{-h,--help}'[Print help]' '(-)'{-V,--version}'[Print "
+              "version]' '1:command:->command' '*::argument:->argument'", "    case $state in",
+              "    command) _describe command commands ;;", "    argument)",
+              "        case $words[1] in"]
     for command in commands:
         lines.append(f"        {command.name})")
         parts = []
@@ -89,9 +104,15 @@ def zsh(top, commands, words):
                 parts.append(f"'{name}[{zsh_text(option.help)}]{tail}'")
         for number, item in enumerate(command.arguments, 1):
             place = "*" if item.is_repeated else str(number)
-            values = f":({' '.join(listed_words(item))})" if kind_of(item.value) == "listed" else zsh_values(item.value, words)
+            values = (
+                f":({' '.join(listed_words(item))})"
+                if kind_of(item.value) == "listed"
+                else zsh_values(item.value, words)
+            )
             parts.append(f"'{place}:{item.value.removesuffix('...')}{values}'")
-        lines += ["            _arguments \\", *(f"                {part} \\" for part in parts[:-1]), f"                {parts[-1]}", "            ;;"]
+        lines += ["            _arguments \\",
+                  *(f"                {part} \\" for part in parts[:-1]),
+                  f"                {parts[-1]}", "            ;;"]
     return "\n".join([*lines, "        esac", "        ;;", "    esac", "}", '_babel "$@"']) + "\n"
 
 
@@ -102,15 +123,25 @@ def fish_text(text):
 def fish(top, commands, words):
     lines = [f"# {HEAD}", "complete -c babel -f"]
     for option in top.options:
-        lines.append(f"complete -c babel -n __fish_use_subcommand {fish_names(option)} -d {fish_text(option.help)}")
+        lines.append(
+            f"complete -c babel -n __fish_use_subcommand {fish_names(option)} -d"
+            f" {fish_text(option.help)}"
+        )
     for command in commands:
-        lines.append(f"complete -c babel -n __fish_use_subcommand -a {command.name} -d {fish_text(command.about)}")
+        lines.append(
+            f"complete -c babel -n __fish_use_subcommand -a {command.name} -d"
+            f" {fish_text(command.about)}"
+        )
         seen = f"-n '__fish_seen_subcommand_from {command.name}'"
         for option in command.options:
             tail = ""
             if option.value:
-                tail = {"files": " -r -F", "device": " -x -a '(ls /sys/class/net)'", "words": f" -x -a '{' '.join(words)}'", "other": " -x"}[kind_of(option.value)]
-            lines.append(f"complete -c babel {seen} {fish_names(option)}{tail} -d {fish_text(option.help)}")
+                tail = {"files": " -r -F", "device": " -x -a '(ls /sys/class/net)'",
+                        "words": f" -x -a '{' '.join(words)}'",
+                        "other": " -x"}[kind_of(option.value)]
+            lines.append(
+                f"complete -c babel {seen} {fish_names(option)}{tail} -d {fish_text(option.help)}"
+            )
         kinds = {kind_of(item.value) for item in command.arguments}
         if "files" in kinds:
             lines.append(f"complete -c babel {seen} -F")
@@ -119,9 +150,14 @@ def fish(top, commands, words):
         for item in command.arguments:
             if kind_of(item.value) == "listed":
                 listed = " ".join(listed_words(item))
-                lines.append(f"complete -c babel -n '__fish_seen_subcommand_from {command.name}; and not __fish_seen_subcommand_from {listed}' -a '{listed}'")
+                lines.append(
+                    f"complete -c babel -n '__fish_seen_subcommand_from {command.name}; and not"
+                    f" __fish_seen_subcommand_from {listed}' -a '{listed}'"
+                )
     return "\n".join(lines) + "\n"
 
 
 def fish_names(option):
-    return " ".join(f"-l {name[2:]}" if name.startswith("--") else f"-s {name[1:]}" for name in option.names)
+    return " ".join(
+        f"-l {name[2:]}" if name.startswith("--") else f"-s {name[1:]}" for name in option.names
+    )

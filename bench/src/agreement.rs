@@ -31,8 +31,8 @@ impl Counts {
     }
 }
 
-/// Compares all that both decoders read, as text, which names each field of each TLV. The first datagram
-/// that they read differently is the error.
+/// Compares all that both decoders read, as text, which names each field of each TLV. The first
+/// datagram that they read differently is the error.
 pub fn check(datagrams: &[Datagram]) -> Result<Counts, String> {
     let mut counts = Counts::default();
     for (place, datagram) in datagrams.iter().enumerate() {

@@ -1,4 +1,5 @@
-//! Datagrams to build again: their messages, in one process, by the proved builder and by the plain one.
+//! Datagrams to build again: their messages, in one process, by the proved builder and by the plain
+//! one.
 
 use crate::corpus::Datagram;
 use crate::plain::{Message, Metric, Prefix, RouterId, Seqno};
@@ -38,8 +39,8 @@ fn messages_of(text: &str) -> Vec<&str> {
         .collect()
 }
 
-/// Builds each datagram again by both builders. The octets must be the same, and mean the same messages as
-/// the datagram. Returns how many were built.
+/// Builds each datagram again by both builders. The octets must be the same, and mean the same
+/// messages as the datagram. Returns how many were built.
 pub fn check(datagrams: &[Datagram]) -> Result<usize, String> {
     let mut count = 0;
     for (place, datagram) in datagrams.iter().enumerate() {
@@ -201,8 +202,8 @@ pub fn classes() -> Vec<(&'static str, Datagram)> {
     ]
 }
 
-/// Prints the octets of the TLVs of 256 routes, plain and compressed: a plain Update has a Router-Id and a
-/// Next Hop before it and all octets of its prefix.
+/// Prints the octets of the TLVs of 256 routes, plain and compressed: a plain Update has a
+/// Router-Id and a Next Hop before it and all octets of its prefix.
 pub fn print_tables() {
     let link_local = IpAddr::from(Ipv6Addr::new(0xfe80, 0, 0, 0, 0, 0, 0, 1));
     let tables: [(&str, IpAddr, fn(u8) -> (IpAddr, u8, u8)); 6] = [

@@ -1,5 +1,5 @@
-//! A plain decoder of Babel datagrams (RFC 8966, section 4), to compare with: Rust as one writes it,
-//! with running defaults, one pass, and each place pushed into a `Vec`.
+//! A plain decoder of Babel datagrams (RFC 8966, section 4), to compare with: Rust as one writes
+//! it, with running defaults, one pass, and each place pushed into a `Vec`.
 
 use std::net::{IpAddr, Ipv4Addr, Ipv6Addr};
 
@@ -172,7 +172,8 @@ struct Tlv<'a> {
     payload: &'a [u8],
 }
 
-/// The TLVs of a body, or the sub-TLVs of a TLV; an offset in place of the one that runs past the end.
+/// The TLVs of a body, or the sub-TLVs of a TLV; an offset in place of the one that runs past the
+/// end.
 struct Tlvs<'a> {
     bytes: &'a [u8],
     offset: usize,
@@ -355,8 +356,8 @@ impl UpdateFields {
         })
     }
 
-    /// The octets of the prefix, `None` if they need a default prefix and there is none, and the octets
-    /// after them.
+    /// The octets of the prefix, `None` if they need a default prefix and there is none, and the
+    /// octets after them.
     fn read_octets<'a, const N: usize>(
         &self,
         default: Option<[u8; N]>,

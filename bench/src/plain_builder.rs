@@ -1,5 +1,5 @@
-//! A plain builder of Babel datagrams (RFC 8966, section 4), to compare with: Rust as one writes it, into
-//! an array, in few octets.
+//! A plain builder of Babel datagrams (RFC 8966, section 4), to compare with: Rust as one writes
+//! it, into an array, in few octets.
 
 use crate::plain::{Message, Metric, Prefix, RouterId, Seqno};
 use std::net::{IpAddr, Ipv4Addr, Ipv6Addr};

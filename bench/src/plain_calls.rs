@@ -40,8 +40,8 @@ pub fn text(datagram: &Datagram) -> String {
     texts::text(&plain::decode(&datagram.bytes, datagram.source))
 }
 
-/// Builds a datagram of the messages of the datagram this many times over, and returns the length of the
-/// last one, which is written.
+/// Builds a datagram of the messages of the datagram this many times over, and returns the length
+/// of the last one, which is written.
 pub fn build(datagram: &Datagram, turns: usize, built: &mut [u8]) -> usize {
     let source = source_of(&datagram.source_octets);
     let Ok(placed) = plain::decode(&datagram.bytes, source) else {

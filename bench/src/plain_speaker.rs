@@ -1,9 +1,9 @@
-//! A plain speaker of the paths that are timed: Hellos, IHUs, updates, dump requests, ticks and sending.
-//! Rust as one writes it: sorted `Vec`s, a `VecDeque`, least deadlines that are kept, and one flag for
-//! 'all selections are current'. It sends the same octets as the proved speaker.
+//! A plain speaker of the paths that are timed: Hellos, IHUs, updates, dump requests, ticks and
+//! sending. Rust as one writes it: sorted `Vec`s, a `VecDeque`, least deadlines that are kept, and
+//! one flag for 'all selections are current'. It sends the same octets as the proved speaker.
 //!
-//! What the timed paths don't need is left out: retractions, requests for a seqno, the second kind of
-//! Hellos, IPv6, and refusals.
+//! What the timed paths don't need is left out: retractions, requests for a seqno, the second kind
+//! of Hellos, IPv6, and refusals.
 
 use crate::plain::{self, Content, Message, Metric, Prefix, RouterId, Seqno};
 use crate::plain_builder::Builder;
@@ -159,7 +159,8 @@ impl Speaker {
             }
     }
 
-    /// The candidate of least metric, then the one selected before, then that of the least neighbour.
+    /// The candidate of least metric, then the one selected before, then that of the least
+    /// neighbour.
     fn choose(&self, prefix: Key, before: Option<Peer>) -> Option<Selection> {
         let first = self.routes.partition_point(|e| e.0 .0 < prefix);
         let mut best: Option<((u16, bool, Peer), Selection)> = None;
@@ -573,7 +574,8 @@ fn is_from_link(iface: u8, source: IpAddr) -> bool {
     }
 }
 
-/// Takes the steps of `setup` once, and those of `turn` this many times, as the proved speaker's call does.
+/// Takes the steps of `setup` once, and those of `turn` this many times, as the proved speaker's
+/// call does.
 pub fn run(setup: &[u8], turn: &[u8], turns: usize) -> u64 {
     let mut speaker = Speaker::new();
     let mut sum = take_steps(&mut speaker, setup);

@@ -50,7 +50,8 @@ pub fn decode(datagram: &Datagram) -> usize {
     unsafe { babel_bench_decode(bytes.as_ptr(), bytes.len(), source.as_ptr(), source.len()) }
 }
 
-/// Decodes the datagram this many times into one list that is kept, and returns the offset of the last TLV.
+/// Decodes the datagram this many times into one list that is kept, and returns the offset of the
+/// last TLV.
 pub fn decode_kept(datagram: &Datagram, turns: usize) -> usize {
     let (bytes, source) = (&datagram.bytes, &datagram.source_octets);
     // SAFETY: the pointers and lengths are those of two slices.
@@ -85,8 +86,8 @@ pub fn text(datagram: &Datagram) -> String {
     String::from_utf8(text).expect("the text is ASCII")
 }
 
-/// Builds a datagram of the messages of the datagram this many times over, and returns the length of the
-/// last one, which is written.
+/// Builds a datagram of the messages of the datagram this many times over, and returns the length
+/// of the last one, which is written.
 pub fn build(datagram: &Datagram, turns: usize, built: &mut [u8]) -> usize {
     let (bytes, source) = (&datagram.bytes, &datagram.source_octets);
     // SAFETY: the pointers and lengths are those of three slices.
@@ -103,8 +104,8 @@ pub fn build(datagram: &Datagram, turns: usize, built: &mut [u8]) -> usize {
     }
 }
 
-/// Makes a speaker take the steps of `setup` once, and those of `turn` this many times. Returns a sum over
-/// the notes and the datagrams that are sent.
+/// Makes a speaker take the steps of `setup` once, and those of `turn` this many times. Returns a
+/// sum over the notes and the datagrams that are sent.
 pub fn run_speaker(setup: &[u8], turn: &[u8], turns: usize) -> u64 {
     // SAFETY: the pointers and lengths are those of two slices.
     unsafe {

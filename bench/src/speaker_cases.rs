@@ -1,6 +1,6 @@
-//! What the speakers are timed on: 8 interfaces with 8 neighbours each, 256 routes of one prefix each, and
-//! 512 sources. Each step has 12 octets (what it is, the interface, the source address, the moment, the
-//! number of octets) and then its octets.
+//! What the speakers are timed on: 8 interfaces with 8 neighbours each, 256 routes of one prefix
+//! each, and 512 sources. Each step has 12 octets (what it is, the interface, the source address,
+//! the moment, the number of octets) and then its octets.
 
 use crate::plain::{Message, Metric, Prefix, RouterId, Seqno};
 use crate::plain_builder::Builder;
@@ -70,7 +70,8 @@ fn ihu_with(iface: u8, rxcost: u16, interval: u16) -> Message {
     }
 }
 
-/// Two IHUs of the neighbour 0 of the interface, which has routes, of which each changes the cost of the link.
+/// Two IHUs of the neighbour 0 of the interface, which has routes, of which each changes the cost
+/// of the link.
 fn costs(iface: u8) -> Vec<u8> {
     ihus(iface, [97, 96])
 }
@@ -183,7 +184,8 @@ fn crowd_costs() -> Vec<u8> {
     [with(97), with(96)].concat()
 }
 
-/// 64 neighbours that each have a route to the same four prefixes, nothing pending and nothing due at `NOW`.
+/// 64 neighbours that each have a route to the same four prefixes, nothing pending and nothing due
+/// at `NOW`.
 fn setup_crowd() -> Vec<u8> {
     let mut steps = introductions();
     for prefix in 0..4 {
@@ -229,7 +231,8 @@ fn settled() -> Vec<u8> {
     steps
 }
 
-/// `setup`, and then 64 requests for a seqno are pending: each is forwarded, and none is due at `NOW`.
+/// `setup`, and then 64 requests for a seqno are pending: each is forwarded, and none is due at
+/// `NOW`.
 fn setup_with_requests() -> Vec<u8> {
     let mut steps = setup();
     for first in [0, 32] {

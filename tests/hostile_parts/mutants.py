@@ -1,4 +1,5 @@
-"""Random and mutated input: datagrams, logs, configurations and scenarios. All of it depends on the seed alone."""
+"""Random and mutated input: datagrams, logs, configurations and scenarios. All of it depends on the
+seed alone."""
 import os
 import random
 import re
@@ -6,12 +7,17 @@ import re
 from readers import EVENTS, FILE_LEN, LINE_LEN
 
 DATA = os.path.join(os.path.dirname(os.path.dirname(os.path.realpath(__file__))), "data")
-DATAGRAMS = [(line.split()[0], bytes.fromhex(line.split()[1])) for line in open(os.path.join(DATA, "daemons.txt"), encoding="ascii")]
+DATAGRAMS = [
+    (line.split()[0], bytes.fromhex(line.split()[1]))
+    for line in open(os.path.join(DATA, "daemons.txt"), encoding="ascii")
+]
 OCTETS = [octets for _, octets in DATAGRAMS]
 SOURCES = sorted({source for source, _ in DATAGRAMS})
-SOURCES += [f"192.168.0.{n}" for n in (1, 2, 3, 9, 77, 255)] + ["10.0.0.1", "2001:db8::1", "fe80::2", "fe80:0:0:0:1:2:3:4"]
+SOURCES += [f"192.168.0.{n}" for n in (1, 2, 3, 9, 77, 255)] + ["10.0.0.1", "2001:db8::1",
+                                                                "fe80::2", "fe80:0:0:0:1:2:3:4"]
 INTERESTING = [0, 1, 2, 3, 4, 16, 32, 33, 64, 127, 128, 129, 192, 254, 255]
-NUMBERS = [0, 1, 2, 3, 7, 8, 31, 32, 33, 63, 64, 65, 95, 96, 127, 128, 129, 199, 200, 255, 256, 257, 400, 4000, 4001, 65534, 65535, 65536]
+NUMBERS = [0, 1, 2, 3, 7, 8, 31, 32, 33, 63, 64, 65, 95, 96, 127, 128, 129, 199, 200, 255, 256, 257,
+           400, 4000, 4001, 65534, 65535, 65536]
 NUMBERS += [2**31, 2**32 - 1, 2**63 - 1, 2**63, 2**64 - 1, 2**64, 10**30]
 
 
@@ -36,7 +42,9 @@ def mutate_octets(chance, octets):
             other = chance.choice(OCTETS)
             octets[at:] = other[chance.randrange(len(other)) :]
         else:
-            octets[at : at + 2] = chance.choice([b"\0\0", b"\0\1", b"\xff\xff", b"\x7f\xff", b"\x80\0"])
+            octets[at : at + 2] = chance.choice(
+                [b"\0\0", b"\0\1", b"\xff\xff", b"\x7f\xff", b"\x80\0"]
+            )
     return bytes(octets)
 
 
@@ -61,11 +69,15 @@ def random_tlv(chance):
     kind = chance.choice([0, 1, 2, 3, 4, 5, 6, 7, 8, 8, 8, 9, 10, 10, 11, 128, 255])
     if kind == 0:
         return b"\0"
-    payload = bytearray(chance.randbytes(chance.choice([0, 2, 6, 8, 10, 12, 14, 16, 17, 20, 26, 30, chance.randrange(256)])))
+    payload = bytearray(chance.randbytes(chance.choice([0, 2, 6, 8, 10, 12, 14, 16, 17, 20, 26, 30,
+                                                        chance.randrange(256)])))
     if payload and kind in (5, 7, 8, 9, 10):
         payload[0] = chance.choice([0, 1, 1, 2, 2, 3, 4])
     if len(payload) > 3 and kind == 8:
-        payload[2:4] = [chance.choice([0, 8, 16, 24, 32, 33, 64, 128, 129]), chance.choice([0, 0, 1, 2, 8, 17])]
+        payload[2:4] = [
+            chance.choice([0, 8, 16, 24, 32, 33, 64, 128, 129]),
+            chance.choice([0, 0, 1, 2, 8, 17]),
+        ]
     return bytes([kind, len(payload)]) + bytes(payload)
 
 
@@ -82,7 +94,9 @@ def make_datagram(chance):
         if chance.randrange(2):
             at = chance.randrange(len(parts))
             parts[at] = parts[at][:2] + mutate_octets(chance, parts[at][2:])
-            parts[at] = parts[at][:1] + bytes([min(len(parts[at]) - 2, 255) % 256]) + parts[at][2:257]
+            parts[at] = (
+                parts[at][:1] + bytes([min(len(parts[at]) - 2, 255) % 256]) + parts[at][2:257]
+            )
         return with_header(b"".join(parts))
     octets = mutate_octets(chance, chance.choice(OCTETS))
     return with_header(octets[4:]) if kind < 16 else octets
@@ -116,8 +130,8 @@ hello = 100
 
 
 def make_log(chance, datagrams):
-    """A line for each datagram, with ticks and costs between them. Returns the octets, and for each datagram its moment and its
-    interface."""
+    """A line for each datagram, with ticks and costs between them. Returns the octets, and for each
+    datagram its moment and its interface."""
     lines, places, now = [], [], chance.choice([0, 1000, 2**64 - 10**9])
     for source, octets in datagrams:
         now += chance.choice([1, 1, 1, 5, 50])
@@ -125,7 +139,10 @@ def make_log(chance, datagrams):
             lines.append(f"{now} tick")
             now += 1
         if chance.randrange(200) == 0:
-            lines.append(f"{now} cost {chance.choice([0, 1, 2])} {chance.choice([0, 1, 96, 300, 65534, 65535])}")
+            lines.append(
+                f"{now} cost"
+                f" {chance.choice([0, 1, 2])} {chance.choice([0, 1, 96, 300, 65534, 65535])}"
+            )
             now += 1
         iface = 2 if chance.randrange(50) == 0 else 1 if ":" in source else chance.randrange(2)
         lines.append(f"{now} in {iface} {source} {octets.hex() or '-'}")
@@ -133,11 +150,17 @@ def make_log(chance, datagrams):
     return "\n".join(lines).encode() + b"\n", places
 
 
-WORDS = [b"in", b"tick", b"cost", b"-", b"#", b"", b"emit", b"deliver", b"raise", b"announce", b"withdraw", b"hear", b"10.0.0.0/8", b"2001:db8::/32", b"0.0.0.0/0"]
-WORDS += [b"::/0", b"fe80::1", b"fe80::2/64", b"192.168.0.1", b"192.168.0.9/24", b"127.0.0.1/8", b"255.255.255.255/32", b"::ffff:1.2.3.4", b"1:2:3:4:5:6:7::", b"1::2::3"]
-WORDS += [b"true", b"false", b"'", b'"', b'""', b"[]", b"[[]]", b"{}", b"=", b"cost = 1", b"hello = 4000", b"seqno = 65535", b"collect = true", b"[[interface]]", b"[[node]]"]
-WORDS += [b"[[node.interface]]", b'transport = "ipv6"', b'router-id = "ffffffffffffffff"', b"-1", b"+1", b"1.5", b"0x10", b"1e9", b"1979-05-27", b"inf", b"\\u0041", b"01"]
-STRANGE = [b"\0", b"\t", b"\r", b"\r\n", b"\n", b" ", b"  ", b"\x7f", b"\xff", b"\xc3\x28", b"\xed\xa0\x80", "é".encode(), "٣".encode(), b"\xef\xbb\xbf", b"#", b'"', b"\\", b"[", b"]", b"{", b"}", b","]
+WORDS = [b"in", b"tick", b"cost", b"-", b"#", b"", b"emit", b"deliver", b"raise", b"announce",
+         b"withdraw", b"hear", b"10.0.0.0/8", b"2001:db8::/32", b"0.0.0.0/0"]
+WORDS += [b"::/0", b"fe80::1", b"fe80::2/64", b"192.168.0.1", b"192.168.0.9/24", b"127.0.0.1/8",
+          b"255.255.255.255/32", b"::ffff:1.2.3.4", b"1:2:3:4:5:6:7::", b"1::2::3"]
+WORDS += [b"true", b"false", b"'", b'"', b'""', b"[]", b"[[]]", b"{}", b"=", b"cost = 1",
+          b"hello = 4000", b"seqno = 65535", b"collect = true", b"[[interface]]", b"[[node]]"]
+WORDS += [b"[[node.interface]]", b'transport = "ipv6"', b'router-id = "ffffffffffffffff"', b"-1",
+          b"+1", b"1.5", b"0x10", b"1e9", b"1979-05-27", b"inf", b"\\u0041", b"01"]
+STRANGE = [b"\0", b"\t", b"\r", b"\r\n", b"\n", b" ", b"  ", b"\x7f", b"\xff", b"\xc3\x28",
+           b"\xed\xa0\x80", "é".encode(), "٣".encode(), b"\xef\xbb\xbf", b"#", b'"', b"\\", b"[",
+           b"]", b"{", b"}", b","]
 HEX = re.compile(rb"(?<![0-9a-f])2a02[0-9a-f]{8,}")
 NUMERAL = re.compile(rb"[0-9]+")
 TOKEN = re.compile(rb"[^\s,\[\]\"=]+")
@@ -172,33 +195,48 @@ def mutate_text(chance, text):
     for _ in range(chance.randint(1, 3)):
         kind = chance.randrange(14)
         if kind < 4:
-            text = replace_one(chance, NUMERAL, text, lambda _: str(chance.choice(NUMBERS)).encode())
+            text = replace_one(
+                chance, NUMERAL, text, lambda _: str(chance.choice(NUMBERS)).encode()
+            )
         elif kind < 6:
             text = mutate_lines(chance, text)
         elif kind < 8:
             text = replace_one(chance, HEX, text, lambda _: make_datagram(chance).hex().encode())
         elif kind == 8:
             tokens = TOKEN.findall(text) or [b"x"]
-            text = replace_one(chance, TOKEN, text, lambda _: chance.choice([chance.choice(tokens), chance.choice(WORDS)]))
+            text = replace_one(chance, TOKEN, text,
+                               lambda _: chance.choice([chance.choice(tokens),
+                                                        chance.choice(WORDS)]))
         elif kind == 9:
             at = chance.randrange(len(text) + 1)
             text = text[:at] + chance.choice(STRANGE) + text[at:]
         elif kind == 10:
             at = chance.randrange(len(text) + 1)
-            text = text[:at] + chance.choice([b" ", b"\n", b""]) + chance.choice(WORDS) + chance.choice([b" ", b"\n", b""]) + text[at:]
+            text = (
+                text[:at]
+                + chance.choice([b" ", b"\n", b""])
+                + chance.choice(WORDS)
+                + chance.choice([b" ", b"\n", b""])
+                + text[at:]
+            )
         elif kind == 11:
             text = mutate_octets(chance, text)
         elif kind == 12:
             text = text[: chance.randrange(len(text) + 1)]
         else:
-            text = replace_one(chance, TOKEN, text, lambda word: word[: chance.randrange(len(word) + 1)])
+            text = replace_one(
+                chance, TOKEN, text, lambda word: word[: chance.randrange(len(word) + 1)]
+            )
     return text
 
 
 def base_log(chance):
     if chance.randrange(3) == 0:
         return LOG
-    datagrams = [(f"192.168.0.{chance.randint(1, 5)}", chance.choice(OCTETS)) for _ in range(chance.randint(1, 8))]
+    datagrams = [
+        (f"192.168.0.{chance.randint(1, 5)}", chance.choice(OCTETS))
+        for _ in range(chance.randint(1, 8))
+    ]
     return make_log(chance, datagrams)[0]
 
 
@@ -230,24 +268,35 @@ def router_text(chance, node, table):
         if chance.randrange(4) == 0:
             lines.append(f"cost = {chance.choice(NUMBERS[:-8])}")
         if chance.randrange(5) == 0:
-            lines.append(f'peers = [{", ".join([chance.choice(PEERS)] * chance.choice([0, 1, 1, 2, 16, 17]))}]')
+            lines.append(
+                'peers ='
+                f' [{", ".join([chance.choice(PEERS)] * chance.choice([0, 1, 1, 2, 16, 17]))}]'
+            )
     return lines
 
 
-PREFIX_TEXTS = ['"10.0.0.0/8"', '"10.1.2.3/16"', '"0.0.0.0/0"', '"2001:db8::/32"', '"::/0"', '"10.255.0.0/8"', '"192.0.2.1/32"', '"fd00::1/128"']
+PREFIX_TEXTS = ['"10.0.0.0/8"', '"10.1.2.3/16"', '"0.0.0.0/0"', '"2001:db8::/32"', '"::/0"',
+                '"10.255.0.0/8"', '"192.0.2.1/32"', '"fd00::1/128"']
 PEERS = ['"192.168.0.9"', '"192.168.0.10"', '"fe80::9"', '"fe80:0:0:0:0:0:0:a"']
 
 
 def make_config_file(chance):
     kind = chance.randrange(4)
-    text = WORKED if kind == 0 else LAN if kind == 1 else "\n".join(router_text(chance, 0, "")).encode() + b"\n"
+    text = (
+        WORKED
+        if kind == 0
+        else LAN if kind == 1 else "\n".join(router_text(chance, 0, "")).encode() + b"\n"
+    )
     if chance.randrange(2000) == 0:
-        return text + b"#".ljust(chance.choice([FILE_LEN - len(text), FILE_LEN - len(text) + 1]), b"x")
+        return text + b"#".ljust(
+            chance.choice([FILE_LEN - len(text), FILE_LEN - len(text) + 1]), b"x"
+        )
     return text if kind == 3 else mutate_text(chance, text)
 
 
 def make_events(chance, nodes):
-    """Rounds of ticks, datagrams that come, come late, come again or get lost, and other events between them."""
+    """Rounds of ticks, datagrams that come, come late, come again or get lost, and other events
+    between them."""
     events, now, sent = [], chance.choice([0, 0, 0, 2**64 - 5000]), 0
     for _ in range(chance.randint(2, 8) if nodes else 0):
         now = min(now + chance.choice([400, 1200, 1200, 1200]), 2**64 - 1)
@@ -255,7 +304,9 @@ def make_events(chance, nodes):
             events += [f"tick {node} {now}", f"emit {node} {now}"]
         sent += nodes
         # Most datagrams reach most nodes of the link.
-        pairs = [(node, other) for node in range(nodes) for other in range(nodes) if chance.randrange(8)]
+        pairs = [
+            (node, other) for node in range(nodes) for other in range(nodes) if chance.randrange(8)
+        ]
         for node, other in chance.sample(pairs, min(len(pairs), 20)):
             datagram = sent - nodes + node if chance.randrange(10) else chance.randrange(sent)
             events.append(f"deliver {datagram} {other} 0 {now}")
@@ -267,12 +318,17 @@ def make_events(chance, nodes):
 def make_event(chance, nodes, now):
     """An event that may be refused."""
     node = chance.randrange(nodes + chance.choice([0, 0, 0, 1]))
-    kinds = [f"cost {node} {chance.choice([0, 0, 1])} {chance.choice([1, 96, 500, 65534, 65535])}", f"raise {node}", f"emit {node} {now}"]
+    kinds = [f"cost {node} {chance.choice([0, 0, 1])} {chance.choice([1, 96, 500, 65534, 65535])}",
+             f"raise {node}", f"emit {node} {now}"]
     if "restart" in EVENTS:
         kinds.append(f"restart {node} {now}")
     if "hear" in EVENTS:
-        kinds.append(f"hear {node} {chance.choice([0, 0, 0, 1])} {chance.choice(SOURCES)} {now} {make_datagram(chance).hex() or '-'}")
-    kinds += [f"announce {node} 10.0.0.0/8", f"withdraw {node} 10.0.0.0/8", f"deliver {chance.choice(NUMBERS[:-6])} {node} 0 {now}"]
+        kinds.append(
+            "hear"
+            f" {node} {chance.choice([0, 0, 0, 1])} {chance.choice(SOURCES)} {now} {make_datagram(chance).hex() or '-'}"
+        )
+    kinds += [f"announce {node} 10.0.0.0/8", f"withdraw {node} 10.0.0.0/8",
+              f"deliver {chance.choice(NUMBERS[:-6])} {node} 0 {now}"]
     return chance.choice(kinds)
 
 
@@ -280,7 +336,9 @@ def make_scenario_file(chance):
     if chance.randrange(5) == 0:
         return mutate_text(chance, LINE)
     nodes = chance.choice([0, 1, 64, 65]) if chance.randrange(50) == 0 else chance.randint(2, 4)
-    lines = [f"events = [{', '.join(chr(34) + event + chr(34) for event in make_events(chance, nodes))}]"]
+    lines = [
+        f"events = [{', '.join(chr(34) + event + chr(34) for event in make_events(chance, nodes))}]"
+    ]
     for node in range(nodes):
         lines.append("[[node]]")
         if chance.randrange(40) == 0:
@@ -288,7 +346,8 @@ def make_scenario_file(chance):
         else:
             listed = ", ".join(text for text in PREFIX_TEXTS[:3] if chance.randrange(3) == 0)
             lines += [f'router-id = "00000000000000{node + 1:02x}"', f"prefixes = [{listed}]"]
-            lines += ["[[node.interface]]", 'transport = "ipv4"', f'ipv4 = "192.168.0.{node + 1}/24"']
+            lines += ["[[node.interface]]", 'transport = "ipv4"',
+                      f'ipv4 = "192.168.0.{node + 1}/24"']
     text = "\n".join(lines).encode() + b"\n"
     return mutate_text(chance, text) if chance.randrange(3) == 0 else text
 
@@ -298,32 +357,58 @@ def data(name):
         return source.read()
 
 
-LOG, WORKED, LAN, LINE = data("worked.log"), data("worked.toml"), data("lan.toml"), data("line.toml")
+LOG, WORKED, LAN, LINE = (
+    data("worked.log"),
+    data("worked.toml"),
+    data("lan.toml"),
+    data("line.toml"),
+)
 
 
 def make_record(chance):
     """A source with its pair, valid but for a chance."""
     is_v4 = chance.randrange(2) == 0
-    length = chance.choice([0, 1, 7, 8, 9, 16, 24, 31, 32] if is_v4 else [0, 32, 48, 63, 64, 65, 127, 128])
+    length = chance.choice(
+        [0, 1, 7, 8, 9, 16, 24, 31, 32] if is_v4 else [0, 32, 48, 63, 64, 65, 127, 128]
+    )
     bits = chance.getrandbits(128) >> (128 - length) << (128 - length) if length else 0
     if chance.randrange(40) == 0:
         bits |= 1 << chance.randrange(128)
-    router = chance.choice([1, 2, 0x63, 2**64 - 2, chance.getrandbits(64)]) if chance.randrange(40) else chance.choice([0, 2**64 - 1])
+    router = (
+        chance.choice([1, 2, 0x63, 2**64 - 2, chance.getrandbits(64)])
+        if chance.randrange(40)
+        else chance.choice([0, 2**64 - 1])
+    )
     pair = chance.getrandbits(32) if chance.randrange(40) else 0xFFFF
-    return bytes([1 if is_v4 else 2]) + bits.to_bytes(16, "big") + bytes([length]) + router.to_bytes(8, "big") + pair.to_bytes(4, "big")
+    return (
+        bytes([1 if is_v4 else 2])
+        + bits.to_bytes(16, "big")
+        + bytes([length])
+        + router.to_bytes(8, "big")
+        + pair.to_bytes(4, "big")
+    )
 
 
 def make_snapshot(chance, router):
     """A snapshot of the router: valid, with a wrong head or order, or mutated."""
-    count = chance.choice([0, 1, 2, 3, 5, 8]) if chance.randrange(50) else chance.choice([511, 512, 513])
-    records = sorted({record[:26]: record for record in (make_record(chance) for _ in range(count))}.values())
+    count = chance.choice([0, 1, 2, 3, 5, 8]) if chance.randrange(50) else chance.choice([511, 512,
+                                                                                          513])
+    records = sorted(
+        {record[:26]: record for record in (make_record(chance) for _ in range(count))}.values()
+    )
     kind = chance.randrange(8)
     if kind == 0 and records:
         records.insert(chance.randrange(len(records)), chance.choice(records))
     elif kind == 1:
         chance.shuffle(records)
     listed = len(records) if kind != 2 else chance.choice([0, 1, 511, 512, 513, 65_535])
-    head = b"BBS1" + (router if kind != 3 else chance.randbytes(8)) + chance.randbytes(2) + chance.randbytes(8) + listed.to_bytes(2, "big")
+    head = (
+        b"BBS1"
+        + (router if kind != 3 else chance.randbytes(8))
+        + chance.randbytes(2)
+        + chance.randbytes(8)
+        + listed.to_bytes(2, "big")
+    )
     octets = head + b"".join(records)
     return mutate_octets(chance, octets) if kind in (4, 5) else octets
 
@@ -358,7 +443,12 @@ def ihu_tlv(rxcost):
 
 
 def update_tlv(prefix, seqno, metric):
-    return b"\x08\x0d\x01\0\x18\0\x06\x40" + seqno.to_bytes(2, "big") + metric.to_bytes(2, "big") + prefix
+    return (
+        b"\x08\x0d\x01\0\x18\0\x06\x40"
+        + seqno.to_bytes(2, "big")
+        + metric.to_bytes(2, "big")
+        + prefix
+    )
 
 
 def costly_log():
@@ -370,11 +460,16 @@ def costly_log():
 def costly_log_of_one():
     """One neighbour with a route to each of 256 prefixes: without its link there is none."""
     hellos = hello_tlv(0) + hello_tlv(1) + ihu_tlv(96)
-    return costly_lines((1,), [hellos, *(ROUTER_TLV + b"".join(update_tlv(prefix, 0, 0) for prefix in part) for part in (ALL_PREFIXES[:128], ALL_PREFIXES[128:]))])
+    return costly_lines((1,),
+                        [hellos, *(ROUTER_TLV
+                                   + b"".join(update_tlv(prefix, 0, 0) for prefix in part)
+                                   for part in (ALL_PREFIXES[:128], ALL_PREFIXES[128:]))])
 
 
 def costly_lines(hosts, bodies):
-    return "".join(f"0 in 0 192.168.0.{host} {with_header(body).hex()}\n" for body in bodies for host in hosts)
+    return "".join(
+        f"0 in 0 192.168.0.{host} {with_header(body).hex()}\n" for body in bodies for host in hosts
+    )
 
 
 def costly_datagrams():
@@ -383,13 +478,21 @@ def costly_datagrams():
         "no TLV": b"",
         "8,191 Hellos": b"".join(hello_tlv(number + 2) for number in range(8_191)),
         "8,191 Hellos that flush": b"".join(hello_tlv(1_000 * number) for number in range(8_191)),
-        "8,191 IHUs that change the cost": b"".join(ihu_tlv(96 + number % 2) for number in range(8_191)),
+        "8,191 IHUs that change the cost": b"".join(ihu_tlv(96 + number % 2)
+                                                    for number in range(8_191)),
         "5,460 retractions of all routes": RETRACT_ALL_TLV * 5_460,
-        "4,360 Updates": ROUTER_TLV + b"".join(update_tlv(COSTLY_PREFIXES[number % 128], number, 0) for number in range(4_360)),
-        "4,360 unfeasible Updates": ROUTER_TLV + b"".join(update_tlv(COSTLY_PREFIXES[number % 128], 0, 200 + number % 9) for number in range(4_360)),
-        "4,360 Updates that the full table refuses": ROUTER_TLV + b"".join(update_tlv(bytes([11, number // 256, number % 256]), 0, 0) for number in range(4_360)),
+        "4,360 Updates": ROUTER_TLV
+        + b"".join(update_tlv(COSTLY_PREFIXES[number % 128], number, 0) for number in range(4_360)),
+        "4,360 unfeasible Updates": ROUTER_TLV
+        + b"".join(update_tlv(COSTLY_PREFIXES[number % 128], 0, 200 + number % 9)
+                   for number in range(4_360)),
+        "4,360 Updates that the full table refuses": ROUTER_TLV
+        + b"".join(update_tlv(bytes([11, number // 256, number % 256]), 0, 0)
+                   for number in range(4_360)),
         "16,382 dump requests": b"\x09\x02\0\0" * 16_382,
-        "3,449 Seqno Requests": b"".join(b"\x0a\x11\x01\x18" + number.to_bytes(2, "big") + b"\x40" + bytes(8) + b"\x01" + COSTLY_PREFIXES[number % 128] for number in range(3_449)),
+        "3,449 Seqno Requests": b"".join(b"\x0a\x11\x01\x18" + number.to_bytes(2, "big") + b"\x40"
+                                         + bytes(8) + b"\x01" + COSTLY_PREFIXES[number % 128]
+                                         for number in range(3_449)),
         "65,531 Pad1": bytes(65_531),
     }
 
@@ -398,10 +501,16 @@ def costly_datagrams_of_one():
     """The same for a speaker with one neighbour: each route is lost and selected again."""
     turns = []
     for turn in range(16):
-        turns.append(router_tlv(3 + turn % 2) + b"".join(update_tlv(prefix, 0, 0) for prefix in ALL_PREFIXES))
-    storm = b"".join(RETRACT_ALL_TLV + update_tlv(ALL_PREFIXES[number % 256], 0, 0) for number in range(2_416))
+        turns.append(
+            router_tlv(3 + turn % 2) + b"".join(update_tlv(prefix, 0, 0) for prefix in ALL_PREFIXES)
+        )
+    storm = b"".join(
+        RETRACT_ALL_TLV + update_tlv(ALL_PREFIXES[number % 256], 0, 0) for number in range(2_416)
+    )
     return {
-        "8,191 IHUs that flip the link between 96 and infinity": b"".join(ihu_tlv(96 if number % 2 else 65_535) for number in range(8_191)),
+        "8,191 IHUs that flip the link between 96 and infinity": b"".join(
+            ihu_tlv(96 if number % 2 else 65_535) for number in range(8_191)
+        ),
         "4,096 Updates, each with another router-id": b"".join(turns),
         "2,416 retractions of all routes, each followed by an Update": ROUTER_TLV + storm,
     }

@@ -1,4 +1,5 @@
-"""What is known of hostile input apart from the program: what is refused, and the form of each line that may be printed."""
+"""What is known of hostile input apart from the program: what is refused, and the form of each line
+that may be printed."""
 import ipaddress
 import re
 import tomllib
@@ -15,7 +16,8 @@ MESSAGES = [
     (f"ack opaque {NUMBER}", "V4"),
     (f"hello (?:multicast|unicast) seqno {NUMBER} interval {NUMBER}", "V5"),
     (f"ihu to (?:{ADDR}|any) rxcost {NUMBER} interval {NUMBER}", "V4|V6"),
-    (f"update {PREFIX} router {ROUTER} next-hop {ADDR} seqno {NUMBER} metric {NUMBER} interval {NUMBER}", f"V2 {NUMBER} {NUMBER}|V3|V4|V5"),
+    (f"update {PREFIX} router {ROUTER} next-hop {ADDR} seqno {NUMBER} metric {NUMBER} interval "
+     f"{NUMBER}", f"V2 {NUMBER} {NUMBER}|V3|V4|V5"),
     (f"retract {PREFIX} interval {NUMBER}", "V4|V7"),
     (f"retract-all interval {NUMBER}", "V4|V7"),
     (f"route-request {PREFIX}", "V4"),
@@ -24,18 +26,29 @@ MESSAGES = [
 ]
 IGNORED = f"ignored (?:I(?:[1-4]|[6-9]|1[0-3])|I5 (?:12[89]|1[3-9][0-9]|2[0-9][0-9]))"
 SHOWN = re.compile(f"{NUMBER} (?:state|{IGNORED}|{'|'.join(text for text, _ in MESSAGES)})")
-NOTED = re.compile(f"{NUMBER} (?:state|{IGNORED}|{'|'.join(f'{text} (?:V1|{codes})' if codes else f'{text} V1' for text, codes in MESSAGES)})")
+NOTED = re.compile(
+    f"{NUMBER} (?:state|{IGNORED}|{'|'.join(f'{text} (?:V1|{codes})' if codes else f'{text} V1' for text, codes in MESSAGES)})"
+)
 VERDICT = re.compile(r" V(?:[13-9]|2 \d+ \d+)$")
 CHOSEN = f"{PREFIX} (?:none|via {NUMBER} {ADDR} metric {NUMBER} router {ROUTER} seqno {NUMBER})"
-EFFECT = re.compile(f"{NUMBER} (?:select {CHOSEN}|out {NUMBER} (?:{ADDR}|all) {NUMBER})|table {CHOSEN}")
-REPORTED = re.compile(f"{NUMBER} (?:{NOTED.pattern}|refused (?:P[1-4]|P5 {NUMBER}|S[1-3]|E[12]))|{EFFECT.pattern}")
+EFFECT = re.compile(
+    f"{NUMBER} (?:select {CHOSEN}|out {NUMBER} (?:{ADDR}|all) {NUMBER})|table {CHOSEN}"
+)
+REPORTED = re.compile(
+    f"{NUMBER} (?:{NOTED.pattern}|refused (?:P[1-4]|P5 {NUMBER}|S[1-3]|E[12]))|{EFFECT.pattern}"
+)
 EXPLAINED = re.compile(
-    f"{PREFIX} via {NUMBER} {ADDR} router {ROUTER} seqno {NUMBER} advertised {NUMBER} cost {NUMBER} metric {NUMBER} "
-    f"source (?:none|{NUMBER} {NUMBER}) (?:local|infinite|unfeasible|unreachable|selected|candidate)"
+    f"{PREFIX} via {NUMBER} {ADDR} router {ROUTER} seqno {NUMBER} advertised {NUMBER} cost "
+    f"{NUMBER} metric {NUMBER} "
+    f"source (?:none|{NUMBER} {NUMBER}) "
+    f"(?:local|infinite|unfeasible|unreachable|selected|candidate)"
 )
 HOP = re.compile(f"({NUMBER}) hop ({NUMBER}) ({PREFIX}) -> (?:none|({NUMBER}) router ({ROUTER}))")
 # A route over a router that is no node.
-FOREIGN = re.compile(f"({NUMBER}) hop ({NUMBER}) ({PREFIX}) -> ({ADDR}) router ({ROUTER}) next-hop ({ADDR})(?: node ({NUMBER}))?")
+FOREIGN = re.compile(
+    f"({NUMBER}) hop ({NUMBER}) ({PREFIX}) -> ({ADDR}) router ({ROUTER}) next-hop ({ADDR})(?: node"
+    f" ({NUMBER}))?"
+)
 NET_END = re.compile(f"end ({NUMBER}) events {NUMBER} datagrams|{NUMBER} refused N[1-578]")
 
 
@@ -134,7 +147,9 @@ def line_fault(line):
         return None
     if not is_addr(words[3]):
         return "L3"
-    return None if words[4] == "-" or re.fullmatch("(?:[0-9a-fA-F]{2})+", words[4], re.ASCII) else "L4"
+    return (
+        None if words[4] == "-" or re.fullmatch("(?:[0-9a-fA-F]{2})+", words[4], re.ASCII) else "L4"
+    )
 
 
 def log_fault(log):
@@ -182,15 +197,22 @@ def read_interface(faults, table):
     if type(table) is not dict:
         faults.add("F2")
         return None
-    if set(table) - {"transport", "ipv4", "ipv6", "peers", "cost", "hello"} or table.get("transport") not in ("ipv4", "ipv6"):
+    if set(table) - {"transport", "ipv4", "ipv6", "peers", "cost", "hello"} or table.get(
+        "transport"
+    ) not in ("ipv4", "ipv6"):
         faults.add("F2")
-    ipv4, ipv6 = faults.value(table, "ipv4", str, "0.0.0.0/0"), faults.value(table, "ipv6", str, "fe80::")
+    ipv4, ipv6 = faults.value(table, "ipv4", str, "0.0.0.0/0"), faults.value(
+        table, "ipv6", str, "fe80::"
+    )
     addr, slash, length = ipv4.partition("/")
-    if not slash or not is_addr(addr) or ":" in addr or number_fault(length, 255) or not is_ipv6(ipv6):
+    if not slash or not is_addr(addr) or ":" in addr or number_fault(length,
+                                                                     255) or not is_ipv6(ipv6):
         faults.add("F3")
     peers = faults.texts(table, "peers", is_addr)
-    return {"transport": table.get("transport"), "ipv4": ipv4 if "ipv4" in table else None, "ipv6": ipv6 if "ipv6" in table else None,
-            "peers": peers, "cost": faults.number(table, "cost", 96), "hello": faults.number(table, "hello", 400)}
+    return {"transport": table.get("transport"), "ipv4": ipv4 if "ipv4" in table else None,
+            "ipv6": ipv6 if "ipv6" in table else None,
+            "peers": peers, "cost": faults.number(table, "cost", 96),
+            "hello": faults.number(table, "hello", 400)}
 
 
 def read_config(faults, table):
@@ -198,7 +220,10 @@ def read_config(faults, table):
     if type(table) is not dict:
         faults.add("F2")
         return {}
-    if set(table) - {"router-id", "seqno", "collect", "prefixes", "interface"} or type(table.get("router-id")) is not str:
+    if (
+        set(table) - {"router-id", "seqno", "collect", "prefixes", "interface"}
+        or type(table.get("router-id")) is not str
+    ):
         faults.add("F2")
     router = table.get("router-id", "")
     if type(router) is str and not re.fullmatch("[0-9a-fA-F]{16}", router, re.ASCII):
@@ -206,7 +231,10 @@ def read_config(faults, table):
     faults.number(table, "seqno", 0)
     collect = faults.value(table, "collect", bool, False)
     prefixes = faults.texts(table, "prefixes", lambda text: read_prefix(text) is not None)
-    interfaces = [read_interface(faults, interface) for interface in faults.value(table, "interface", list, [])]
+    interfaces = [
+        read_interface(faults, interface)
+        for interface in faults.value(table, "interface", list, [])
+    ]
     return {"router": router, "collect": collect, "prefixes": prefixes, "interfaces": interfaces}
 
 
@@ -237,12 +265,15 @@ def config_code(config):
 
 
 def read_toml(octets):
-    """The table, or the code. The program's reader takes a byte order mark and two escapes that Python's doesn't."""
+    """The table, or the code. The program's reader takes a byte order mark and two escapes that
+    Python's doesn't."""
     if len(octets) > FILE_LEN:
         return "F5"
     try:
         text = octets.removeprefix(b"\xef\xbb\xbf").decode()
-        return tomllib.loads(re.sub(r"\\x([0-9a-fA-F]{2})", r"\\u00\1", text.replace("\\e", "\\u001b")))
+        return tomllib.loads(
+            re.sub(r"\\x([0-9a-fA-F]{2})", r"\\u00\1", text.replace("\\e", "\\u001b"))
+        )
     except (ValueError, RecursionError):
         return "F1"
 
@@ -260,14 +291,17 @@ def config_codes(octets):
     return faults
 
 
-EVENTS = {"tick": "nt", "emit": "nt", "deliver": "nnit", "cost": "nic", "raise": "n", "announce": "np", "withdraw": "np"}
+EVENTS = {"tick": "nt", "emit": "nt", "deliver": "nnit", "cost": "nic", "raise": "n",
+          "announce": "np", "withdraw": "np"}
 MOST = {"n": 2**64 - 1, "t": 2**64 - 1, "i": 255, "c": 65_535}
 DATAGRAM_LEN = 65_535
 
 
 def is_hex(text):
     """Whether the text is that of the octets of a datagram."""
-    return text == "-" or (bool(re.fullmatch("(?:[0-9a-fA-F]{2})+", text, re.ASCII)) and len(text) <= 2 * DATAGRAM_LEN)
+    return text == "-" or (
+        bool(re.fullmatch("(?:[0-9a-fA-F]{2})+", text, re.ASCII)) and len(text) <= 2 * DATAGRAM_LEN
+    )
 
 
 def is_field(kind, text):
@@ -315,7 +349,9 @@ def scenario_codes(octets):
     events = faults.value(table, "events", list, [])
     if any(type(text) is not str for text in events):
         faults.add("F2")
-    wrong = [number for number, text in enumerate(events) if type(text) is str and not is_event(text)]
+    wrong = [
+        number for number, text in enumerate(events) if type(text) is str and not is_event(text)
+    ]
     if wrong:
         faults.add(f"F6 {wrong[0]}")
     if not faults:
@@ -343,11 +379,23 @@ SNAPSHOT_LEN = HEAD_LEN + MOST_RECORDS * RECORD_LEN
 
 
 def is_source(record):
-    """Whether the record is a source with a finite metric: no bits past the prefix, and no reserved router-id."""
-    family, addr, length, router, metric = record[0], record[1:17], record[17], record[18:26], record[28:]
+    """Whether the record is a source with a finite metric: no bits past the prefix, and no reserved
+    router-id."""
+    family, addr, length, router, metric = (
+        record[0],
+        record[1:17],
+        record[17],
+        record[18:26],
+        record[28:],
+    )
     width = {1: 32, 2: 128}.get(family, -1)
     bits = int.from_bytes(addr, "big")
-    return length <= width and not bits << length & (2**128 - 1) and router not in (bytes(8), b"\xff" * 8) and metric != b"\xff\xff"
+    return (
+        length <= width
+        and not bits << length & (2**128 - 1)
+        and router not in (bytes(8), b"\xff" * 8)
+        and metric != b"\xff\xff"
+    )
 
 
 def snapshot_fault(octets, router):
@@ -355,7 +403,8 @@ def snapshot_fault(octets, router):
     if len(octets) > SNAPSHOT_LEN:
         return "K8"
     count = int.from_bytes(octets[22:24], "big")
-    causes = [len(octets) < HEAD_LEN, octets[:4] != SNAPSHOT_START, octets[4:12] != router, count > MOST_RECORDS, len(octets) != HEAD_LEN + count * RECORD_LEN]
+    causes = [len(octets) < HEAD_LEN, octets[:4] != SNAPSHOT_START, octets[4:12] != router,
+              count > MOST_RECORDS, len(octets) != HEAD_LEN + count * RECORD_LEN]
     if True in causes:
         return f"K{causes.index(True) + 1}"
     before = b""

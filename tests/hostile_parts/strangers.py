@@ -1,10 +1,12 @@
-"""Random networks among routers of others that lie: scenarios of `net` with `hear`, and a plain search for loops among the nodes.
+"""Random networks among routers of others that lie: scenarios of `net` with `hear`, and a plain
+search for loops among the nodes.
 
-The nodes share one link, but most datagrams only reach a node's neighbours in a random graph. The other routers send what they like from
-their own addresses: metrics and seqnos that are wrong, retractions, the router-ids of the nodes, and mutated octets. What is
-promised is of a prefix and a router-id, a source. The nodes whose selected routes have it form no loop by their neighbours, if
-all seqnos of the source lie in one half of the circle. They form none by their next hops either, if no Update of the source
-that was heard names an address of a node as next hop.
+The nodes share one link, but most datagrams only reach a node's neighbours in a random graph. The
+other routers send what they like from their own addresses: metrics and seqnos that are wrong,
+retractions, the router-ids of the nodes, and mutated octets. What is promised is of a prefix and a
+router-id, a source. The nodes whose selected routes have it form no loop by their neighbours, if
+all seqnos of the source lie in one half of the circle. They form none by their next hops either, if
+no Update of the source that was heard names an address of a node as next hop.
 """
 import collections
 import ipaddress
@@ -14,7 +16,10 @@ from mutants import OCTETS, hello_tlv, ihu_tlv, mutate_octets, router_tlv, with_
 from readers import FOREIGN, HOP, NUMBER, PREFIX, ROUTER, has_loop
 
 PREFIXES = {"10.0.0.0/8": b"\x0a", "10.1.0.0/16": b"\x0a\x01", "10.2.3.0/24": b"\x0a\x02\x03"}
-UPDATE = re.compile(f"{NUMBER} update ({PREFIX}) router ({ROUTER}) next-hop ([0-9a-f:.]+) seqno ({NUMBER}) metric {NUMBER} interval {NUMBER}")
+UPDATE = re.compile(
+    f"{NUMBER} update ({PREFIX}) router ({ROUTER}) next-hop ([0-9a-f:.]+) seqno ({NUMBER}) metric"
+    f" {NUMBER} interval {NUMBER}"
+)
 HALF, CIRCLE = 32_768, 65_536
 METRICS = [0, 0, 1, 95, 96, 97, 192, 193, 288, 300, 500, 1_000, 65_534]
 
@@ -26,12 +31,20 @@ class Network:
         self.chance, self.most = chance, events
         self.nodes, self.strangers = chance.randint(2, 8), chance.randint(1, 3)
         self.is_v6 = chance.randrange(3) == 0
-        # The least seqno, and how far the others are from it: in one of eight scenarios anywhere on the circle.
+        # The least seqno, and how far the others are from it: in one of eight scenarios anywhere on
+        # the circle.
         self.first = chance.choice([0, 0, 32_700, 65_500, chance.randrange(CIRCLE)])
         self.span = CIRCLE if chance.randrange(8) == 0 else HALF - 300
-        self.listed = [[prefix for prefix in PREFIXES if chance.randrange(2) or (node == 0 and prefix == "10.0.0.0/8")] for node in range(self.nodes)]
-        self.near = [{other for other in range(node) if chance.randrange(3) == 0} | ({chance.randrange(node)} if node else set()) for node in range(self.nodes)]
-        self.hearers = [chance.sample(range(self.nodes), chance.randint(1, 2)) for _ in range(self.strangers)]
+        self.listed = [[prefix for prefix in PREFIXES if chance.randrange(2)
+                        or (node == 0 and prefix == "10.0.0.0/8")] for node in range(self.nodes)]
+        self.near = [
+            {other for other in range(node) if chance.randrange(3) == 0}
+            | ({chance.randrange(node)} if node else set())
+            for node in range(self.nodes)
+        ]
+        self.hearers = [
+            chance.sample(range(self.nodes), chance.randint(1, 2)) for _ in range(self.strangers)
+        ]
         self.hellos = collections.Counter()
         self.events, self.heard, self.sent, self.now = [], [], 0, 0
 
@@ -54,14 +67,18 @@ class Network:
         tlvs = [hello_tlv(self.hellos[stranger]), ihu_tlv(chance.choice([1, 96, 96, 300]))]
         if self.is_v6 or chance.randrange(4) == 0:
             # A next hop of the stranger's own, of another stranger, or of nobody.
-            tlvs.append(b"\x07\x06\x01\0\xc0\xa8\0" + bytes([chance.choice([101 + stranger, 101, 102, 200])]))
+            tlvs.append(
+                b"\x07\x06\x01\0\xc0\xa8\0"
+                + bytes([chance.choice([101 + stranger, 101, 102, 200])])
+            )
         for _ in range(chance.randint(0, 3)):
             router = chance.choice([*range(1, self.nodes + 1), 101 + stranger])
             tlvs.append(b"\x06\x0a\0\0" + bytes(7) + bytes([router]))
             for prefix in chance.sample(sorted(PREFIXES), chance.randint(1, 3)):
                 tlvs.append(self.update(prefix))
         if chance.randrange(6) == 0:
-            tlvs.append(b"\x0a\x0f\x01\x08" + self.seqno() + b"\x40\0" + bytes(7) + bytes([chance.randint(1, self.nodes)]) + b"\x0a")
+            tlvs.append(b"\x0a\x0f\x01\x08" + self.seqno() + b"\x40\0" + bytes(7)
+                        + bytes([chance.randint(1, self.nodes)]) + b"\x0a")
         return with_header(b"".join(tlvs))
 
     def seqno(self):
@@ -71,7 +88,14 @@ class Network:
     def update(self, prefix):
         metric = 65_535 if self.chance.randrange(5) == 0 else self.chance.choice(METRICS)
         length = int(prefix.partition("/")[2])
-        octets = b"\x01\0" + bytes([length]) + b"\0\x06\x40" + self.seqno() + metric.to_bytes(2, "big") + PREFIXES[prefix]
+        octets = (
+            b"\x01\0"
+            + bytes([length])
+            + b"\0\x06\x40"
+            + self.seqno()
+            + metric.to_bytes(2, "big")
+            + PREFIXES[prefix]
+        )
         return b"\x08" + bytes([len(octets)]) + octets
 
     def hear(self):
@@ -79,7 +103,9 @@ class Network:
         stranger = self.chance.randrange(self.strangers)
         octets = self.lie(stranger)
         if self.chance.randrange(6) == 0:
-            octets = mutate_octets(self.chance, octets if self.chance.randrange(8) else self.chance.choice(OCTETS))
+            octets = mutate_octets(
+                self.chance, octets if self.chance.randrange(8) else self.chance.choice(OCTETS)
+            )
         source = self.address(100 + stranger)
         hearers = self.hearers[stranger]
         for node in hearers if self.chance.randrange(2) else [self.chance.choice(hearers)]:
@@ -87,18 +113,24 @@ class Network:
         self.heard.append((source, octets))
 
     def round(self):
-        """Each node sends a datagram, most of which reach the nodes that are near; and others send, and things change."""
+        """Each node sends a datagram, most of which reach the nodes that are near; and others send,
+        and things change."""
         chance = self.chance
         self.now += chance.choice([400, 400, 400, 1_200])
         for node in range(self.nodes):
             self.events += [f"tick {node} {self.now}", f"emit {node} {self.now}"]
             self.sent += 1
-        pairs = [(node, other) for node in range(self.nodes) for other in range(self.nodes) if node in self.near[other] or other in self.near[node]]
+        pairs = [(node, other) for node in range(self.nodes) for other in range(self.nodes)
+                 if node in self.near[other] or other in self.near[node]]
         chance.shuffle(pairs)
         for node, other in pairs:
             if chance.randrange(10) == 0:
                 continue
-            number = self.sent - self.nodes + node if chance.randrange(12) else chance.randrange(self.sent)
+            number = (
+                self.sent - self.nodes + node
+                if chance.randrange(12)
+                else chance.randrange(self.sent)
+            )
             self.events.append(f"deliver {number} {other} 0 {self.now}")
             if chance.randrange(12) == 0:
                 self.hear()
@@ -109,7 +141,8 @@ class Network:
 
     def change(self):
         node = self.chance.randrange(self.nodes)
-        kinds = [f"restart {node} {self.now}", f"restart {node} {self.now}", f"raise {node}", f"cost {node} 0 {self.chance.choice([1, 96, 96, 500])}", f"emit {node} {self.now}"]
+        kinds = [f"restart {node} {self.now}", f"restart {node} {self.now}", f"raise {node}",
+                 f"cost {node} 0 {self.chance.choice([1, 96, 96, 500])}", f"emit {node} {self.now}"]
         self.events.append(self.chance.choice(kinds))
 
     def text(self):
@@ -118,8 +151,10 @@ class Network:
         lines = [f"events = [{', '.join(chr(34) + event + chr(34) for event in self.events)}]"]
         for node in range(self.nodes):
             listed = ", ".join(f'"{prefix}"' for prefix in self.listed[node])
-            lines += ["[[node]]", f'router-id = "{node + 1:016x}"', f"seqno = {self.first}", f"prefixes = [{listed}]", "[[node.interface]]"]
-            lines += [f'transport = "{"ipv6" if self.is_v6 else "ipv4"}"', f'ipv4 = "192.168.0.{node + 1}/24"', f'ipv6 = "fe80::{node + 1:x}"']
+            lines += ["[[node]]", f'router-id = "{node + 1:016x}"', f"seqno = {self.first}",
+                      f"prefixes = [{listed}]", "[[node.interface]]"]
+            lines += [f'transport = "{"ipv6" if self.is_v6 else "ipv4"}"',
+                      f'ipv4 = "192.168.0.{node + 1}/24"', f'ipv6 = "fe80::{node + 1:x}"']
         return "\n".join(lines).encode() + b"\n"
 
 
@@ -152,11 +187,14 @@ class Hops:
     """The selected routes of the nodes, as `net` prints them: by neighbour and by next hop."""
 
     def __init__(self):
-        self.by_neighbour, self.by_next_hop = collections.defaultdict(dict), collections.defaultdict(dict)
+        self.by_neighbour, self.by_next_hop = collections.defaultdict(
+            dict
+        ), collections.defaultdict(dict)
         self.selected = {}
 
     def take(self, line):
-        """Takes a line. Returns the source whose route it is, None if there is none, and whether the route is foreign."""
+        """Takes a line. Returns the source whose route it is, None if there is none, and whether
+        the route is foreign."""
         found, foreign = HOP.fullmatch(line), FOREIGN.fullmatch(line)
         if not found and not foreign:
             raise ValueError(line)
@@ -183,7 +221,8 @@ class Hops:
         return has_loop(self.by_next_hop[source])
 
 
-# Networks that loop, since a premise does not hold. Nodes 0 and 1 hear routers of others; node 2 lists the prefix, and nothing else.
+# Networks that loop, since a premise does not hold. Nodes 0 and 1 hear routers of others; node 2
+# lists the prefix, and nothing else.
 LIAR = "192.168.0.101"
 BOTH = """\
 [[node]]
@@ -214,8 +253,12 @@ def heard(node, now, hello, seqno, metric, next_hop=None):
     tlvs = [hello_tlv(hello), ihu_tlv(96)]
     if next_hop:
         tlvs.append(b"\x07\x06\x01\0" + ipaddress.ip_address(next_hop).packed)
-    update = b"\x01\0\x08\0\x06\x40" + seqno.to_bytes(2, "big") + metric.to_bytes(2, "big") + b"\x0a"
-    octets = with_header(b"".join([*tlvs, router_tlv(9), b"\x08" + bytes([len(update)]) + update, REQUEST_TLV]))
+    update = (
+        b"\x01\0\x08\0\x06\x40" + seqno.to_bytes(2, "big") + metric.to_bytes(2, "big") + b"\x0a"
+    )
+    octets = with_header(
+        b"".join([*tlvs, router_tlv(9), b"\x08" + bytes([len(update)]) + update, REQUEST_TLV])
+    )
     return f"hear {node} 0 {LIAR} {now} {octets.hex()}"
 
 
@@ -240,12 +283,17 @@ def seqnos_around():
     """The seqnos 20,000, 40,000 and 0 are each newer than the one before, all around the circle."""
     for now in (0, 400, 800, 1_200):
         number = now // 200
-        yield from (f"tick 0 {now}", f"emit 0 {now}", f"tick 1 {now}", f"emit 1 {now}", f"deliver {number} 1 0 {now}", f"deliver {number + 1} 0 0 {now}")
-    # Node 0 takes 20,000, and node 1 takes it from node 0. What node 1 then sends is delivered at the end.
-    yield from (heard(0, 1_200, 0, 20_000, 0), heard(0, 1_200, 1, 20_000, 0), "emit 0 1200", "deliver 8 1 0 1200", "emit 1 1200")
+        yield from (f"tick 0 {now}", f"emit 0 {now}", f"tick 1 {now}", f"emit 1 {now}",
+                    f"deliver {number} 1 0 {now}", f"deliver {number + 1} 0 0 {now}")
+    # Node 0 takes 20,000, and node 1 takes it from node 0. What node 1 then sends is delivered at
+    # the end.
+    yield from (heard(0, 1_200, 0, 20_000, 0), heard(0, 1_200, 1, 20_000, 0), "emit 0 1200",
+                "deliver 8 1 0 1200", "emit 1 1200")
     # Node 1 takes 40,000, and node 0 takes it from node 1.
-    yield from (heard(1, 1_200, 0, 40_000, 0), heard(1, 1_200, 1, 40_000, 0), "emit 1 1200", "deliver 10 0 0 1200", heard(0, 1_200, 2, 20_000, 65_535), "emit 0 1200")
+    yield from (heard(1, 1_200, 0, 40_000, 0), heard(1, 1_200, 1, 40_000, 0), "emit 1 1200",
+                "deliver 10 0 0 1200", heard(0, 1_200, 2, 20_000, 65_535), "emit 0 1200")
     # Node 0 takes 0, and node 1 takes it from node 0.
-    yield from (heard(1, 1_200, 2, 40_000, 65_535), heard(0, 1_200, 3, 0, 0), "emit 0 1200", "deliver 12 1 0 1200")
+    yield from (heard(1, 1_200, 2, 40_000, 65_535), heard(0, 1_200, 3, 0, 0), "emit 0 1200",
+                "deliver 12 1 0 1200")
     # Node 0 loses it, and hears the old datagram of node 1.
     yield from ("deliver 9 0 0 1200", heard(0, 1_200, 4, 0, 65_535))

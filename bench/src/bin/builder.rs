@@ -1,8 +1,8 @@
 //! Times of the proved builder compared with a plain one, and the octets that full tables take.
 //!
-//! `builder rounds ROUNDS [CORPUS]` checks that both build the same and prints times; `builder datagrams COUNT
-//! SEED` prints datagrams of random messages that the proved builder built, as lines `<source> <hex>`;
-//! `builder table` prints octets.
+//! `builder rounds ROUNDS [CORPUS]` checks that both build the same and prints times; `builder
+//! datagrams COUNT SEED` prints datagrams of random messages that the proved builder built, as
+//! lines `<source> <hex>`; `builder table` prints octets.
 
 use babel_bench::{builds, corpus, plain_calls, proved};
 use std::process::ExitCode;

@@ -1,7 +1,7 @@
 //! The peak heap of one `decode`, as a multiple of the list that it returns.
 //!
-//! `memory CORPUS` counts what both decoders take from the C library's `malloc`, in octets as it rounds them
-//! up. While a block grows, the old one and the new one both count.
+//! `memory CORPUS` counts what both decoders take from the C library's `malloc`, in octets as it
+//! rounds them up. While a block grows, the old one and the new one both count.
 
 use babel_bench::corpus::{self, Datagram};
 use babel_bench::plain::Placed;

@@ -1,7 +1,7 @@
 //! Times of the proved speaker compared with a plain one.
 //!
-//! `speaker rounds ROUNDS` checks that both send the same and prints times; `speaker turns CASE proved|plain N`
-//! takes turns, for a profiler.
+//! `speaker rounds ROUNDS` checks that both send the same and prints times; `speaker turns CASE
+//! proved|plain N` takes turns, for a profiler.
 
 use babel_bench::{proved, speaker_cases};
 use std::fs;

@@ -1,8 +1,8 @@
 //! Times of the proved decoder compared with a plain one.
 //!
-//! `time rounds CORPUS ROUNDS` checks that both read the same and prints times; `time turns CORPUS CLASS
-//! proved|kept|plain|none N` decodes the datagrams of a class N times, for callgrind to count: `kept` with the proved
-//! decoder into a list that is kept.
+//! `time rounds CORPUS ROUNDS` checks that both read the same and prints times; `time turns CORPUS
+//! CLASS proved|kept|plain|none N` decodes the datagrams of a class N times, for callgrind to
+//! count: `kept` with the proved decoder into a list that is kept.
 
 use babel_bench::corpus::Datagram;
 use babel_bench::{agreement, corpus, plain_calls, proved, timing};
