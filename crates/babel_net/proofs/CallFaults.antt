@@ -25,8 +25,6 @@ fault_is event n s c speaker config =
     ap (λ (o : Option State). fault_at o (slice_get n.configs (node_of event)) event n) speaker
     ∙ ap (λ (o : Option Config). fault_at (Some s) o event n) config
 
-unfolding step_fault
-
 -- an event without a datagram that takes no memory
 abbrev pub IsCall : Event → Type 0
 IsCall (events.Emit node now) = ⊥

@@ -247,8 +247,6 @@ ihu_of_again size to ae rxcost interval e long some =
     let fits : nat_lt (length p) size ≡ false = le-ltb _ _ (omega arith) in
     rw (fits, drop_all size p (omega arith), two_again rxcost, two_again interval, not_zero rxcost parts.0, not_zero interval parts.1) refl
 
-unfolding content
-
 -- the length of the fields before the address
 ihu_long : (ae rxcost interval : ℕ) (e : List ℕ) → nat_lt (length (ae ∷ 0 ∷ (two rxcost ++ (two interval ++ e)))) 6 ≡ false
 ihu_long ae rxcost interval e = le-ltb _ _ (omega arith)
