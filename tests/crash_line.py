@@ -88,13 +88,8 @@ class Router:
     """A speaker, and what it printed of its routes."""
 
     def __init__(self, folder, number, babel, port, keeps):
-        self.folder, self.number, self.babel, self.port, self.keeps = (
-            folder,
-            number,
-            babel,
-            port,
-            keeps,
-        )
+        self.folder, self.number = folder, number
+        self.babel, self.port, self.keeps = babel, port, keeps
         self.path, self.kept, self.err = (
             os.path.join(folder, f"router{number}.{end}") for end in ("toml", "kept", "err")
         )
@@ -205,8 +200,11 @@ class Line:
     def has_all(self):
         """Whether each router has each other's prefix, along the line."""
         wanted = {1: {2: 2, 3: 2}, 2: {1: 1, 3: 3}, 3: {1: 2, 2: 2}}
-        return all(self.routers[at].hops.get(f"10.{to}.0.0/16") == hop for at,
-                   hops in wanted.items() for to, hop in hops.items())
+        return all(
+            self.routers[at].hops.get(f"10.{to}.0.0/16") == hop
+            for at, hops in wanted.items()
+            for to, hop in hops.items()
+        )
 
     def until_all(self, seconds):
         """How long it takes until each router has each prefix, or None."""

@@ -44,14 +44,8 @@ class Lab:
         shutil.rmtree(self.root, ignore_errors=True)
         os.makedirs(self.root)
         os.chmod(self.root, 0o777)
-        self.nodes, self.links, self.lans, self.procs, self.kind, self.custom = (
-            {},
-            {},
-            [],
-            {},
-            {},
-            {},
-        )
+        self.nodes, self.links, self.lans = {}, {}, []
+        self.procs, self.kind, self.custom = {}, {}, {}
         self.owner = {}                      # address -> node
         self._here = os.open("/proc/self/ns/net", os.O_RDONLY)
         if threading.current_thread() is threading.main_thread():
