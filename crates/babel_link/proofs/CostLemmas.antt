@@ -1,10 +1,11 @@
 -- A tick that keeps each link and its cost changes no cost; if it keeps the costs of all links but one, at most that one's.
-use Rattle.std.proofs.Common.{◌≡◌, ◌≢◌, ℕ, Bool, true, false, cond, [], ◌∷◌, All, Some, refl, ◌∙◌}
+use Rattle.std.proofs.Common.{◌≡◌, ◌≢◌, ◌≤◌, ℕ, Bool, true, false, cond, [], ◌∷◌, All, Some, length, take, refl, subst, ◌∙◌}
 use Rattle.std.specs.FinMap.{find}
 use Rattle.std.specs.Option.{option_map_or}
 use Rattle.std.specs.Ordering.{eq_by_cmp, is_eq}
 use Rattle.std.specs.declared.cmp.Ordering.{Ordering}
 use Rattle.std.specs.declared.cmp.Ordering.TheVariants.{Less, Equal, Greater}
+use Rattle.std.proofs.lemmas.List.{take_all}
 use Rattle.std.proofs.lemmas.List.Elements.{All-head, All-tail, All-weaker}
 use Rattle.babel_value.specs.declared.keys.Peer.{Peer}
 use Rattle.babel_value.specs.Metrics.{infinity}
@@ -12,7 +13,11 @@ use Rattle.babel_value.specs.Orders.{peer_cmp}
 use Rattle.babel_value.proofs.OrderLaws.{peer_exact}
 use Rattle.babel_link.specs.declared.links.Link.{Link}
 use Rattle.babel_link.specs.Links.{ticked_link, link_cost}
-use Rattle.babel_link.specs.Neighbours.{Links, tick_of, cost_of, KeepsOtherCosts}
+use Rattle.babel_link.specs.Neighbours.{Links, tick_of, gone_of, cost_of, KeepsOtherCosts}
+
+-- A walk over all links saw each.
+pub all_seen : (P : Peer × Link → Type 0) (place : ℕ) (links : Links) → length links ≤ place → All P (take place links) → All P links
+all_seen P place links past all = subst (All P) (take_all place links past) all
 
 module _ (now : ℕ) where
   -- A tick keeps the link and its cost.
@@ -34,6 +39,13 @@ module _ (now : ℕ) where
           ≡ option_map_or (link_cost nominal) (cond b (Some e.1) (find peer_cmp peer es)) infinity
       by true first rest = first.same nominal
       by false first rest = rest
+
+  pub none_gone : (es : Links) → All Keeps es → gone_of now es ≡ []
+  unfolding gone_of
+  none_gone [] all = refl
+  none_gone (e ∷ es) all =
+      let first : Keeps e = All-head Keeps e es all in
+      rw first.stays (none_gone es (All-tail Keeps e es all))
 
   -- A tick keeps the link, and its cost unless it's the one to this neighbour.
   pub record KeepsOther (peer : Peer) (e : Peer × Link) : Type 0 where
@@ -65,3 +77,10 @@ module _ (now : ℕ) where
       by Less is first rest = rest
       by Equal is first rest = first.same (λ at. other (peer_exact q e.0 is ∙ at)) nominal
       by Greater is first rest = rest
+
+  pub none_gone_but : (peer : Peer) (es : Links) → All (KeepsOther peer) es → gone_of now es ≡ []
+  unfolding gone_of
+  none_gone_but peer [] all = refl
+  none_gone_but peer (e ∷ es) all =
+      let first : KeepsOther peer e = All-head (KeepsOther peer) e es all in
+      rw first.stays (none_gone_but peer es (All-tail (KeepsOther peer) e es all))

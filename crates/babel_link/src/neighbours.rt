@@ -419,6 +419,27 @@ impl Neighbours {
         ticked.changes
     }
 
+    /// What a tick at this moment would change of the links' costs. `Several` only means that this
+    /// isn't known. Before the first deadline it looks at no neighbour.
+    pub fn cost_changes(&self, now: u64) -> CostChanges
+        ensures costs { result ≡ Nothing → (peer : Peer) (nominal : ℕ) → cost_of peer nominal (tick_of now self.now) ≡ cost_of peer nominal self.now }
+        ensures others { (peer : Peer) → result ≡ One peer → KeepsOtherCosts peer self.now (tick_of now self.now) }
+        ensures gone { result ≢ Several → gone_of now self.now ≡ [] }
+    {
+        let mut changes = CostChanges::Nothing;
+        if !self.may_be_due(now) {
+            return changes;
+        }
+        for place in 0..self.links.len() {
+            let (peer, mut link) = self.links[place];
+            match link.tick_cost(now) {
+                Some(cost) => changes.add(&peer, cost),
+                None => return CostChanges::Several,
+            }
+        }
+        changes
+    }
+
     /// Whether a link has a finite cost over an interface of a finite nominal cost. If it returns
     /// `false`, the link to each peer costs infinity.
     pub fn has_finite_link(&self) -> bool

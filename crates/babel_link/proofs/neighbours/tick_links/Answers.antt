@@ -1,13 +1,12 @@
 -- One more neighbour is written after those that stay, or added to those that are gone.
-use Rattle.std.proofs.Common.{◌≡◌, ℕ, ◌<◌, ◌≤◌, All, Some, None, length, get_or, set, take, refl, sym, ap, subst, ◌∙◌, arith, inl, inr}
-use Rattle.std.proofs.lemmas.List.{take-set, take_all}
+use Rattle.std.proofs.Common.{◌≡◌, ◌<◌, All, Some, None, length, get_or, set, take, refl, sym, ap, subst, ◌∙◌, arith, inl, inr}
+use Rattle.std.proofs.lemmas.List.{take-set}
 use Rattle.std.proofs.lemmas.List.Elements.{All-more}
 use Rattle.babel_value.specs.declared.keys.Peer.{Peer}
 use Rattle.babel_link.specs.declared.links.Link.{Link}
 use Rattle.babel_link.specs.Links.{ticked_link}
-use Rattle.babel_link.specs.Neighbours.{Links}
 use Rattle.babel_link.proofs.TickLemmas.{stays_more, goes_same, stays_same, goes_more, rest_more, read_old, read_moved, written_moved, stays_all, goes_all}
-use Rattle.babel_link.proofs.CostLemmas.{Keeps, KeepsOther, costs_kept, keeps_other, all_keep_other, changed_stays, other_costs_kept}
+use Rattle.babel_link.proofs.CostLemmas.{Keeps, KeepsOther, all_seen, costs_kept, keeps_other, all_keep_other, changed_stays, other_costs_kept}
 use Rattle.babel_link.proofs.DueLemmas.{quiet_earlier, are_quiet_earlier, quiet_kept}
 use Rattle.babel_link.proofs.neighbours.tick_links.Goals as goal
 use Rattle.babel_link.proofs.neighbours.tick_links.Goals.{in-Some, in-None}
@@ -79,9 +78,6 @@ pub returns-clause-gone : goal.returns-clause-gone
 returns-clause-gone c =
     let ok = c.loop-place.links.ok.0 in
     goes_all c.args.now c.loop-place.links.items c.loop-place.place (omega arith) _ _ c.loop-place.invariant.goes
-
-all_seen : (P : Peer × Link → Type 0) (place : ℕ) (links : Links) → length links ≤ place → All P (take place links) → All P links
-all_seen P place links past all = subst (All P) (take_all place links past) all
 
 pub returns-clause-costs : goal.returns-clause-costs
 returns-clause-costs c nothing =
