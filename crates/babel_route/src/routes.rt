@@ -186,6 +186,13 @@ impl<E: Table<RouteKey, Entry>, S: Table<Prefix, Selection>> RoutesOver<E, S> {
         let _count = self.len();
     }
 
+    /// Whether a deadline may be due at this moment. It looks at no route.
+    pub fn may_be_due(&self, now: u64) -> bool
+        ensures { IsFalse result → expired now self.now.entries ≡ self.now.entries }
+    {
+        self.due <= now
+    }
+
     /// Takes the deadlines that are due, each once: a route with a finite metric is retracted and
     /// its hold time begins again, one with an infinite metric goes (RFC 8966, section 3.5.4).
     /// Returns `false` if no deadline is due; then it looks at no route.
@@ -195,7 +202,7 @@ impl<E: Table<RouteKey, Entry>, S: Table<Prefix, Selection>> RoutesOver<E, S> {
         ensures in_order { IsTrue (is_sorted route_cmp self.new.entries) }
         ensures selections_in_order { IsTrue (is_sorted prefix_cmp self.new.selections) }
     {
-        if now < self.due {
+        if !self.may_be_due(now) {
             return false;
         }
         self.due = revise_dues(&mut self.entries, &Expiry { now });

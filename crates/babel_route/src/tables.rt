@@ -2,12 +2,13 @@
 //! about a call over any tables takes them by their names: as aliases of `SortedTable` each such
 //! call of a speaker takes seconds.
 
-ghost use Rattle.std.specs.Prelude.{◌≡◌, []};
 ghost use Rattle.babel_table.specs.Digits.{binary_digits};
 ghost use Rattle.babel_table.specs.Gaps.{around};
 
 use babel_choice::{Entry, RouteKey, Selection};
-use babel_table::{Full, GapTable, Memory, Moments, Revision, SortedTable, Sought, Steps, Table};
+use babel_table::{
+    Change, Full, GapTable, Memory, Moments, Revision, SortedTable, Sought, Steps, Table,
+};
 use babel_value::Prefix;
 use std::alloc::Global;
 use std::sync::ledger::Ledger;
@@ -68,8 +69,31 @@ impl Table<RouteKey, Entry> for RouteTable {
     }
 
     #[inline(always)]
-    fn revise<R: Revision<RouteKey, Entry>, M: Moments<Entry>>(&mut self, revision: &R) -> u64 {
-        self.table.revise::<R, M>(revision)
+    fn put_near(&mut self, near: usize, key: RouteKey, value: Entry) -> Result<usize, Full> {
+        self.table.put_near(near, key, value)
+    }
+
+    #[inline(always)]
+    fn change_near<C: Change<Entry>>(
+        &mut self,
+        near: usize,
+        key: RouteKey,
+        change: &C,
+    ) -> Result<usize, Full> {
+        self.table.change_near(near, key, change)
+    }
+
+    #[inline(always)]
+    fn revise_dated<R: Revision<RouteKey, Entry>, M: Moments<Entry>>(
+        &mut self,
+        revision: &R,
+    ) -> u64 {
+        self.table.revise_dated::<R, M>(revision)
+    }
+
+    #[inline(always)]
+    fn clear(&mut self) {
+        self.table.clear();
     }
 
     #[inline(always)]
@@ -140,11 +164,31 @@ impl Table<Prefix, Selection> for SelectionTable {
     }
 
     #[inline(always)]
-    fn revise<R: Revision<Prefix, Selection>, M: Moments<Selection>>(
+    fn put_near(&mut self, near: usize, key: Prefix, value: Selection) -> Result<usize, Full> {
+        self.table.put_near(near, key, value)
+    }
+
+    #[inline(always)]
+    fn change_near<C: Change<Selection>>(
+        &mut self,
+        near: usize,
+        key: Prefix,
+        change: &C,
+    ) -> Result<usize, Full> {
+        self.table.change_near(near, key, change)
+    }
+
+    #[inline(always)]
+    fn revise_dated<R: Revision<Prefix, Selection>, M: Moments<Selection>>(
         &mut self,
         revision: &R,
     ) -> u64 {
-        self.table.revise::<R, M>(revision)
+        self.table.revise_dated::<R, M>(revision)
+    }
+
+    #[inline(always)]
+    fn clear(&mut self) {
+        self.table.clear();
     }
 
     #[inline(always)]
@@ -155,25 +199,5 @@ impl Table<Prefix, Selection> for SelectionTable {
     #[inline(always)]
     fn at(&self, place: usize) -> Option<(Prefix, Selection)> {
         self.table.at(place)
-    }
-}
-
-impl RouteTable {
-    /// Removes all entries.
-    pub(crate) fn clear(&mut self)
-        ensures entries { self.new.table.entries.items ≡ [] }
-        ensures places { self.new.table.places ≡ self.old.table.places }
-    {
-        self.table.clear();
-    }
-}
-
-impl SelectionTable {
-    /// Removes all entries.
-    pub(crate) fn clear(&mut self)
-        ensures entries { around self.new.table.entries.gap self.new.table.entries.hole self.new.table.entries.slots.items ≡ [] }
-        ensures places { self.new.table.places ≡ self.old.table.places }
-    {
-        self.table.clear();
     }
 }

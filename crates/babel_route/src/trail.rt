@@ -76,13 +76,23 @@ impl Trail {
         }
     }
 
+    /// A datagram of a neighbour begins that isn't known.
+    pub fn begin(&mut self) {
+        self.enter(LANES);
+    }
+
     /// A datagram of the neighbour begins.
-    pub fn begin(&mut self, peer: &Peer) {
+    pub fn begin_from(&mut self, peer: &Peer) {
+        self.enter(lane_of(peer));
+    }
+
+    /// The updates of a lane begin, where its last ones ended. One that is past all begins nowhere.
+    fn enter(&mut self, lane: usize) {
         if let Some(left) = self.lanes.get_mut(self.lane) {
             *left = self.last;
         }
-        self.lane = lane_of(peer);
-        self.last = match self.lanes.get(self.lane) {
+        self.lane = lane;
+        self.last = match self.lanes.get(lane) {
             Some(last) => *last,
             None => Places::NOWHERE,
         };
@@ -98,7 +108,12 @@ impl Trail {
     }
 
     /// The next update was there.
-    pub fn push(&mut self, found: &Cursor) {
+    pub fn push(&mut self, places: Cursor) {
+        self.push_copied(&places);
+    }
+
+    /// The same of a cursor that is copied.
+    pub fn push_copied(&mut self, found: &Cursor) {
         let places = Places {
             entry: low_bits(found.entry),
             selection: low_bits(found.selection),

@@ -2,11 +2,10 @@
 //! call over any table takes it by its name: as an alias of `SortedTable` each such call of a
 //! speaker takes seconds.
 
-ghost use Rattle.std.specs.Prelude.{◌≡◌, []};
 ghost use Rattle.babel_table.specs.Digits.{binary_digits};
 
 use crate::sources::SourceEntry;
-use babel_table::{Full, Memory, Moments, Revision, SortedTable, Sought, Steps, Table};
+use babel_table::{Change, Full, Memory, Moments, Revision, SortedTable, Sought, Steps, Table};
 use babel_value::Source;
 use std::alloc::Global;
 use std::sync::ledger::Ledger;
@@ -67,11 +66,31 @@ impl Table<Source, SourceEntry> for SourceTable {
     }
 
     #[inline(always)]
-    fn revise<R: Revision<Source, SourceEntry>, M: Moments<SourceEntry>>(
+    fn put_near(&mut self, near: usize, key: Source, value: SourceEntry) -> Result<usize, Full> {
+        self.table.put_near(near, key, value)
+    }
+
+    #[inline(always)]
+    fn change_near<C: Change<SourceEntry>>(
+        &mut self,
+        near: usize,
+        key: Source,
+        change: &C,
+    ) -> Result<usize, Full> {
+        self.table.change_near(near, key, change)
+    }
+
+    #[inline(always)]
+    fn revise_dated<R: Revision<Source, SourceEntry>, M: Moments<SourceEntry>>(
         &mut self,
         revision: &R,
     ) -> u64 {
-        self.table.revise::<R, M>(revision)
+        self.table.revise_dated::<R, M>(revision)
+    }
+
+    #[inline(always)]
+    fn clear(&mut self) {
+        self.table.clear();
     }
 
     #[inline(always)]
@@ -82,15 +101,5 @@ impl Table<Source, SourceEntry> for SourceTable {
     #[inline(always)]
     fn at(&self, place: usize) -> Option<(Source, SourceEntry)> {
         self.table.at(place)
-    }
-}
-
-impl SourceTable {
-    /// Removes all entries.
-    pub(crate) fn clear(&mut self)
-        ensures entries { self.new.table.entries.items ≡ [] }
-        ensures places { self.new.table.places ≡ self.old.table.places }
-    {
-        self.table.clear();
     }
 }

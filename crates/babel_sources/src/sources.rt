@@ -163,15 +163,29 @@ impl<T: Table<Source, SourceEntry>> SourcesOver<T> {
         ensures err { OnErr result (self.new ≡ self.old) }
     {
         let mut near = usize::MAX;
-        match self.lower_near(now, source, sent, &mut near) {
+        self.lower_near(now, source, sent, &mut near)
+    }
+
+    /// The same. The search begins near an index, which becomes one near that of the source.
+    pub fn lower_near(
+        &mut self,
+        now: u64,
+        source: Source,
+        sent: Distance,
+        near: &mut usize,
+    ) -> Result<(), Full>
+        ensures full { IsErr result ↔ (IsNone (find source_cmp source self.old) × (length self.old ≡ SOURCE_PLACES)) }
+        ensures ok { OnOk result (self.new ≡ lowered now source sent self.old) }
+        ensures err { OnErr result (self.new ≡ self.old) }
+    {
+        match self.fetch_lower_near(now, source, sent, near) {
             Ok(_) => Ok(()),
             Err(full) => Err(full),
         }
     }
 
-    /// The same, and it returns the pair that the source had before. The search begins near an
-    /// index, which becomes one near that of the source.
-    pub fn lower_near(
+    /// The same, and it returns the pair that the source had before.
+    pub fn fetch_lower_near(
         &mut self,
         now: u64,
         source: Source,

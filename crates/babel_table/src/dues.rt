@@ -1,6 +1,6 @@
 //! The moments from which on the values of a table are due.
 
-ghost use Rattle.std.specs.Prelude.{◌≡◌, ℕ};
+ghost use Rattle.std.specs.Prelude.{◌≡◌, ℕ, ◌^◌, ◌≤◌, ◌<◌};
 ghost use Rattle.babel_table.specs.Dues.{AreDueFrom};
 ghost use Rattle.babel_table.specs.Entries.{revised_entries};
 
@@ -46,5 +46,20 @@ pub fn revise_dues<K: Key, V: Due, T: Table<K, V>, R: Revision<K, V>>(
     ensures room { T.room table.new ≡ T.room table.old }
     ensures due { AreDueFrom V.due_of result (T.entries table.new) }
 {
-    table.revise::<R, OwnMoments>(revision)
+    table.revise_dated::<R, OwnMoments>(revision)
+}
+
+/// The last moment before which no value of the table is due: the least of theirs, or the greatest
+/// moment if the table is empty.
+pub fn least_due<K: Key, V: Due, T: Table<K, V>>(table: &T) -> u64
+    ensures due { AreDueFrom V.due_of result (T.entries table.now) }
+    ensures greatest { (moment : ℕ) → moment < 2 ^ 64 → AreDueFrom V.due_of moment (T.entries table.now) → moment ≤ result }
+{
+    let mut least = u64::MAX;
+    for place in 0..table.len() {
+        if let Some(entry) = table.at(place) {
+            least = least.min(entry.1.due());
+        }
+    }
+    least
 }

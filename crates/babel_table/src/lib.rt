@@ -29,7 +29,7 @@ mod table;
 
 pub use babel_value::Memory;
 pub use bounds::{Bound, places_below};
-pub use dues::{Due, Moments, revise_dues};
+pub use dues::{Due, Moments, least_due, revise_dues};
 pub use errors::Full;
 pub use keys::{Key, Sought};
 pub use near::{change_near, find_near, places_below_near, put_near, seek_near};
@@ -37,4 +37,4 @@ pub use plain::PlainTable;
 pub use revisions::{Change, Revised, Revision};
 pub use sorted::{GapTable, SortedTable};
 pub use steps::Steps;
-pub use table::{Table, find_in, set};
+pub use table::{Table, find_in, set, set_near};

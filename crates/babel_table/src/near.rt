@@ -52,7 +52,7 @@ fn next_step(step: usize) -> usize {
 /// The order of two keys. The step isn't counted. It is compiled into each caller: as a call it had
 /// a copy made of each entry whose key it looked at.
 #[inline(always)]
-fn order_of<K: Key>(key: &K, other: &K) -> Ordering
+pub(crate) fn order_of<K: Key>(key: &K, other: &K) -> Ordering
     ensures { result ≡ K.order key.now other.now }
 {
     order_on::<Brand, K>(key, other, Blank::new(1))

@@ -7,7 +7,7 @@ ghost use Rattle.babel_table.specs.Insertions.{in_order, are_distinct, sorted_in
 ghost use Rattle.babel_table.specs.Places.{IsAt};
 
 use crate::revisions::compact;
-use crate::{Full, Key, Memory, Moments, Revision, Sought, Steps, Table};
+use crate::{Change, Full, Key, Memory, Moments, Revision, Sought, Steps, Table};
 use std::alloc::Global;
 use std::marker::Brand;
 use std::sync::ledger::{Blank, Ledger};
@@ -80,8 +80,29 @@ impl<K: Key, V: Copy> Table<K, V> for PlainTable<K, V> {
         let _ = self.put(key, value);
     }
 
-    fn revise<R: Revision<K, V>, M: Moments<V>>(&mut self, revision: &R) -> u64 {
+    fn put_near(&mut self, near: usize, key: K, value: V) -> Result<usize, Full> {
+        match self.put(key, value) {
+            Ok(()) => Ok(near),
+            Err(full) => Err(full),
+        }
+    }
+
+    fn change_near<C: Change<V>>(
+        &mut self,
+        near: usize,
+        key: K,
+        change: &C,
+    ) -> Result<usize, Full> {
+        let value = change.changed(value_of(self, &key));
+        self.put_near(near, key, value)
+    }
+
+    fn revise_dated<R: Revision<K, V>, M: Moments<V>>(&mut self, revision: &R) -> u64 {
         compact::<K, V, R, M>(&mut self.entries, revision)
+    }
+
+    fn clear(&mut self) {
+        self.entries.clear();
     }
 
     fn len(&self) -> usize {
@@ -135,6 +156,16 @@ fn place_on<L: Ledger, K: Key, V: Copy>(
 {
     let mut steps = Steps::<L>::open(blank);
     search(table, key, &mut steps)
+}
+
+/// The value at the key. The steps are not counted.
+fn value_of<K: Key, V: Copy>(table: &PlainTable<K, V>, key: &K) -> Option<V>
+    ensures { result ≡ find K.order key.now (in_order K.order table.now.entries.items) }
+{
+    match place_of(table, key) {
+        Some(place) => Some(table.entries[place].1),
+        None => None,
+    }
 }
 
 /// How many keys are lesser than this one. The steps are not counted.

@@ -1,6 +1,6 @@
 //! A revision of all entries of a table, in one pass.
 
-ghost use Rattle.std.specs.Prelude.{◌≡◌, ℕ, ◌≤◌, ◌<◌, ◌++◌, Option, None, IsTrue, length, take, drop, vec_len, vec_capacity};
+ghost use Rattle.std.specs.Prelude.{◌≡◌, ℕ, ◌-◌, ◌^◌, ◌≤◌, ◌<◌, ◌++◌, Option, None, IsTrue, length, take, drop, vec_len, vec_capacity};
 ghost use Rattle.babel_table.specs.Dues.{AreDueFrom};
 ghost use Rattle.babel_table.specs.Entries.{revised_entries};
 ghost use Rattle.babel_table.specs.Revisions.{revised_value};
@@ -33,6 +33,17 @@ pub trait Change<V: Copy> {
     /// What is stored in place of this value, or of none.
     fn changed(&self, value: Option<V>) -> V
         ensures { result ≡ changed self.now value };
+}
+
+/// Moments of values that are never due: a revision that asks for none has these.
+pub(crate) struct Undated;
+
+impl<V: Copy> Moments<V> for Undated {
+    ghost moment_of = { λ _. 2 ^ 64 - 1 };
+
+    fn moment(_value: &V) -> u64 {
+        u64::MAX
+    }
 }
 
 /// The first entries of a row, which a revision left so far.

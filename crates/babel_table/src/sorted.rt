@@ -1,13 +1,14 @@
 //! A table as a sequence in the order of the keys.
 
-ghost use Rattle.std.specs.Prelude.{◌≡◌, ◌+◌, ◌≤◌, ◌<◌, ◌↔◌, [], true, take, IsTrue, IsErr, IsNone, length, IfOk, IfErr, OnOk, OnErr};
+ghost use Rattle.std.specs.Prelude.{◌≡◌, ◌+◌, ◌≤◌, ◌<◌, ◌↔◌, true, take, IsTrue, IsErr, IsNone, length, IfOk, IfErr, OnOk, OnErr};
 ghost use Rattle.std.specs.FinMap.{find, put, is_sorted};
 ghost use Rattle.babel_table.specs.Digits.{binary_digits};
 ghost use Rattle.babel_table.specs.Places.{IsAt, IsGap, are_lesser};
 
 use crate::gap::GapVec;
+use crate::near::order_of;
 use crate::sequences::Sequence;
-use crate::{Full, Key, Memory, Moments, Revision, Sought, Steps, Table};
+use crate::{Change, Full, Key, Memory, Moments, Revision, Sought, Steps, Table};
 use std::alloc::Global;
 use std::cmp::Ordering;
 use std::marker::{Brand, PhantomData};
@@ -77,8 +78,28 @@ impl<K: Key, V: Copy, Q: Sequence<K, V>> Table<K, V> for SortedTable<K, V, Q> {
         self.entries.remove(place);
     }
 
-    fn revise<R: Revision<K, V>, M: Moments<V>>(&mut self, revision: &R) -> u64 {
+    fn put_near(&mut self, near: usize, key: K, value: V) -> Result<usize, Full> {
+        let found = place_near(self, near, &key);
+        store_found(self, found, key, value)
+    }
+
+    fn change_near<C: Change<V>>(
+        &mut self,
+        near: usize,
+        key: K,
+        change: &C,
+    ) -> Result<usize, Full> {
+        let found = place_near(self, near, &key);
+        let value = change.changed(value_at(self, &key, found));
+        store_found(self, found, key, value)
+    }
+
+    fn revise_dated<R: Revision<K, V>, M: Moments<V>>(&mut self, revision: &R) -> u64 {
         self.entries.revise::<R, M>(revision)
+    }
+
+    fn clear(&mut self) {
+        self.entries.clear();
     }
 
     fn len(&self) -> usize {
@@ -91,16 +112,6 @@ impl<K: Key, V: Copy, Q: Sequence<K, V>> Table<K, V> for SortedTable<K, V, Q> {
         } else {
             None
         }
-    }
-}
-
-impl<K: Key, V: Copy, Q: Sequence<K, V>> SortedTable<K, V, Q> {
-    /// Removes all entries.
-    pub fn clear(&mut self)
-        ensures entries { Q.items self.new.entries ≡ [] }
-        ensures places { self.new.places ≡ self.old.places }
-    {
-        self.entries.clear();
     }
 }
 
@@ -131,6 +142,45 @@ fn store<K: Key, V: Copy, Q: Sequence<K, V>>(
             table.entries.insert(place, key, value);
             Ok(())
         }
+    }
+}
+
+/// The same, and returns the index.
+fn store_found<K: Key, V: Copy, Q: Sequence<K, V>>(
+    table: &mut SortedTable<K, V, Q>,
+    found: Result<usize, usize>,
+    key: K,
+    value: V,
+) -> Result<usize, Full>
+    requires found { IfOk found (IsAt key (Q.items table.old.entries)) }
+    requires missing { IfErr found (IsGap K.order key (Q.items table.old.entries)) }
+    ensures full { IsErr result ↔ (IsNone (find K.order key (Q.items table.old.entries)) × (length (Q.items table.old.entries) ≡ table.old.places)) }
+    ensures ok { OnOk result (Q.items table.new.entries ≡ put K.order key value (Q.items table.old.entries)) }
+    ensures err { OnErr result (Q.items table.new.entries ≡ Q.items table.old.entries) }
+    ensures places { table.new.places ≡ table.old.places }
+{
+    let (Ok(place) | Err(place)) = found;
+    match store(table, found, key, value) {
+        Ok(()) => Ok(place),
+        Err(full) => Err(full),
+    }
+}
+
+/// The value at the index at which a search found the key, or none.
+fn value_at<K: Key, V: Copy, Q: Sequence<K, V>>(
+    table: &SortedTable<K, V, Q>,
+    key: &K,
+    found: Result<usize, usize>,
+) -> Option<V>
+    requires found { IfOk found (IsAt key.now (Q.items table.now.entries)) }
+    requires missing { IfErr found (IsGap K.order key.now (Q.items table.now.entries)) }
+    ensures { result ≡ find K.order key.now (Q.items table.now.entries) }
+{
+    // The key is in the contract alone.
+    let _ = key;
+    match found {
+        Ok(place) => Some(table.entries.item(place).1),
+        Err(_) => None,
     }
 }
 
@@ -181,4 +231,19 @@ fn place_on<L: Ledger, K: Key, V: Copy, Q: Sequence<K, V>>(
 {
     let mut steps = Steps::<L>::open(blank);
     search(table, key, &mut steps)
+}
+
+/// The same. It looks at the index `near` first.
+fn place_near<K: Key, V: Copy, Q: Sequence<K, V>>(
+    table: &SortedTable<K, V, Q>,
+    near: usize,
+    key: &K,
+) -> Result<usize, usize>
+    ensures found { IfOk result (IsAt key.now (Q.items table.now.entries)) }
+    ensures missing { IfErr result (IsGap K.order key.now (Q.items table.now.entries)) }
+{
+    if near < table.entries.len() && order_of(key, &table.entries.item(near).0).is_eq() {
+        return Ok(near);
+    }
+    place_of(table, key)
 }

@@ -6,7 +6,8 @@ ghost use Rattle.babel_table.specs.Dues.{AreDueFrom};
 ghost use Rattle.babel_table.specs.Entries.{revised_entries, without, with_value};
 ghost use Rattle.babel_table.specs.Places.{IsAt, IsGap};
 
-use crate::{Full, Key, Memory, Moments, Revision, Sought, Steps};
+use crate::revisions::Undated;
+use crate::{Change, Full, Key, Memory, Moments, Revision, Sought, Steps};
 use std::alloc::Global;
 use std::marker::Brand;
 use std::sync::ledger::{Blank, Ledger};
@@ -65,12 +66,42 @@ pub trait Table<K: Key, V: Copy>: Drop {
         ensures entries { entries self.new ≡ without K.order key.now (entries self.old) }
         ensures room { room self.new ≡ room self.old };
 
+    /// Stores the value at the key, and returns an index near that of the key. The search for the
+    /// key begins at the index `near`, which only matters for speed. `Full` as of `put`.
+    fn put_near(&mut self, near: usize, key: K, value: V) -> Result<usize, Full>
+        ensures full { IsErr result ↔ (IsNone (find K.order key (entries self.old)) × (length (entries self.old) ≡ room self.old)) }
+        ensures ok { OnOk result (entries self.new ≡ put K.order key value (entries self.old)) }
+        ensures err { OnErr result (entries self.new ≡ entries self.old) }
+        ensures room { room self.new ≡ room self.old };
+
+    /// Stores what the change makes of the value at the key, with one look-up, and returns an index
+    /// near that of the key. The look-up begins at the index `near`, as that of `put_near`. `Full`
+    /// as of `put`.
+    fn change_near<C: Change<V>>(&mut self, near: usize, key: K, change: &C) -> Result<usize, Full>
+        ensures full { IsErr result ↔ (IsNone (find K.order key (entries self.old)) × (length (entries self.old) ≡ room self.old)) }
+        ensures ok { OnOk result (entries self.new ≡ put K.order key (C.changed change.now (find K.order key (entries self.old))) (entries self.old)) }
+        ensures err { OnErr result (entries self.new ≡ entries self.old) }
+        ensures room { room self.new ≡ room self.old };
+
+    /// Revises all entries in one pass.
+    fn revise<R: Revision<K, V>>(&mut self, revision: &R)
+        ensures entries { entries self.new ≡ revised_entries (R.revised revision.now) (entries self.old) }
+        ensures room { room self.new ≡ room self.old }
+    {
+        let _ = self.revise_dated::<R, Undated>(revision);
+    }
+
     /// Revises all entries in one pass. Returns a moment before which no value that the table then
     /// has is due.
-    fn revise<R: Revision<K, V>, M: Moments<V>>(&mut self, revision: &R) -> u64
+    fn revise_dated<R: Revision<K, V>, M: Moments<V>>(&mut self, revision: &R) -> u64
         ensures entries { entries self.new ≡ revised_entries (R.revised revision.now) (entries self.old) }
         ensures room { room self.new ≡ room self.old }
         ensures due { AreDueFrom M.moment_of result (entries self.new) };
+
+    /// Removes all entries. Their room stays.
+    fn clear(&mut self)
+        ensures entries { entries self.new ≡ [] }
+        ensures room { room self.new ≡ room self.old };
 
     /// How many entries there are.
     fn len(&self) -> usize
@@ -121,4 +152,22 @@ pub fn set<K: Key, V: Copy, T: Table<K, V>>(table: &mut T, key: K, value: Option
         }
         None => table.remove(&key),
     }
+}
+
+/// The same. The search for the key begins at the index, which only matters for speed.
+pub fn set_near<K: Key, V: Copy, T: Table<K, V>>(
+    table: &mut T,
+    place: usize,
+    key: K,
+    value: Option<V>,
+)
+    requires room { IsSome value → IsNone (find K.order key (T.entries table.old)) → length (T.entries table.old) < T.room table.old }
+    ensures entries { T.entries table.new ≡ with_value K.order key value (T.entries table.old) }
+    ensures room { T.room table.new ≡ T.room table.old }
+{
+    let Some(value) = value else {
+        table.remove(&key);
+        return;
+    };
+    let _ = table.put_near(place, key, value);
 }

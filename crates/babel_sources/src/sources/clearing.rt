@@ -4,6 +4,7 @@ ghost use Rattle.std.specs.Prelude.{◌≡◌, []};
 
 use crate::source_table::SourceTable;
 use crate::sources::SourcesOver;
+use babel_table::Table;
 
 impl SourcesOver<SourceTable> {
     /// Removes all entries. Their room stays.

@@ -90,7 +90,7 @@ fn handle_any_update(
     hints.cursor = hints.trail.next();
     let verdict = core.handle_update(now, update, hints);
     if is_placed(&verdict) {
-        hints.trail.push(&hints.cursor);
+        hints.trail.push_copied(&hints.cursor);
     }
     hints.changed = changed || hints.changed;
     verdict
@@ -112,7 +112,7 @@ fn handle_retraction(
     hints.cursor = hints.trail.next();
     let verdict = core.handle_retraction(arrival.time, &arrival.peer, prefix, hints);
     if is_placed(&verdict) {
-        hints.trail.push(&hints.cursor);
+        hints.trail.push_copied(&hints.cursor);
     }
     verdict
 }

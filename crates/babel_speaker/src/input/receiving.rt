@@ -77,7 +77,7 @@ fn handle_places(
     ensures current { IsTrue hints.new.settled → AreCurrent core.new }
     ensures kept { IsFalse hints.new.changed → KeepsRoutes core.old core.new }
 {
-    hints.trail.begin(&arrival.peer);
+    hints.trail.begin_from(&arrival.peer);
     let mut is_known = false;
     for place in placed {
         let verdict = handle_place(core, arrival, &place.content, hints, &mut is_known);

@@ -73,7 +73,9 @@ fn apply_message(
             let source = Source { prefix, router };
             let sent = Distance { seqno, metric };
             let near = &mut cursor.source;
-            let lowered = core.sources.lower_near(departure.now, source, sent, near);
+            let lowered = core
+                .sources
+                .fetch_lower_near(departure.now, source, sent, near);
             // The next Update mostly is of the next source.
             *near = near.wrapping_add(1);
             match lowered {

@@ -2,7 +2,7 @@
 use Rattle.std.proofs.Common.{◌≡◌, true, sym, subst}
 use Rattle.std.specs.FinMap.{is_sorted}
 use Rattle.babel_table.proofs.RevisionLemmas.{sorted_revised}
-use Rattle.babel_table.proofs.sorted.SortedTableTable.revise.Goals as goal
+use Rattle.babel_table.proofs.sorted.SortedTableTable.revise_dated.Goals as goal
 
 pub invariant_of-self-clause-sorted : goal.invariant_of-self-clause-sorted
 invariant_of-self-clause-sorted g c =

@@ -6,7 +6,7 @@ use Rattle.babel_value.specs.Orders.{source_cmp}
 use Rattle.babel_sources.specs.declared.sources.SourceEntry.{SourceEntry}
 use Rattle.babel_sources.specs.Distances.{better_pair}
 use Rattle.babel_sources.proofs.DueLemmas.{change_due}
-use Rattle.babel_sources.proofs.sources.SourcesOver.lower_near.Goals as goal
+use Rattle.babel_sources.proofs.sources.SourcesOver.fetch_lower_near.Goals as goal
 
 pub invariant_of-self : goal.invariant_of-self
 invariant_of-self g c =

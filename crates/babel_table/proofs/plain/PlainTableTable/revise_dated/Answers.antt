@@ -3,7 +3,7 @@ use Rattle.std.proofs.Common.{◌≡◌, true, sym, ap, subst, ◌∙◌}
 use Rattle.babel_table.specs.Insertions.{in_order, are_distinct}
 use Rattle.babel_table.proofs.DueLemmas.{due_in_order}
 use Rattle.babel_table.proofs.RevisionLemmas.{distinct_revised, in_order_revised}
-use Rattle.babel_table.proofs.plain.PlainTableTable.revise.Goals as goal
+use Rattle.babel_table.proofs.plain.PlainTableTable.revise_dated.Goals as goal
 
 pub invariant_of-self-clause-distinct : goal.invariant_of-self-clause-distinct
 invariant_of-self-clause-distinct g c =
