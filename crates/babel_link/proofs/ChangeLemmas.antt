@@ -8,6 +8,8 @@ use Rattle.std.specs.Option.{option_map_or, unwrap_or}
 use Rattle.babel_value.specs.declared.keys.Peer.{Peer}
 use Rattle.babel_value.specs.Metrics.{infinity}
 use Rattle.babel_value.specs.Orders.{peer_cmp}
+use Rattle.babel_link.specs.declared.changes.LinkCost.{LinkCost}
+use Rattle.babel_link.specs.declared.changes.LinkCost.TheVariants.{Kept, Changed}
 use Rattle.babel_link.specs.declared.links.Link.{Link}
 use Rattle.babel_link.specs.Links.{new_link, is_up_history, link_rxcost, link_cost}
 use Rattle.babel_link.specs.Neighbours.{Links, link_of, cost_of, has_finite_link}
@@ -66,13 +68,31 @@ put_cost_kept peer before after links is same nominal =
     ap (λ o. option_map_or (link_cost nominal) o infinity) (find-put_own peer after links)
     ∙ same nominal ∙ ap (link_cost nominal) is ∙ sym (cost_of_known nominal (find peer_cmp peer links))
 
+-- The peer costs what it did only if its link does.
+pub put_cost_same : (peer : Peer) (before after : Link) (links : Links) → before ≡ link_of peer links → (nominal : ℕ) →
+    cost_of peer nominal (put peer_cmp peer after links) ≡ cost_of peer nominal links → link_cost nominal after ≡ link_cost nominal before
+unfolding cost_of
+put_cost_same peer before after links is nominal same =
+    sym (ap (λ o. option_map_or (link_cost nominal) o infinity) (find-put_own peer after links)) ∙ same
+    ∙ cost_of_known nominal (find peer_cmp peer links) ∙ sym (ap (link_cost nominal) is)
+
 -- The same, if the link is written at the peer's place.
-pub written_cost_kept : (peer : Peer) (links : Links) (place : ℕ) (entry : Peer × Link) (after : Link) → IsPlaceOf peer links place → entry ≡ get_or links place entry →
-    ((nominal : ℕ) → link_cost nominal after ≡ link_cost nominal entry.1) →
-    (nominal : ℕ) → cost_of peer nominal (set links place (entry.0, after)) ≡ cost_of peer nominal links
-written_cost_kept peer links place entry after here read same nominal =
-    let written : put peer_cmp peer after links ≡ set links place (entry.0, after) =
-    here.written after entry ∙ ap (λ (e : Peer × Link). set links place (e.0, after)) (sym read) in
-    let known : entry.1 ≡ link_of peer links =
-    ap (λ (e : Peer × Link). e.1) read ∙ ap (λ o. unwrap_or o new_link) (sym (here.found entry)) in
-    subst (λ (ls : Links). cost_of peer nominal ls ≡ cost_of peer nominal links) written (put_cost_kept peer entry.1 after links known same nominal)
+module _ (peer : Peer) (links : Links) (place : ℕ) (entry : Peer × Link) (after : Link) (here : IsPlaceOf peer links place) (read : entry ≡ get_or links place entry) where
+  written : put peer_cmp peer after links ≡ set links place (entry.0, after)
+  written = here.written after entry ∙ ap (λ (e : Peer × Link). set links place (e.0, after)) (sym read)
+
+  known : entry.1 ≡ link_of peer links
+  known = ap (λ (e : Peer × Link). e.1) read ∙ ap (λ o. unwrap_or o new_link) (sym (here.found entry))
+
+  pub written_cost_kept : ((nominal : ℕ) → link_cost nominal after ≡ link_cost nominal entry.1) →
+      (nominal : ℕ) → cost_of peer nominal (set links place (entry.0, after)) ≡ cost_of peer nominal links
+  written_cost_kept same nominal =
+      subst (λ (ls : Links). cost_of peer nominal ls ≡ cost_of peer nominal links) written (put_cost_kept peer entry.1 after links known same nominal)
+
+  pub written_cost_same : (nominal : ℕ) → cost_of peer nominal (set links place (entry.0, after)) ≡ cost_of peer nominal links → link_cost nominal after ≡ link_cost nominal entry.1
+  written_cost_same nominal same =
+      put_cost_same peer entry.1 after links known nominal (ap (cost_of peer nominal) written ∙ same)
+
+-- A cost isn't both kept and changed.
+pub not_both : (cost : LinkCost) → cost ≡ Kept → cost ≡ Changed → ⊥
+not_both cost kept changed = cc

@@ -8,3 +8,4 @@ pub mod DueLemmas
 pub mod LookUpLemmas
 pub mod SilenceLemmas
 pub mod GrowthLemmas
+pub mod ExactLemmas

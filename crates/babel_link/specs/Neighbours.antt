@@ -1,5 +1,5 @@
 -- The neighbours: a map from peers to links, as the list of its entries in the order of the peers (RFC 8966, section 3.2.4).
-use Rattle.std.specs.Prelude.{◌≡◌, ◌≢◌, ◌⊎◌, ℕ, Bool, true, ◌&&◌, List, [], ◌∷◌, map, filter, Option, is_none, IsTrue, All, nat_lt}
+use Rattle.std.specs.Prelude.{◌≡◌, ◌≢◌, ◌⊎◌, ℕ, Bool, true, false, ◌&&◌, ◌==◌, not, List, [], ◌∷◌, map, filter, Option, is_none, IsTrue, All, nat_lt}
 use Rattle.std.specs.List.{filter_map, list_all, list_any}
 use Rattle.std.specs.Option.{option_map, option_map_or, unwrap_or}
 use Rattle.std.specs.Ordering.{is_lt}
@@ -7,6 +7,8 @@ use Rattle.std.specs.FinMap.{find, put, is_sorted}
 use Rattle.babel_value.specs.declared.keys.Peer.{Peer}
 use Rattle.babel_value.specs.Metrics.{infinity}
 use Rattle.babel_value.specs.Orders.{peer_cmp}
+use Rattle.babel_link.specs.declared.changes.CostChanges.{CostChanges}
+use Rattle.babel_link.specs.declared.changes.CostChanges.TheVariants.{Nothing, One, Several}
 use Rattle.babel_link.specs.declared.links.Link.{Link}
 use Rattle.babel_link.specs.declared.marks.Heard.{Heard}
 use Rattle.babel_link.specs.Links.{new_link, hello_link, link_verdict, ihu_link, ticked_link, IsQuietUntil, link_rxcost, link_cost}
@@ -52,6 +54,25 @@ peers_of links = map (λ e. e.0) links
 -- The neighbours that a tick flushes, ascending (RFC 8966, appendix A.1).
 unfoldable pub gone_of : ℕ → Links → List Peer
 gone_of now links = peers_of (filter (is_gone now) links)
+
+-- A tick keeps the neighbour, and changes what its link costs over an interface of a finite nominal cost (RFC 8966, appendix A.2.1).
+abbrev pub is_cost_changed : ℕ → Peer × Link → Bool
+is_cost_changed now e = option_map_or (λ link. not (link_cost 0 link == link_cost 0 e.1)) (ticked_link now e.1) false
+
+-- The neighbours that a tick keeps, with another cost of their links, ascending (RFC 8966, appendix A.2.1).
+unfoldable pub changed_of : ℕ → Links → List Peer
+changed_of now links = peers_of (filter (is_cost_changed now) links)
+
+-- No cost, or that of one link, where no neighbour is flushed; else several (profile).
+abbrev pub changes_by : List Peer → List Peer → CostChanges
+changes_by [] [] = Nothing
+changes_by [] (peer ∷ []) = One peer
+changes_by [] (peer ∷ next ∷ others) = Several
+changes_by (peer ∷ gone) changed = Several
+
+-- What a tick changes of the links' costs (profile).
+unfoldable pub cost_changes_of : ℕ → Links → CostChanges
+cost_changes_of now links = changes_by (gone_of now links) (changed_of now links)
 
 -- No deadline of a neighbour is due before the moment (profile).
 abbrev pub AreQuietUntil : ℕ → Links → Type 0

@@ -3,7 +3,7 @@
 ghost use Rattle.std.specs.Prelude.{◌≡◌, ◌≢◌, ◌⊎◌};
 ghost use Rattle.babel_value.specs.declared.keys.Peer.{Peer};
 ghost use Rattle.babel_link.specs.declared.changes.CostChanges.TheVariants.{Nothing, One, Several};
-ghost use Rattle.babel_link.specs.declared.changes.LinkCost.TheVariants.{Kept};
+ghost use Rattle.babel_link.specs.declared.changes.LinkCost.TheVariants.{Kept, Changed};
 
 use crate::Heard;
 use babel_value::Peer;
@@ -13,9 +13,9 @@ use babel_value::Peer;
 pub enum CostChanges {
     /// No cost, and no neighbour is flushed.
     Nothing,
-    /// At most the cost of the link to this neighbour, and no neighbour is flushed.
+    /// The cost of the link to this neighbour alone, and no neighbour is flushed.
     One(Peer),
-    /// More may have changed: the costs of several links, or a neighbour is flushed.
+    /// The costs of several links, or a neighbour is flushed.
     Several,
 }
 
@@ -26,6 +26,9 @@ impl CostChanges {
         ensures nothing { self.new ≡ Nothing → (self.old ≡ Nothing) × (cost ≡ Kept) }
         ensures one { (q : Peer) → self.new ≡ One q → ((self.old ≡ One q) × (cost ≡ Kept)) ⊎ ((self.old ≡ Nothing) × (peer.now ≡ q)) }
         ensures known { self.new ≢ Several → self.old ≢ Several }
+        ensures kept { cost ≡ Kept → self.new ≡ self.old }
+        ensures first { cost ≡ Changed → self.old ≡ Nothing → self.new ≡ One peer.now }
+        ensures more { cost ≡ Changed → self.old ≢ Nothing → self.new ≡ Several }
     {
         if let LinkCost::Changed = cost {
             *self = match self {
@@ -41,7 +44,7 @@ impl CostChanges {
 pub enum LinkCost {
     /// Nothing: the link costs what it did.
     Kept,
-    /// Something: the link may cost more or less.
+    /// Something: the link costs more or less.
     Changed,
 }
 

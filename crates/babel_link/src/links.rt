@@ -1,6 +1,6 @@
 //! What is known of one neighbour (RFC 8966, section 3.2.4).
 
-ghost use Rattle.std.specs.Prelude.{◌≡◌, ◌↔◌, ◌<◌, ◌||◌, ℕ, true, false, Some, None, IsTrue, IsFalse, IsSome, IsNone};
+ghost use Rattle.std.specs.Prelude.{◌≡◌, ◌≢◌, ◌↔◌, ◌<◌, ◌||◌, ℕ, true, false, Some, None, IsTrue, IsFalse, IsSome, IsNone};
 ghost use Rattle.std.specs.Option.{option_and_then, option_map_or};
 ghost use Rattle.babel_link.specs.Links.{new_link, history_of, with_history, hello_timer, first_history, later_history, next_history, fired_history, link_verdict, hello_link, ihu_link, fired_link, expired_link, ticked_link, link_rxcost, link_cost, is_heard, is_up_history, is_txcost_due, IsQuietUntil};
 ghost use Rattle.babel_value.specs.Hellos.{is_unicast};
@@ -206,6 +206,7 @@ impl Link {
         ensures heard { result.heard ≡ link_verdict (is_unicast kind) seqno self.old }
         ensures link { self.new ≡ hello_link now (is_unicast kind) seqno interval self.old }
         ensures kept { result.cost ≡ costs.Kept → (nominal : ℕ) → link_cost nominal self.new ≡ link_cost nominal self.old }
+        ensures changed { result.cost ≡ costs.Changed → link_cost 0 self.new ≢ link_cost 0 self.old }
     {
         let before = self.finite_cost();
         let heard = self.hello(now, kind, seqno, interval);
@@ -238,6 +239,7 @@ impl Link {
     pub(crate) fn hear_ihu(&mut self, now: u64, rxcost: Metric, interval: u16) -> LinkCost
         ensures link { self.new ≡ ihu_link now rxcost interval self.old }
         ensures kept { result ≡ costs.Kept → (nominal : ℕ) → link_cost nominal self.new ≡ link_cost nominal self.old }
+        ensures changed { result ≡ costs.Changed → link_cost 0 self.new ≢ link_cost 0 self.old }
     {
         let before = self.finite_cost();
         self.ihu(now, rxcost, interval);
@@ -389,6 +391,7 @@ impl Link {
         ensures stays { IsSome result → ticked_link now self.old ≡ Some self.new }
         ensures flushed { IsNone result → ticked_link now self.old ≡ None }
         ensures kept { result ≡ Some costs.Kept → (nominal : ℕ) → link_cost nominal self.new ≡ link_cost nominal self.old }
+        ensures changed { result ≡ Some costs.Changed → link_cost 0 self.new ≢ link_cost 0 self.old }
     {
         if !self.is_due(now) {
             return Some(LinkCost::Kept);

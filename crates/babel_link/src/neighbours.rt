@@ -9,9 +9,9 @@ ghost use Rattle.babel_link.specs.declared.links.Link.{Link};
 ghost use Rattle.babel_value.specs.Hellos.{is_unicast};
 ghost use Rattle.babel_value.specs.Metrics.{infinity};
 ghost use Rattle.babel_value.specs.Orders.{peer_cmp};
-ghost use Rattle.babel_link.specs.Neighbours.{max_neighbours, link_of, hello_of, hello_verdict, ihu_of, tick_of, gone_of, rxcost_of, cost_of, has_finite_link, are_ascending, comes_before, peers_of, AreQuietUntil, KeepsOtherCosts, CostsOnlyGrow, AreLost};
+ghost use Rattle.babel_link.specs.Neighbours.{max_neighbours, link_of, hello_of, hello_verdict, ihu_of, tick_of, gone_of, cost_changes_of, rxcost_of, cost_of, has_finite_link, are_ascending, comes_before, peers_of, AreQuietUntil, KeepsOtherCosts, CostsOnlyGrow, AreLost};
 ghost use Rattle.babel_link.specs.declared.changes.CostChanges.TheVariants.{Nothing, One, Several};
-ghost use Rattle.babel_link.specs.declared.changes.LinkCost.TheVariants.{Kept};
+ghost use Rattle.babel_link.specs.declared.changes.LinkCost.TheVariants.{Kept, Changed};
 ghost use Rattle.babel_link.specs.Places.{IsPlaceOf, IsGapFor};
 
 use crate::{CostChanges, Full, Heard, HelloEffect, Link, LinkCost, Memory, Peers};
@@ -101,6 +101,7 @@ fn move_down(links: &mut Vec<(Peer, Link)>, place: usize, kept: usize)
 
 /// Handles the deadlines of the neighbours, in one pass. Until a neighbour is flushed, each link is
 /// handled where it is, and not copied. The later ones then move down.
+#[tactic(auto, using(crate::proofs::ExactLemmas::exact_none))]
 fn tick_links(
     links: &mut Vec<(Peer, Link)>,
     now: u64,
@@ -115,6 +116,7 @@ fn tick_links(
     ensures costs { result.changes ≡ Nothing → (peer : Peer) (nominal : ℕ) → cost_of peer nominal links.new.items ≡ cost_of peer nominal links.old.items }
     ensures others { (peer : Peer) → result.changes ≡ One peer → KeepsOtherCosts peer links.old.items links.new.items }
     ensures flushed { result.changes ≢ Several → gone.new.items ≡ [] }
+    ensures exact { result.changes ≡ cost_changes_of now links.old.items }
 {
     gone.clear();
     let mut kept = 0;
@@ -321,6 +323,7 @@ impl Neighbours {
         ensures ok { OnOk result (self.new ≡ hello_of now peer (is_unicast kind) seqno interval self.old) }
         ensures err { OnErr result (self.new ≡ self.old) }
         ensures kept { IfOk result (λ effect. effect.cost ≡ Kept → (nominal : ℕ) → cost_of peer nominal self.new ≡ cost_of peer nominal self.old) }
+        ensures changed { IfOk result (λ effect. effect.cost ≡ Changed → cost_of peer 0 self.new ≢ cost_of peer 0 self.old) }
     {
         match self.search_sender(&peer) {
             Ok(place) => {
@@ -360,6 +363,7 @@ impl Neighbours {
     pub fn hear_ihu(&mut self, now: u64, peer: Peer, rxcost: Metric, interval: u16) -> LinkCost
         ensures links { self.new ≡ ihu_of now peer rxcost interval self.old }
         ensures kept { result ≡ Kept → (nominal : ℕ) → cost_of peer nominal self.new ≡ cost_of peer nominal self.old }
+        ensures changed { result ≡ Changed → cost_of peer 0 self.new ≢ cost_of peer 0 self.old }
     {
         let Ok(place) = self.search_sender(&peer) else {
             return LinkCost::Kept;
@@ -392,13 +396,13 @@ impl Neighbours {
     fn may_be_due(&self, now: u64) -> bool
         ensures links { IsFalse result → tick_of now self.now ≡ self.now }
         ensures gone { IsFalse result → gone_of now self.now ≡ [] }
+        ensures costs { IsFalse result → cost_changes_of now self.now ≡ Nothing }
     {
         self.due <= now
     }
 
     /// Handles the deadlines that are due, as `tick`, and returns what that changed of the links'
-    /// costs. `Several` only means that this isn't known. Before the first deadline it looks at no
-    /// neighbour.
+    /// costs. Before the first deadline it looks at no neighbour.
     #[inline]
     pub fn tick_costs(&mut self, now: u64, gone: &mut ArrayVec<Peer, MAX_NEIGHBOURS>) -> CostChanges
         ensures links { self.new ≡ tick_of now self.old }
@@ -406,6 +410,7 @@ impl Neighbours {
         ensures costs { result ≡ Nothing → (peer : Peer) (nominal : ℕ) → cost_of peer nominal self.new ≡ cost_of peer nominal self.old }
         ensures others { (peer : Peer) → result ≡ One peer → KeepsOtherCosts peer self.old self.new }
         ensures flushed { result ≢ Several → gone.new.items ≡ [] }
+        ensures exact { result ≡ cost_changes_of now self.old }
         ensures ascending { IsTrue (are_ascending gone.new.items) }
         ensures grown { CostsOnlyGrow self.old self.new }
         ensures lost { AreLost gone.new.items self.new }
@@ -419,12 +424,14 @@ impl Neighbours {
         ticked.changes
     }
 
-    /// What a tick at this moment would change of the links' costs. `Several` only means that this
-    /// isn't known. Before the first deadline it looks at no neighbour.
+    /// What a tick at this moment would change of the links' costs. Before the first deadline it
+    /// looks at no neighbour.
+    #[tactic(auto, using(crate::proofs::ExactLemmas::exact_none))]
     pub fn cost_changes(&self, now: u64) -> CostChanges
         ensures costs { result ≡ Nothing → (peer : Peer) (nominal : ℕ) → cost_of peer nominal (tick_of now self.now) ≡ cost_of peer nominal self.now }
         ensures others { (peer : Peer) → result ≡ One peer → KeepsOtherCosts peer self.now (tick_of now self.now) }
         ensures gone { result ≢ Several → gone_of now self.now ≡ [] }
+        ensures exact { result ≡ cost_changes_of now self.now }
     {
         let mut changes = CostChanges::Nothing;
         if !self.may_be_due(now) {

@@ -43,10 +43,10 @@ module _ {K V : Type 0} (R : K → K → Ordering) (o : IsTotalOrder R) where
   find_in_order q [] = refl
   find_in_order q (e ∷ es) = find-put R o q e.0 e.1 (in_order R es) ∙ ap (cond (eq_by_cmp R q e.0) (Some e.1)) (find_in_order q es)
 
-  head_apart : (e : K × V) (es : List (K × V)) → are_distinct R (e ∷ es) ≡ true → find R e.0 es ≡ None
+  pub head_apart : (e : K × V) (es : List (K × V)) → are_distinct R (e ∷ es) ≡ true → find R e.0 es ≡ None
   head_apart e es h = no_value (find R e.0 es) (and_parts (is_none (find R e.0 es)) (are_distinct R es) h).0
 
-  tail_distinct : (e : K × V) (es : List (K × V)) → are_distinct R (e ∷ es) ≡ true → are_distinct R es ≡ true
+  pub tail_distinct : (e : K × V) (es : List (K × V)) → are_distinct R (e ∷ es) ≡ true → are_distinct R es ≡ true
   tail_distinct e es h = (and_parts (is_none (find R e.0 es)) (are_distinct R es) h).1
 
   pub length_in_order : (es : List (K × V)) → are_distinct R es ≡ true → length (in_order R es) ≡ length es

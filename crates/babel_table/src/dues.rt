@@ -1,7 +1,7 @@
 //! The moments from which on the values of a table are due.
 
 ghost use Rattle.std.specs.Prelude.{◌≡◌, ℕ, ◌^◌, ◌≤◌, ◌<◌};
-ghost use Rattle.babel_table.specs.Dues.{AreDueFrom};
+ghost use Rattle.babel_table.specs.Dues.{AreDueFrom, IsLastQuiet};
 ghost use Rattle.babel_table.specs.Entries.{revised_entries};
 
 use crate::{Key, Revision, Table};
@@ -36,8 +36,8 @@ impl<V: Due> Moments<V> for OwnMoments {
     }
 }
 
-/// Revises all entries of the table. Returns a moment before which no value that it then has is
-/// due.
+/// Revises all entries of the table. Returns the last moment before which no value that it then has
+/// is due.
 pub fn revise_dues<K: Key, V: Due, T: Table<K, V>, R: Revision<K, V>>(
     table: &mut T,
     revision: &R,
@@ -45,6 +45,7 @@ pub fn revise_dues<K: Key, V: Due, T: Table<K, V>, R: Revision<K, V>>(
     ensures entries { T.entries table.new ≡ revised_entries (R.revised revision.now) (T.entries table.old) }
     ensures room { T.room table.new ≡ T.room table.old }
     ensures due { AreDueFrom V.due_of result (T.entries table.new) }
+    ensures last { IsLastQuiet V.due_of result (T.entries table.new) }
 {
     table.revise_dated::<R, OwnMoments>(revision)
 }

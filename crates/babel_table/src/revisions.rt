@@ -1,7 +1,7 @@
 //! A revision of all entries of a table, in one pass.
 
 ghost use Rattle.std.specs.Prelude.{◌≡◌, ℕ, ◌-◌, ◌^◌, ◌≤◌, ◌<◌, ◌++◌, Option, None, IsTrue, length, take, drop, vec_len, vec_capacity};
-ghost use Rattle.babel_table.specs.Dues.{AreDueFrom};
+ghost use Rattle.babel_table.specs.Dues.{AreDueFrom, IsLastQuiet};
 ghost use Rattle.babel_table.specs.Entries.{revised_entries};
 ghost use Rattle.babel_table.specs.Revisions.{revised_value};
 
@@ -51,12 +51,12 @@ impl<V: Copy> Moments<V> for Undated {
 struct Left {
     /// How many they are.
     count: usize,
-    /// A moment before which none of them is due.
+    /// The last moment before which none of them is due.
     due: u64,
 }
 
-/// Revises the entries in one pass, and returns a moment before which none that is left is due.
-/// Each is moved at most once, and one that is kept where it is isn't written.
+/// Revises the entries in one pass, and returns the last moment before which none that is left is
+/// due. /// Each is moved at most once, and one that is kept where it is isn't written.
 pub(crate) fn compact<K: Copy, V: Copy, R: Revision<K, V>, M: Moments<V>>(
     entries: &mut Vec<(K, V)>,
     revision: &R,
@@ -65,6 +65,7 @@ pub(crate) fn compact<K: Copy, V: Copy, R: Revision<K, V>, M: Moments<V>>(
     ensures len { vec_len entries.new ≤ vec_len entries.old }
     ensures room { vec_capacity entries.new ≡ vec_capacity entries.old }
     ensures due { AreDueFrom M.moment_of result entries.new.items }
+    ensures last { IsLastQuiet M.moment_of result entries.new.items }
 {
     let left = revise_in_place::<K, V, R, M>(entries, revision);
     let left = move_down::<K, V, R, M>(entries, left, revision);
@@ -81,6 +82,7 @@ fn revise_in_place<K: Copy, V: Copy, R: Revision<K, V>, M: Moments<V>>(
     ensures left { take result.count entries.new ++ revised_entries (R.revised revision.now) (drop result.count entries.new) ≡ revised_entries (R.revised revision.now) entries.old }
     ensures len { length entries.new ≡ length entries.old }
     ensures due { AreDueFrom M.moment_of result.due (take result.count entries.new) }
+    ensures last { IsLastQuiet M.moment_of result.due (take result.count entries.new) }
 {
     let mut due = u64::MAX;
     for index in 0..entries.len() {
@@ -149,10 +151,12 @@ fn move_down<K: Copy, V: Copy, R: Revision<K, V>, M: Moments<V>>(
 ) -> Left
     requires within { left.count ≤ length entries.old }
     requires due { AreDueFrom M.moment_of left.due (take left.count entries.old) }
+    requires last { IsLastQuiet M.moment_of left.due (take left.count entries.old) }
     ensures within { result.count ≤ length entries.new }
     ensures left { take result.count entries.new ≡ take left.count entries.old ++ revised_entries (R.revised revision.now) (drop left.count entries.old) }
     ensures len { length entries.new ≡ length entries.old }
     ensures due { AreDueFrom M.moment_of result.due (take result.count entries.new) }
+    ensures last { IsLastQuiet M.moment_of result.due (take result.count entries.new) }
 {
     let mut count = left.count;
     let mut due = left.due;

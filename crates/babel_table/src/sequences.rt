@@ -1,7 +1,7 @@
 //! What the entries of a table in order are kept in.
 
 ghost use Rattle.std.specs.Prelude.{◌≡◌, ℕ, ◌≤◌, ◌<◌, List, [], Some, length, slice_get, set, insert, remove, vec_capacity, IfOk};
-ghost use Rattle.babel_table.specs.Dues.{AreDueFrom};
+ghost use Rattle.babel_table.specs.Dues.{AreDueFrom, IsLastQuiet};
 ghost use Rattle.babel_table.specs.Entries.{revised_entries};
 
 use crate::revisions::compact;
@@ -54,12 +54,14 @@ pub trait Sequence<K: Copy, V: Copy>: Drop {
         ensures items { items self.new ≡ [] }
         ensures room { room self.new ≡ room self.old };
 
-    /// Revises all entries in one pass. Returns a moment before which no value that is left is due.
+    /// Revises all entries in one pass. Returns the last moment before which no value that is left
+    /// is due.
     fn revise<R: Revision<K, V>, M: Moments<V>>(&mut self, revision: &R) -> u64
         ensures items { items self.new ≡ revised_entries (R.revised revision.now) (items self.old) }
         ensures len { length (items self.new) ≤ length (items self.old) }
         ensures room { room self.new ≡ room self.old }
-        ensures due { AreDueFrom M.moment_of result (items self.new) };
+        ensures due { AreDueFrom M.moment_of result (items self.new) }
+        ensures last { IsLastQuiet M.moment_of result (items self.new) };
 }
 
 impl<K: Copy, V: Copy> Sequence<K, V> for Vec<(K, V)> {

@@ -2,7 +2,7 @@
 
 ghost use Rattle.std.specs.Prelude.{◌≡◌, ℕ, ◌+◌, ◌≤◌, ◌<◌, ◌↔◌, List, [], length, slice_get, IfOk, OnOk, OnErr, IsErr, IsNone, IsSome, IsTrue};
 ghost use Rattle.std.specs.FinMap.{find, put, is_sorted};
-ghost use Rattle.babel_table.specs.Dues.{AreDueFrom};
+ghost use Rattle.babel_table.specs.Dues.{AreDueFrom, IsLastQuiet};
 ghost use Rattle.babel_table.specs.Entries.{revised_entries, without, with_value};
 ghost use Rattle.babel_table.specs.Places.{IsAt, IsGap};
 
@@ -91,12 +91,13 @@ pub trait Table<K: Key, V: Copy>: Drop {
         let _ = self.revise_dated::<R, Undated>(revision);
     }
 
-    /// Revises all entries in one pass. Returns a moment before which no value that the table then
-    /// has is due.
+    /// Revises all entries in one pass. Returns the last moment before which no value that the
+    /// table then has is due.
     fn revise_dated<R: Revision<K, V>, M: Moments<V>>(&mut self, revision: &R) -> u64
         ensures entries { entries self.new ≡ revised_entries (R.revised revision.now) (entries self.old) }
         ensures room { room self.new ≡ room self.old }
-        ensures due { AreDueFrom M.moment_of result (entries self.new) };
+        ensures due { AreDueFrom M.moment_of result (entries self.new) }
+        ensures last { IsLastQuiet M.moment_of result (entries self.new) };
 
     /// Removes all entries. Their room stays.
     fn clear(&mut self)

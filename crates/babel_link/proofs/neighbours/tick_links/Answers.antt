@@ -1,13 +1,15 @@
 -- One more neighbour is written after those that stay, or added to those that are gone.
 use Rattle.std.proofs.Common.{◌≡◌, ◌<◌, All, Some, None, length, get_or, set, take, refl, sym, ap, subst, ◌∙◌, arith, inl, inr}
-use Rattle.std.proofs.lemmas.List.{take-set}
+use Rattle.std.proofs.lemmas.List.{take-set, take_all}
 use Rattle.std.proofs.lemmas.List.Elements.{All-more}
 use Rattle.babel_value.specs.declared.keys.Peer.{Peer}
 use Rattle.babel_link.specs.declared.links.Link.{Link}
 use Rattle.babel_link.specs.Links.{ticked_link}
+use Rattle.babel_link.specs.Neighbours.{cost_changes_of}
 use Rattle.babel_link.proofs.TickLemmas.{stays_more, goes_same, stays_same, goes_more, rest_more, read_old, read_moved, written_moved, stays_all, goes_all}
 use Rattle.babel_link.proofs.CostLemmas.{Keeps, KeepsOther, all_seen, costs_kept, keeps_other, all_keep_other, changed_stays, other_costs_kept}
 use Rattle.babel_link.proofs.DueLemmas.{quiet_earlier, are_quiet_earlier, quiet_kept}
+use Rattle.babel_link.proofs.ExactLemmas.{exact_stays, exact_goes}
 use Rattle.babel_link.proofs.neighbours.tick_links.Goals as goal
 use Rattle.babel_link.proofs.neighbours.tick_links.Goals.{in-Some, in-None}
 
@@ -25,6 +27,7 @@ loop-place-preserved c =
     let old_ok = c.args.links.now.ok.0 in
     let within : place < length es = omega arith in
     let within_kept : kept < length es = omega arith in
+    let within_old : place < length old = omega arith in
     let moved = c.move_down.new.links.items in
     let down = c.move_down.ensures.items in
     let read : e ≡ get_or es place e = read_moved es moved place kept within_kept down e c.index_mut.ensures.value in
@@ -46,6 +49,8 @@ loop-place-preserved c =
               | inr both ↦ more (KeepsOther now peer) (all_keep_other now peer _ (before.nothing both.0)) (changed_stays now peer e link both.1 stays)
             ];
             none = λ known. rw w.gone-is (before.none (w.add.ensures.known (λ is. known (w.changes-is ∙ is))));
+            exact = w.changes-is ∙ exact_stays now old place e within_old read_it link w.in-Some.cost c.loop-place.changes w.add.new.self stays
+                (λ same. w.in-Some.ensures.kept (ap Some same) 0) (λ other. w.in-Some.ensures.changed (ap Some other)) w.add.ensures.kept w.add.ensures.first w.add.ensures.more before.exact;
             late = omega arith;
             same_len = rw w.links-is (omega arith);
             few = rw w.gone-is (omega arith);
@@ -61,6 +66,7 @@ loop-place-preserved c =
             nothing = λ is. cc;
             one = λ peer is. cc;
             none = λ known. absurd (known w.changes-is);
+            exact = w.changes-is ∙ sym (exact_goes now old place e within_old read_it goes);
             late = omega arith;
             same_len = rw w.links-is (omega arith);
             few = rw w.gone-is (omega arith);
@@ -92,3 +98,10 @@ returns-clause-others c peer one =
     let old_ok = c.args.links.now.ok.0 in
     let old = c.args.links.now.items in
     rw (returns-clause-links c) (other_costs_kept c.args.now peer old (all_seen (KeepsOther c.args.now peer) c.loop-place.place old (omega arith) (c.loop-place.invariant.one peer one)))
+
+pub returns-clause-exact : goal.returns-clause-exact
+returns-clause-exact c =
+    let ok = c.loop-place.links.ok.0 in
+    let old_ok = c.args.links.now.ok.0 in
+    let old = c.args.links.now.items in
+    c.loop-place.invariant.exact ∙ ap (cost_changes_of c.args.now) (take_all c.loop-place.place old (omega arith))

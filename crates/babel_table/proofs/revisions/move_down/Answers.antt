@@ -2,7 +2,7 @@
 use Rattle.std.proofs.Common.{◌≡◌, Some, None, get_or, set, sym, ap, ◌∙◌, arith}
 use Rattle.std.proofs.lemmas.List.{length-set, get_or_default}
 use Rattle.babel_table.specs.Revisions.{revised_value}
-use Rattle.babel_table.proofs.DueLemmas.{due_written}
+use Rattle.babel_table.proofs.DueLemmas.{due_written, last_written}
 use Rattle.babel_table.proofs.RevisionLemmas.{left_more, left_same}
 use Rattle.babel_table.proofs.revisions.move_down.Goals as goal
 use Rattle.babel_table.proofs.revisions.move_down.Goals.{in-Kept, in-Changed, in-Removed}
@@ -24,6 +24,7 @@ loop-index-preserved g c =
             late = omega arith;
             same_len = rw is (length-set es count _ ∙ c.loop-index.invariant.same_len);
             due = rw (is, w.count-is) (due_written g.M.Moments.moment_of c.loop-index.due _ es count e (omega arith) (omega arith) (omega arith) c.loop-index.invariant.due);
+            last = rw (is, w.count-is) (last_written g.M.Moments.moment_of c.loop-index.due _ es count e (omega arith) (λ moment before own. omega arith) c.loop-index.invariant.last);
           }
       | in-Changed w ↦
           let v = w.in-Changed.changed in
@@ -33,6 +34,7 @@ loop-index-preserved g c =
             late = omega arith;
             same_len = rw w.entries-is (length-set es count _ ∙ c.loop-index.invariant.same_len);
             due = rw (w.entries-is, w.count-is) (due_written g.M.Moments.moment_of c.loop-index.due _ es count (e.0, v) (omega arith) (omega arith) (omega arith) c.loop-index.invariant.due);
+            last = rw (w.entries-is, w.count-is) (last_written g.M.Moments.moment_of c.loop-index.due _ es count (e.0, v) (omega arith) (λ moment before own. omega arith) c.loop-index.invariant.last);
           }
       | in-Removed w ↦
           let goes : f e.0 e.1 ≡ None = sym c.revise.ensures ∙ ap (revised_value e.1) w.in-Removed.is in
@@ -41,5 +43,6 @@ loop-index-preserved g c =
             late = omega arith;
             same_len = rw w.entries-is c.loop-index.invariant.same_len;
             due = rw (w.entries-is, w.count-is, w.due-is) c.loop-index.invariant.due;
+            last = rw (w.entries-is, w.count-is, w.due-is) c.loop-index.invariant.last;
           }
     ]

@@ -1,6 +1,6 @@
 -- What is left is before `count`, and the entries from `index` on are still to be revised.
 use Rattle.std.proofs.Common.{◌≡◌, ◌≤◌, ◌++◌, take, drop, length}
-use Rattle.babel_table.specs.Dues.{AreDueFrom}
+use Rattle.babel_table.specs.Dues.{AreDueFrom, IsLastQuiet}
 use Rattle.babel_table.specs.Entries.{revised_entries}
 use Rattle.babel_table.proofs.revisions.move_down.Given as goal
 
@@ -10,4 +10,5 @@ invariant-loop-index g l = record {
   late : l.count ≤ l.index;
   same_len : length l.entries ≡ length l.fn.entries;
   due : AreDueFrom g.M.Moments.moment_of l.due (take l.count l.entries);
+  last : IsLastQuiet g.M.Moments.moment_of l.due (take l.count l.entries);
 }

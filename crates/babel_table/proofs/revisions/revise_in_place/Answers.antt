@@ -2,7 +2,7 @@
 use Rattle.std.proofs.Common.{◌≡◌, Some, get_or, set, sym, ap, ◌∙◌, arith}
 use Rattle.std.proofs.lemmas.List.{length-set, set-get_or, get_or_default}
 use Rattle.babel_table.specs.Revisions.{revised_value}
-use Rattle.babel_table.proofs.DueLemmas.{due_written}
+use Rattle.babel_table.proofs.DueLemmas.{due_written, last_written}
 use Rattle.babel_table.proofs.RevisionLemmas.{left_more}
 use Rattle.babel_table.proofs.revisions.revise_in_place.Goals as goal
 use Rattle.babel_table.proofs.revisions.revise_in_place.Goals.{in-Kept, in-Changed}
@@ -22,6 +22,7 @@ loop-index-preserved g c =
             left = left_more f es i d (omega arith) i e.1 _ _ (omega arith) stays is c.loop-index.invariant.left;
             same_len = rw w.entries-is c.loop-index.invariant.same_len;
             due = rw is (due_written g.M.Moments.moment_of c.loop-index.due _ es i e (omega arith) (omega arith) (omega arith) c.loop-index.invariant.due);
+            last = rw is (last_written g.M.Moments.moment_of c.loop-index.due _ es i e (omega arith) (λ moment before own. omega arith) c.loop-index.invariant.last);
           }
       | in-Changed w ↦
           let v = w.in-Changed.changed in
@@ -31,5 +32,6 @@ loop-index-preserved g c =
             left = left_more f es i d (omega arith) i v _ _ (omega arith) stays is c.loop-index.invariant.left;
             same_len = rw is (length-set es i _ ∙ c.loop-index.invariant.same_len);
             due = rw is (due_written g.M.Moments.moment_of c.loop-index.due _ es i (e.0, v) (omega arith) (omega arith) (omega arith) c.loop-index.invariant.due);
+            last = rw is (last_written g.M.Moments.moment_of c.loop-index.due _ es i (e.0, v) (omega arith) (λ moment before own. omega arith) c.loop-index.invariant.last);
           }
     ]

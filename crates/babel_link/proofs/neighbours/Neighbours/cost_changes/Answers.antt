@@ -1,13 +1,15 @@
 -- Each link was looked at, and all costs but at most one stay.
-use Rattle.std.proofs.Common.{◌≡◌, ℕ, ◌+◌, ◌<◌, ◌≤◌, [], All, Some, length, take, get_or, refl, sym, ap, subst, arith, inl, inr}
+use Rattle.std.proofs.Common.{◌≡◌, ℕ, ◌+◌, ◌<◌, ◌≤◌, [], All, Some, length, take, get_or, refl, sym, ap, subst, ◌∙◌, arith, inl, inr}
+use Rattle.std.proofs.lemmas.List.{take_all}
 use Rattle.std.proofs.lemmas.List.Elements.{All-more}
 use Rattle.babel_value.specs.declared.keys.Peer.{Peer}
 use Rattle.babel_link.specs.declared.changes.CostChanges.{CostChanges}
 use Rattle.babel_link.specs.declared.changes.CostChanges.TheVariants.{Nothing, One, Several}
 use Rattle.babel_link.specs.declared.links.Link.{Link}
 use Rattle.babel_link.specs.Links.{ticked_link}
-use Rattle.babel_link.specs.Neighbours.{Links, gone_of}
+use Rattle.babel_link.specs.Neighbours.{Links, gone_of, cost_changes_of}
 use Rattle.babel_link.proofs.CostLemmas.{Keeps, KeepsOther, all_seen, costs_kept, none_gone, keeps_other, all_keep_other, changed_stays, other_costs_kept, none_gone_but}
+use Rattle.babel_link.proofs.ExactLemmas.{exact_stays, exact_gone}
 use Rattle.babel_link.proofs.neighbours.Neighbours.cost_changes.Goals as goal
 
 -- One more link.
@@ -36,6 +38,8 @@ loop-place-preserved c =
         | inl both ↦ more (KeepsOther now peer) (before.one peer both.0) (keeps_other now peer e (record { after = link; stays = stays; same = c.in-Some.ensures.kept (ap Some both.1) }))
         | inr both ↦ more (KeepsOther now peer) (all_keep_other now peer _ (before.nothing both.0)) (changed_stays now peer e link both.1 stays)
       ];
+      exact = exact_stays now c.args.self.now place e (subst (λ (xs : Links). place < length xs) c.self.view_is within) (subst (λ (xs : Links). e ≡ get_or xs place e) c.self.view_is c.index.ensures) link c.in-Some.cost c.loop-place.changes c.add.new.self stays
+          (λ same. c.in-Some.ensures.kept (ap Some same) 0) (λ other. c.in-Some.ensures.changed (ap Some other)) c.add.ensures.kept c.add.ensures.first c.add.ensures.more before.exact;
     }
 
 -- The walk ended after the last link.
@@ -51,6 +55,22 @@ returns-clause-costs c is = costs_kept c.args.now c.args.self.now (every c (Keep
 
 pub returns-clause-others : goal.returns-clause-others
 returns-clause-others c peer is = other_costs_kept c.args.now peer c.args.self.now (every c (KeepsOther c.args.now peer) (c.loop-place.invariant.one peer is))
+
+pub returns-clause-exact : goal.returns-clause-exact
+returns-clause-exact c =
+    let items = c.self.inside.links.items in
+    let ok = c.self.inside.links.ok.0 in
+    let past : length items ≤ c.loop-place.place = omega arith in
+    c.loop-place.invariant.exact ∙ ap (cost_changes_of c.args.now) (take_all c.loop-place.place c.args.self.now (subst (λ (xs : Links). length xs ≤ c.loop-place.place) c.self.view_is past))
+
+pub returns-in-None-clause-exact : goal.returns-in-None-clause-exact
+returns-in-None-clause-exact c =
+    let items = c.self.inside.links.items in
+    let place = c.loop-place.place in
+    let e = c.index.result.now in
+    let ok = c.self.inside.links.ok.0 in
+    let within : place < length items = omega arith in
+    sym (exact_gone c.args.now c.args.self.now place e (subst (λ (xs : Links). place < length xs) c.self.view_is within) (subst (λ (xs : Links). e ≡ get_or xs place e) c.self.view_is c.index.ensures) (c.in-None.ensures.flushed refl))
 
 pub returns-clause-gone : goal.returns-clause-gone
 returns-clause-gone c known = by c.loop-place.changes refl

@@ -20,3 +20,6 @@ returns-clause-grown c = rw (← c.self.view_is, c.tick_links-ticked.ensures.lin
 
 pub returns-clause-lost : goal.returns-clause-lost
 returns-clause-lost c = rw (c.tick_links-ticked.ensures.links, c.tick_links-ticked.ensures.gone) (gone_are_lost c.args.now c.self.inside.links.items c.self.invariant.2)
+
+pub returns-clause-exact : goal.returns-clause-exact
+returns-clause-exact c = rw (← c.self.view_is) c.tick_links-ticked.ensures.exact

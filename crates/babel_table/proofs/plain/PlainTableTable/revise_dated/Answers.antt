@@ -1,7 +1,7 @@
 -- A revision keeps the keys distinct, and doesn't depend on the order of the entries.
 use Rattle.std.proofs.Common.{◌≡◌, true, sym, ap, subst, ◌∙◌}
 use Rattle.babel_table.specs.Insertions.{in_order, are_distinct}
-use Rattle.babel_table.proofs.DueLemmas.{due_in_order}
+use Rattle.babel_table.proofs.DueLemmas.{due_in_order, last_in_order}
 use Rattle.babel_table.proofs.RevisionLemmas.{distinct_revised, in_order_revised}
 use Rattle.babel_table.proofs.plain.PlainTableTable.revise_dated.Goals as goal
 
@@ -20,3 +20,8 @@ returns-clause-entries g c =
 pub returns-clause-due : goal.returns-clause-due
 returns-clause-due g c =
     due_in_order g.M.Moments.moment_of g.K.Key.order c.compact.result c.compact.new.entries.items c.compact.ensures.due
+
+pub returns-clause-last : goal.returns-clause-last
+returns-clause-last g c =
+    last_in_order g.M.Moments.moment_of g.K.Key.order g.met.K.Key.total c.compact.result c.compact.new.entries.items (subst (λ es. are_distinct g.K.Key.order es ≡ true) (sym c.compact.ensures.items)
+    (distinct_revised g.K.Key.order (g.R.Revision.revised c.args.revision.now) c.args.self.now.entries.items c.args.self.now.distinct)) c.compact.ensures.last
