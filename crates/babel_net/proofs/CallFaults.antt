@@ -1,12 +1,15 @@
 -- When events are refused.
-use Rattle.std.proofs.Common.{◌≡◌, ◌<◌, ◌≤◌, ℕ, false, Option, Some, None, Result, Ok, Err, is_ok, OnOk, OnErr, IfErr, length, nat_lt, slice_get, cond, refl, sym, ap, ◌∙◌, subst, inl, inr, ◌⊎◌, get_or, [], arith}
+use Rattle.std.proofs.Common.{◌≡◌, ◌<◌, ◌≤◌, ℕ, false, List, if◌then◌else◌, Option, Some, None, Result, Ok, Err, is_ok, OnOk, OnErr, IfErr, length, nat_lt, slice_get, cond, refl, sym, ap, ◌∙◌, subst, inl, inr, ◌⊎◌, get_or, [], arith}
 use Rattle.std.proofs.lemmas.Bool.{cases_lt}
 use Rattle.std.proofs.lemmas.Bool.Decides.{nat_tests}
+use Rattle.std.proofs.lemmas.Slice.Eq.{bytes_eq-Decides}
 use Rattle.std.proofs.lemmas.Option.{none-some, slice_get-get_or, slice_get_read, slice_get_cases}
 use Rattle.babel_value.specs.declared.addresses.Addr.TheVariants.{V4}
 use Rattle.babel_state.specs.declared.configs.Config.{Config}
+use Rattle.babel_state.specs.declared.errors.RestoreFault.TheVariants as restore_faults
 use Rattle.babel_state.specs.Restarts.{restarted}
 use Rattle.babel_state.specs.State.{State}
+use Rattle.babel_speaker.specs.Making.{router_fault}
 use Rattle.babel_machine.specs.declared.events.Event.{Event}
 use Rattle.babel_machine.specs.declared.events.Event.TheVariants as events
 use Rattle.babel_machine.specs.declared.errors.StepFault.{StepFault}
@@ -179,3 +182,8 @@ deliver_refused_at (Err fault) event number node iface now n net is inside h =
     subst (λ (e : Event). IsStepFault (step_fault e n) e n fault) (sym is)
     (subst (λ (o : Option StepFault). IsStepFault o (events.Deliver number node iface now) n fault) (sym (fault_is (events.Deliver number node iface now) n at.state at.config at.has_state at.has_config))
     (deliver_refused number node iface now n at.state fault net cause))
+
+-- A speaker has the router-id of its configuration.
+pub own_router : (router own : List ℕ) → own ≡ router → router_fault router own ≡ None
+own_router router own same =
+    ap (λ b. if b then None else Some restore_faults.RouterId) ((bytes_eq-Decides own router).1 same)

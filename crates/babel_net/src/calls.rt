@@ -204,6 +204,7 @@ pub(crate) fn hear(speaker: &mut NodeSpeaker, heard: &Heard<'_>) -> Result<Heari
 }
 
 /// The speaker restarts: it is saved, and restored with its configuration in its own place.
+#[tactic(auto, using(crate::proofs::CallFaults::own_router))]
 pub(crate) fn restart(speaker: &mut NodeSpeaker, config: &Config, now: u64) -> Result<(), StepFault>
     requires router { speaker.old.router ≡ config.now.router_id }
     requires valid { config_fault config.now ≡ None }
@@ -211,10 +212,7 @@ pub(crate) fn restart(speaker: &mut NodeSpeaker, config: &Config, now: u64) -> R
     ensures refused { IfErr result (λ fault. fault ≡ StepFault.Memory) }
     ensures err { OnErr result (speaker.new ≡ speaker.old) }
 {
-    let Ok(octets) = speaker.save() else {
-        return Err(StepFault::Memory);
-    };
-    match speaker.restore_in_place(config, now, &octets) {
+    match speaker.restart(config, now) {
         Ok(()) => Ok(()),
         Err(RestoreFault::Config(ConfigFault::Memory)) => Err(StepFault::Memory),
         Err(_) => unreachable!(),

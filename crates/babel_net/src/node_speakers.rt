@@ -6,15 +6,12 @@ ghost use Rattle.babel_state.specs.Calls.{set_cost_fault, cost_set, first_state,
 ghost use Rattle.babel_state.specs.Configs.{config_fault};
 ghost use Rattle.babel_state.specs.CurrentSelections.{AreCurrent};
 ghost use Rattle.babel_state.specs.Messages.{arrival_of, Receives, IsRecvFault};
-ghost use Rattle.babel_state.specs.Restarts.{snapshot_of, restored};
+ghost use Rattle.babel_state.specs.Restarts.{restarted};
 ghost use Rattle.babel_state.specs.SeqnoRequests.{raised};
 ghost use Rattle.babel_state.specs.State.{announces, interface_at};
 ghost use Rattle.babel_state.specs.Ticks.{ticked};
-ghost use Rattle.babel_snapshot.specs.Octets.{snapshot_octets};
-ghost use Rattle.babel_snapshot.specs.Reading.{restore_fault, snapshot_in};
-ghost use Rattle.babel_snapshot.specs.SnapshotLaws.{IsRead};
 ghost use Rattle.babel_speaker.specs.Deadlines.{next_deadline};
-ghost use Rattle.babel_speaker.specs.Making.{IsMakingFault, IsRestoreFault};
+ghost use Rattle.babel_speaker.specs.Making.{IsMakingFault, IsRestoreFault, router_fault};
 ghost use Rattle.babel_speaker.specs.Sending.{IsBuiltFrom, MeansFrom, draft_at};
 
 use arrayvec::ArrayVec;
@@ -25,7 +22,7 @@ use babel_state::{
     Target, TooManyPrefixes,
 };
 use babel_tlv::DATAGRAM_LEN;
-use babel_value::{Addr, Memory, Prefix};
+use babel_value::{Addr, Prefix};
 use std::alloc::Global;
 use std::marker::Model;
 
@@ -56,26 +53,12 @@ impl NodeSpeaker {
         }
     }
 
-    pub(crate) fn restore_in_place(
-        &mut self,
-        config: &Config,
-        now: u64,
-        octets: &[u8],
-    ) -> Result<(), RestoreFault>
-        ensures ok { OnOk result (self.new ≡ restored now config.now (snapshot_in octets.now)) }
-        ensures valid { IsOk result → IsNone (config_fault config.now) }
-        ensures whole { IsOk result → IsNone (restore_fault config.now.router_id octets.now) }
-        ensures refused { IfErr result (λ fault. IsRestoreFault (config_fault config.now) (restore_fault config.now.router_id octets.now) fault) }
+    pub(crate) fn restart(&mut self, config: &Config, now: u64) -> Result<(), RestoreFault>
+        ensures ok { OnOk result (self.new ≡ restarted now config.now self.old) }
+        ensures refused { IfErr result (λ fault. IsRestoreFault (config_fault config.now) (router_fault config.now.router_id self.old.router) fault) }
         ensures err { OnErr result (self.new ≡ self.old) }
     {
-        self.speaker.restore_in_place(config, now, octets)
-    }
-
-    pub(crate) fn save(&self) -> Result<Vec<u8>, Memory>
-        ensures ok { IfOk result (λ octets. octets.items ≡ snapshot_octets (snapshot_of self.now)) }
-        ensures restorable { IfOk result (λ octets. IsRead self.now.router octets.items (snapshot_of self.now)) }
-    {
-        self.speaker.save()
+        self.speaker.restart(config, now)
     }
 
     pub(crate) fn receive(

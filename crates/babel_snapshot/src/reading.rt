@@ -139,6 +139,17 @@ impl<'a> SavedState<'a> {
         }
     }
 
+    /// The same of octets that are known to have no fault: they aren't tested.
+    #[tactic(auto, using(crate::proofs::SnapshotsRead::faultless))]
+    pub fn known(router: &[u8; ROUTER_ID_LEN], octets: &'a [u8]) -> SavedState<'a>
+        requires faultless { IsNone (restore_fault router.now octets.now) }
+        ensures { result ≡ snapshot_in octets.now }
+    {
+        // The router-id is in the contract alone.
+        let _ = router;
+        SavedState { octets }
+    }
+
     /// The own seqno.
     #[tactic(auto, unfolding(crate::specs::Reading::snapshot_in))]
     pub fn seqno(&self) -> Seqno

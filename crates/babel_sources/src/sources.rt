@@ -1,9 +1,10 @@
 //! The source table (RFC 8966, section 3.2.5).
 
-ghost use Rattle.std.specs.Prelude.{◌≡◌, ◌+◌, ◌≤◌, ◌<◌, ◌↔◌, [], None, length, slice_get, option_map, IfOk, OnOk, OnErr, IsErr, IsNone, IsTrue, IsFalse};
+ghost use Rattle.std.specs.Prelude.{◌≡◌, ◌+◌, ◌≤◌, ◌<◌, ◌↔◌, [], true, None, length, slice_get, option_map, IfOk, OnOk, OnErr, IsErr, IsNone, IsTrue, IsFalse};
 ghost use Rattle.std.specs.FinMap.{find, is_sorted};
 ghost use Rattle.babel_value.specs.Orders.{source_cmp};
 ghost use Rattle.babel_table.specs.Digits.{binary_digits};
+ghost use Rattle.babel_table.specs.Places.{are_lesser};
 ghost use Rattle.babel_sources.specs.Distances.{is_feasible, improves_on, better_pair};
 ghost use Rattle.babel_sources.specs.Sources.{pair_of, lowered, collected, collected_entry};
 
@@ -12,7 +13,7 @@ mod clearing;
 use crate::source_table::SourceTable;
 use babel_table::{
     Change, Due, Full, Memory, Revised, Revision, Sought, Steps, Table, change_near, find_in,
-    find_near, put_near, revise_dues,
+    find_near, revise_dues,
 };
 use babel_value::{Distance, Source};
 use std::alloc::Global;
@@ -206,11 +207,11 @@ impl<T: Table<Source, SourceEntry>> SourcesOver<T> {
         }
     }
 
-    /// Records the same of a source that has no entry yet, for which the table has room. The search
-    /// begins near an index, which becomes that of the source: sources that rise are one pass.
-    pub fn add_near(&mut self, now: u64, source: Source, sent: Distance, near: &mut usize)
+    /// Records the same of a source that comes after all others, for which the table has room. It
+    /// is not searched for, so sources that rise are one pass.
+    pub fn add_last(&mut self, now: u64, source: Source, sent: Distance)
         requires room { length self.old < SOURCE_PLACES }
-        requires absent { pair_of source self.old ≡ None }
+        requires last { are_lesser source_cmp source self.old ≡ true }
         ensures { self.new ≡ lowered now source sent self.old }
     {
         let due = now.saturating_add(COLLECTION_TIME);
@@ -219,7 +220,8 @@ impl<T: Table<Source, SourceEntry>> SourcesOver<T> {
             distance: sent,
             due,
         };
-        put_near(&mut self.table, near, source, entry);
+        let count = self.table.len();
+        self.table.insert(count, source, entry);
     }
 
     /// Removes each entry whose time of collection has come (RFC 8966, section 3.2.5). Returns

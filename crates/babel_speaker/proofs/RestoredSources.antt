@@ -52,11 +52,11 @@ take_next [] i x at = absurd (none-some x at)
 take_next (y ∷ ys) zero x at = ap (λ z. z ∷ []) (same_Some y x at)
 take_next (y ∷ ys) (suc i) x at = ap (λ zs. y ∷ zs) (take_next ys i x at)
 
-lesser_sources : (now : ℕ) (es : List (Source × Distance)) (i : ℕ) (e : Source × Distance) → is_sorted source_cmp es ≡ true → slice_get es i ≡ Some e →
+pub lesser_sources : (now : ℕ) (es : List (Source × Distance)) (i : ℕ) (e : Source × Distance) → is_sorted source_cmp es ≡ true → slice_get es i ≡ Some e →
     are_lesser source_cmp e.0 (restored_sources now (take i es)) ≡ true
 lesser_sources now es i e sorted at = lesser_restored now e.0 (take i es) ∙ lesser_before source_cmp source_total es i e sorted at
 
-pub absent_source : (now : ℕ) (es : List (Source × Distance)) (i : ℕ) (e : Source × Distance) → is_sorted source_cmp es ≡ true → slice_get es i ≡ Some e →
+absent_source : (now : ℕ) (es : List (Source × Distance)) (i : ℕ) (e : Source × Distance) → is_sorted source_cmp es ≡ true → slice_get es i ≡ Some e →
     pair_of e.0 (restored_sources now (take i es)) ≡ None
 absent_source now es i e sorted at =
     ap (option_map (λ s. s.distance)) (find_last source_cmp e.0 (restored_sources now (take i es)) (lesser_sources now es i e sorted at))

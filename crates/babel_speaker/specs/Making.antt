@@ -1,5 +1,6 @@
 -- Why no speaker is made (profile).
-use Rattle.std.specs.Prelude.{◌≡◌, Option, Some, None}
+use Rattle.std.specs.Prelude.{◌≡◌, ℕ, List, Option, Some, None, if◌then◌else◌}
+use Rattle.std.specs.Str.{bytes_eq}
 use Rattle.babel_state.specs.declared.errors.ConfigFault.{ConfigFault}
 use Rattle.babel_state.specs.declared.errors.ConfigFault.TheVariants.{Memory}
 use Rattle.babel_state.specs.declared.errors.RestoreFault.{RestoreFault}
@@ -15,3 +16,7 @@ abbrev pub IsRestoreFault : Option ConfigFault → Option RestoreFault → Resto
 IsRestoreFault (Some cause) octets fault = fault ≡ restore_faults.Config cause
 IsRestoreFault None (Some cause) fault = fault ≡ cause
 IsRestoreFault None None fault = fault ≡ restore_faults.Config Memory
+
+-- A snapshot of a speaker with another router-id is no snapshot for the configuration.
+abbrev pub router_fault : List ℕ → List ℕ → Option RestoreFault
+router_fault router own = if bytes_eq own router then None else Some restore_faults.RouterId

@@ -22,12 +22,12 @@ ghost use Rattle.babel_state.specs.State.{announces, cost_at, pair_at};
 ghost use Rattle.babel_state.specs.Ticks.{ticked};
 ghost use Rattle.babel_value.specs.Prefixes.{PrefixValue};
 ghost use Rattle.babel_value.specs.Seqnos.{seqno_modulus};
-ghost use Rattle.babel_state.specs.Restarts.{snapshot_of, restored, IsRestartedFrom};
+ghost use Rattle.babel_state.specs.Restarts.{snapshot_of, restored, restarted, IsRestartedFrom};
 ghost use Rattle.babel_snapshot.specs.Octets.{snapshot_octets};
 ghost use Rattle.babel_snapshot.specs.Reading.{restore_fault, snapshot_in};
 ghost use Rattle.babel_snapshot.specs.SnapshotLaws.{IsRead};
 ghost use Rattle.babel_speaker.specs.Deadlines.{next_deadline};
-ghost use Rattle.babel_speaker.specs.Making.{IsMakingFault, IsRestoreFault};
+ghost use Rattle.babel_speaker.specs.Making.{IsMakingFault, IsRestoreFault, router_fault};
 ghost use Rattle.babel_speaker.specs.Sending.{IsBuiltFrom, MeansFrom, draft_at};
 ghost use Rattle.babel_speaker.specs.Versions.{CountsChanges};
 
@@ -38,7 +38,7 @@ use crate::input::records::Arrival;
 use crate::output::datagrams::next_datagram;
 use crate::state::Core;
 use crate::state::making::make;
-use crate::state::restarts::{restore, restore_in_place};
+use crate::state::restarts::{restart, restore, restore_in_place};
 use crate::versions::{counted, has_grown, is_other, own_seqno};
 use arrayvec::ArrayVec;
 use babel_build::Builder;
@@ -228,6 +228,31 @@ impl Speaker {
     {
         restarts_are_seen();
         restore_in_place(&mut self.core, self.alloc, config, now, octets)?;
+        self.hints.settled = false;
+        self.routes = counted(self.routes, true);
+        self.snapshot = counted(self.snapshot, true);
+        Ok(())
+    }
+
+    /// Saves the speaker and restores it in place, with this configuration. The octets aren't
+    /// tested: it is proved that what was saved has no fault.
+    ///
+    /// # Errors
+    ///
+    /// The first of C1 to C6 that the configuration has, then K3 if it has another router-id, or C7
+    /// if an allocation fails. The speaker is as it was.
+    pub fn restart(&mut self, config: &Config, now: u64) -> Result<(), RestoreFault>
+        ensures ok { OnOk result (self.new.state ≡ restarted now config.now self.old.state) }
+        ensures valid { IsOk result → IsNone (config_fault config.now) }
+        ensures own { IsOk result → IsNone (router_fault config.now.router_id self.old.state.router) }
+        ensures refused { IfErr result (λ fault. IsRestoreFault (config_fault config.now) (router_fault config.now.router_id self.old.state.router) fault) }
+        ensures seen { OnOk result (IsRestartedFrom config.now (snapshot_of self.old.state) self.new.state) }
+        ensures current { OnOk result (AreCurrent self.new.state) }
+        ensures counted { CountsChanges self.old self.new }
+        ensures err { OnErr result (self.new ≡ self.old) }
+    {
+        restarts_are_seen();
+        restart(&mut self.core, self.alloc, config, now)?;
         self.hints.settled = false;
         self.routes = counted(self.routes, true);
         self.snapshot = counted(self.snapshot, true);

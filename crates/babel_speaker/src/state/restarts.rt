@@ -4,11 +4,11 @@ ghost use Rattle.std.specs.Prelude.{◌≡◌, IsOk, IsNone, IfOk, IfErr, OnOk, 
 ghost use Rattle.babel_state.specs.Calls.{first_state};
 ghost use Rattle.babel_state.specs.Configs.{config_fault};
 ghost use Rattle.babel_state.specs.Invariants.{IsWellFormed};
-ghost use Rattle.babel_state.specs.Restarts.{snapshot_of, restored, IsSnapshot};
+ghost use Rattle.babel_state.specs.Restarts.{snapshot_of, restored, restarted, IsSnapshot};
 ghost use Rattle.babel_snapshot.specs.Octets.{snapshot_octets};
 ghost use Rattle.babel_snapshot.specs.Reading.{restore_fault, snapshot_in};
 ghost use Rattle.babel_snapshot.specs.SnapshotLaws.{IsRead};
-ghost use Rattle.babel_speaker.specs.Making.{IsRestoreFault};
+ghost use Rattle.babel_speaker.specs.Making.{IsRestoreFault, router_fault};
 
 use crate::state::Core;
 use crate::state::making::{begin_again, make};
@@ -114,6 +114,43 @@ pub fn restore_in_place(
     let Some(interfaces) = first_interfaces(alloc, config) else {
         return Err(RestoreFault::Config(ConfigFault::Memory));
     };
+    let _count = saved.len();
+    begin_again(core, router, config, interfaces);
+    continue_from(core, config, now, &saved);
+    Ok(())
+}
+
+/// Saves the state, and restores it in its place. The octets aren't tested: it is proved that what
+/// was saved has no fault.
+pub fn restart(
+    core: &mut Core,
+    alloc: Global,
+    config: &Config,
+    now: u64,
+) -> Result<(), RestoreFault>
+    requires well_formed { IsWellFormed core.old }
+    ensures ok { OnOk result (core.new ≡ restarted now config.now core.old) }
+    ensures valid { IsOk result → IsNone (config_fault config.now) }
+    ensures own { IsOk result → IsNone (router_fault config.now.router_id core.old.router) }
+    ensures refused { IfErr result (λ fault. IsRestoreFault (config_fault config.now) (router_fault config.now.router_id core.old.router) fault) }
+    ensures snapshot { OnOk result (IsSnapshot (snapshot_of core.old)) }
+    ensures err { OnErr result (core.new ≡ core.old) }
+{
+    if let Err(fault) = config.check() {
+        return Err(RestoreFault::Config(fault));
+    }
+    let router = core.router;
+    let own = router.octets();
+    if own[..] != config.router_id[..] {
+        return Err(RestoreFault::RouterId);
+    }
+    let Ok(octets) = save(core, alloc) else {
+        return Err(RestoreFault::Config(ConfigFault::Memory));
+    };
+    let Some(interfaces) = first_interfaces(alloc, config) else {
+        return Err(RestoreFault::Config(ConfigFault::Memory));
+    };
+    let saved = SavedState::known(&own, &octets);
     let _count = saved.len();
     begin_again(core, router, config, interfaces);
     continue_from(core, config, now, &saved);

@@ -6,22 +6,15 @@ ghost use Rattle.babel_state.specs.Restarts.{restored_sources, IsSnapshot};
 use babel_snapshot::SavedState;
 use babel_sources::Sources;
 
-/// Adds the saved source with this index to a table that has those before it. The search for it
-/// begins at the index `near`.
-fn restore_source(
-    sources: &mut Sources,
-    now: u64,
-    saved: &SavedState,
-    index: usize,
-    near: &mut usize,
-)
+/// Adds the saved source with this index to a table that has those before it.
+fn restore_source(sources: &mut Sources, now: u64, saved: &SavedState, index: usize)
     requires snapshot { IsSnapshot saved.now }
     requires within { index < length saved.now.sources }
     requires before { sources.old ≡ restored_sources now (take index saved.now.sources) }
     ensures { sources.new ≡ restored_sources now (take (index + 1) saved.now.sources) }
 {
     match saved.source(index) {
-        Some(entry) => sources.add_near(now, entry.0, entry.1, near),
+        Some(entry) => sources.add_last(now, entry.0, entry.1),
         None => {}
     }
 }
@@ -32,8 +25,7 @@ pub fn restore_sources(sources: &mut Sources, now: u64, saved: &SavedState)
     ensures { sources.new ≡ restored_sources now saved.now.sources }
 {
     let count = saved.len();
-    let mut near = 0;
     for index in 0..count {
-        restore_source(sources, now, saved, index, &mut near);
+        restore_source(sources, now, saved, index);
     }
 }
