@@ -304,6 +304,14 @@ def own_prefix_events(nodes, _time):
     return (f"{('withdraw', 'announce')[again]} {node} 10.{node}.0.0/16" for again, node in pairs)
 
 
+def raise_events(nodes, _time):
+    return (f"raise {index % nodes}" for index in range(CALLS))
+
+
+def restart_events(nodes, time):
+    return (f"restart {index % nodes} {time}" for index in range(CALLS))
+
+
 def silent_ticks(nodes, time):
     """A tick of each node each second, while no datagram comes: all links are lost, and then all
     routes."""
@@ -328,6 +336,8 @@ def scenario_rows():
         for words, make_events in (
             ("a nominal cost", nominal_cost_events),
             ("an own prefix, withdrawn or announced", own_prefix_events),
+            ("a raise of the own seqno", raise_events),
+            ("a restart", restart_events),
             ("a tick while no datagram comes", silent_ticks),
         ):
             yield Row("net", f"{words}, in {shape.name}", "nodes",
