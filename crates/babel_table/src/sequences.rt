@@ -86,7 +86,12 @@ impl<K: Copy, V: Copy> Sequence<K, V> for Vec<(K, V)> {
     }
 
     fn insert(&mut self, index: usize, key: K, value: V) {
-        let _ = Vec::insert(self, index, (key, value));
+        // Most entries come in their order: nothing has to move then.
+        if index == Vec::len(self) {
+            self.push_reserved((key, value));
+        } else {
+            let _ = Vec::insert(self, index, (key, value));
+        }
     }
 
     fn remove(&mut self, index: usize) {
