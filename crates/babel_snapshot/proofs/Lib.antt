@@ -7,4 +7,5 @@ pub mod Orders
 pub mod SnapshotsRead
 pub mod SnapshotsWritten
 pub mod Appending
+pub mod WrittenParts
 pub mod OctetsKept

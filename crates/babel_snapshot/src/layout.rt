@@ -16,10 +16,6 @@ pub(crate) const ROUTER_ID_LEN: usize = 8;
 pub(crate) const IPV4_LEN: usize = 4;
 /// The octets of an IPv6 address.
 pub(crate) const IPV6_LEN: usize = 16;
-/// The octets after an IPv4 address.
-pub(crate) const FILLING_LEN: usize = 12;
-/// They are zeros.
-pub(crate) const ZEROS: [u8; FILLING_LEN] = [0; FILLING_LEN];
 
 /// The head: offsets of its fields.
 pub(crate) mod head {

@@ -1,6 +1,6 @@
 //! The octets of a source table.
 
-ghost use Rattle.std.specs.Prelude.{◌≡◌, ◌^◌, ◌<◌, ◌++◌, map, length, IfOk, OnOk};
+ghost use Rattle.std.specs.Prelude.{◌≡◌, ◌^◌, ◌<◌, ◌∷◌, ◌++◌, map, length, IfOk, OnOk};
 ghost use Rattle.std.specs.List.{All};
 ghost use Rattle.byteorder.specs.Endian.{big_bytes};
 ghost use Rattle.babel_state.specs.Restarts.{kept_source};
@@ -8,8 +8,8 @@ ghost use Rattle.babel_snapshot.specs.Layout as layout;
 ghost use Rattle.babel_snapshot.specs.Octets.{addr_octets, source_octets, record_octets, records_octets, head_octets, snapshot_octets};
 ghost use Rattle.babel_snapshot.specs.SnapshotLaws.{addr_len, wanted_len, IsSource, IsRecord};
 
-use crate::layout::source_record::{IPV4, IPV6};
-use crate::layout::{BEGINNING, HEAD_LEN, RECORD_LEN, ZEROS};
+use crate::layout::source_record::{ADDR, IPV4, IPV6, LENGTH, SEQNO};
+use crate::layout::{BEGINNING, HEAD_LEN, RECORD_LEN, ROUTER_ID_LEN};
 use babel_sources::Sources;
 use babel_value::{Addr, Distance, Memory, RouterId, Seqno, Source};
 use byteorder::{BigEndian, ByteOrder};
@@ -34,35 +34,63 @@ fn eight(number: u64) -> [u8; 8]
     octets
 }
 
-/// Writes the family and the address.
-fn write_addr(out: &mut Vec<u8>, addr: &Addr) -> Result<(), AllocError>
-    ensures octets { OnOk result (out.new.items ≡ out.old.items ++ addr_octets addr.now) }
-    ensures len { OnOk result (addr_len addr.now ≡ wanted_len addr.now) }
+/// The family and the address.
+fn addr_octets(addr: &Addr) -> [u8; LENGTH]
+    ensures octets { result ≡ addr_octets addr.now }
+    ensures len { addr_len addr.now ≡ wanted_len addr.now }
 {
     match addr {
-        Addr::V4(octets) => {
-            out.extend_from_slice(&[IPV4])?;
-            out.extend_from_slice(octets)?;
-            out.extend_from_slice(&ZEROS)
-        }
-        Addr::V6(octets) => {
-            out.extend_from_slice(&[IPV6])?;
-            out.extend_from_slice(octets)
+        Addr::V4([a, b, c, d]) => [IPV4, *a, *b, *c, *d, 0, 0, 0, 0, 0, 0, 0, 0, 0, 0, 0, 0],
+        Addr::V6(addr) => {
+            let mut octets = [IPV6; LENGTH];
+            octets[ADDR..].copy_from_slice(addr);
+            octets
         }
     }
 }
 
-/// Writes the octets that name a source.
-fn write_source(out: &mut Vec<u8>, source: &Source) -> Result<(), AllocError>
-    ensures octets { OnOk result (out.new.items ≡ out.old.items ++ source_octets source.now) }
-    ensures whole { OnOk result (IsSource source.now) }
+/// The prefix length and the router-id.
+fn length_and_router(length: u8, router: &[u8; ROUTER_ID_LEN]) -> [u8; SEQNO - LENGTH]
+    ensures { result ≡ length ∷ router.now }
+{
+    let mut octets = [length; SEQNO - LENGTH];
+    octets[1..].copy_from_slice(router);
+    octets
+}
+
+/// The octets that name a source.
+fn source_octets(source: &Source) -> [u8; SEQNO]
+    ensures octets { result ≡ source_octets source.now }
+    ensures whole { IsSource source.now }
 {
     let addr = source.prefix.addr();
     let length = source.prefix.length();
     let router = source.router.octets();
-    write_addr(out, &addr)?;
-    out.extend_from_slice(&[length])?;
-    out.extend_from_slice(&router)
+    let mut octets = [0; SEQNO];
+    octets[..LENGTH].copy_from_slice(&addr_octets(&addr));
+    octets[LENGTH..].copy_from_slice(&length_and_router(length, &router));
+    octets
+}
+
+/// The seqno and the metric.
+fn distance_octets(distance: Distance) -> [u8; RECORD_LEN - SEQNO]
+    ensures octets { result ≡ big_bytes 2 distance.seqno ++ big_bytes 2 distance.metric }
+    ensures small { distance.seqno < 2 ^ 16 }
+{
+    let [s0, s1] = two(distance.seqno.0);
+    let [m0, m1] = two(distance.metric.0);
+    [s0, s1, m0, m1]
+}
+
+/// A record.
+fn record_octets(source: &Source, distance: Distance) -> [u8; RECORD_LEN]
+    ensures octets { result ≡ record_octets (source.now, distance) }
+    ensures whole { IsRecord (source.now, distance) }
+{
+    let mut octets = [0; RECORD_LEN];
+    octets[..SEQNO].copy_from_slice(&source_octets(source));
+    octets[SEQNO..].copy_from_slice(&distance_octets(distance));
+    octets
 }
 
 /// Writes a record.
@@ -70,9 +98,7 @@ fn write_record(out: &mut Vec<u8>, source: &Source, distance: Distance) -> Resul
     ensures octets { OnOk result (out.new.items ≡ out.old.items ++ record_octets (source.now, distance)) }
     ensures whole { OnOk result (IsRecord (source.now, distance)) }
 {
-    write_source(out, source)?;
-    out.extend_from_slice(&two(distance.seqno.0))?;
-    out.extend_from_slice(&two(distance.metric.0))
+    out.extend_from_slice(&record_octets(source, distance))
 }
 
 /// Writes a record for each source.
