@@ -112,7 +112,21 @@ impl<E: Table<RouteKey, Entry>, S: Table<Prefix, Selection>> RoutesOver<E, S> {
             interval,
         };
         let mut cursor = Cursor::new();
-        match self.store_near(now, &update, OnRepeat::Store, &mut cursor) {
+        self.update_near(now, &update, &mut cursor)
+    }
+
+    /// The same. The search begins at the cursor, which goes to the route.
+    pub fn update_near(
+        &mut self,
+        now: u64,
+        update: &ReceivedUpdate,
+        cursor: &mut Cursor,
+    ) -> Result<(), Full>
+        ensures full { IsErr result ↔ (IsNone (find route_cmp (key_of update.now.source.prefix update.now.peer) self.old.entries) × (places_taken self.old ≡ most_routes)) }
+        ensures ok { OnOk result (self.new ≡ record self.old { entries = updated now update.now.source.prefix update.now.peer update.now.source.router update.now.distance update.now.next_hop update.now.interval self.old.entries }) }
+        ensures err { OnErr result (self.new ≡ self.old) }
+    {
+        match self.store_near(now, update, OnRepeat::Store, cursor) {
             Ok(_) => Ok(()),
             Err(full) => Err(full),
         }

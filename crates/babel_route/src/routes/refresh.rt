@@ -1,7 +1,7 @@
 //! Updates that repeat what the neighbour advertised. Most updates do. Only a deadline changes, and
 //! no choice (RFC 8966, sections 3.5.3 and 3.6).
 
-ghost use Rattle.std.specs.Prelude.{◌≡◌, ◌↔◌, ℕ, Bool, true, Some, IfOk, OnOk, OnErr, IsErr, IfSome, IsSome, IsNone, option_map};
+ghost use Rattle.std.specs.Prelude.{◌≡◌, ◌↔◌, ℕ, Bool, true, Some, IfOk, OnOk, OnErr, IsErr, IfSome, IsSome, IsNone, is_some, option_map};
 ghost use Rattle.std.specs.Ordering.{eq_by_cmp};
 ghost use Rattle.std.specs.FinMap.{find, put};
 ghost use Rattle.babel_value.specs.declared.keys.Peer.{Peer};
@@ -9,7 +9,7 @@ ghost use Rattle.babel_value.specs.Orders.{prefix_cmp, peer_cmp};
 ghost use Rattle.babel_table.specs.Entries.{with_value};
 ghost use Rattle.babel_table.specs.Places.{IsAt, IsGap};
 ghost use Rattle.babel_choice.specs.RouteKeys.{route_cmp};
-ghost use Rattle.babel_choice.specs.Routes.{key_of, updated};
+ghost use Rattle.babel_choice.specs.Routes.{key_of, entry_of_update, updated};
 ghost use Rattle.babel_sources.specs.Sources.{Sources};
 ghost use Rattle.babel_route.specs.Rooms.{most_routes};
 ghost use Rattle.babel_route.specs.Selections.{selection_at, reselected, places_taken, IsCurrent};
@@ -22,7 +22,7 @@ use super::current::is_same_entry;
 use super::room::places_within;
 use super::{ROUTE_PLACES, RoutesOver};
 use babel_choice::{Cursor, Entry, ReceivedUpdate, RouteKey, Selection};
-use babel_table::{Full, Table, find_near};
+use babel_table::{Full, Table, find_in, find_near};
 use babel_value::{Peer, Prefix, hold_time};
 
 /// What is done with an update that repeats its neighbour's entry.
@@ -59,18 +59,8 @@ impl<E: Table<RouteKey, Entry>, S: Table<Prefix, Selection>> RoutesOver<E, S> {
         ensures change { IfOk result (λ r. IfSome r (λ change. change ≡ selection_change (selection_at update.now.source.prefix self.old) (selection_at update.now.source.prefix self.new))) }
         ensures routes { IfOk result (λ r. IsSome r → (sources : Sources) (cost : Peer → ℕ) (local : Bool) → IsCurrent sources cost update.now.source.prefix local self.old → self.new ≡ reselected sources cost update.now.source.prefix local (record self.old { entries = updated now update.now.source.prefix update.now.peer update.now.source.router update.now.distance update.now.next_hop update.now.interval self.old.entries })) }
     {
-        let key = RouteKey {
-            prefix: update.source.prefix,
-            peer: update.peer,
-        };
-        let deadline = now.saturating_add(hold_time(update.interval));
-        let entry = Entry {
-            router: update.source.router,
-            distance: update.distance,
-            next_hop: update.next_hop,
-            interval: update.interval,
-            deadline,
-        };
+        let key = key_of(update);
+        let entry = entry_of(update, now);
         let mut place = cursor.entry;
         let known = find_near(&self.entries, &mut place, &key);
         cursor.entry = place;
@@ -83,9 +73,43 @@ impl<E: Table<RouteKey, Entry>, S: Table<Prefix, Selection>> RoutesOver<E, S> {
         if on_repeat == OnRepeat::Refresh && is_repeated(&entry, &old) {
             return Ok(Some(self.refresh_at(place, &key, &entry, cursor)));
         }
-        self.due = self.due.min(deadline);
+        self.due = self.due.min(entry.deadline);
         self.entries.replace(place, key, entry);
         Ok(None)
+    }
+
+    /// Takes a neighbour's finite update of a prefix if it repeats the neighbour's entry: only the
+    /// deadline changes, in the entry and in the selection of the prefix if that is of this
+    /// neighbour. If the selection is current, that is what a reselection of the prefix after the
+    /// update would leave. Returns the selection before and after. `None` if and only if the update
+    /// is another one; then nothing changes. The searches begin at the cursor, which goes to the
+    /// route.
+    pub fn refresh_near(
+        &mut self,
+        now: u64,
+        update: &ReceivedUpdate,
+        cursor: &mut Cursor,
+    ) -> Option<(Option<Selection>, Option<Selection>)>
+        ensures repeated { is_some result ≡ is_repeated (entry_of_update now update.now.source.router update.now.distance update.now.next_hop update.now.interval) (find route_cmp (key_of update.now.source.prefix update.now.peer) self.old.entries) }
+        ensures none { IsNone result → self.new ≡ self.old }
+        ensures before { IfSome result (λ r. r.0 ≡ selection_at update.now.source.prefix self.old) }
+        ensures after { IfSome result (λ r. r.1 ≡ selection_at update.now.source.prefix self.new) }
+        ensures routes { IsSome result → (sources : Sources) (cost : Peer → ℕ) (local : Bool) → IsCurrent sources cost update.now.source.prefix local self.old → self.new ≡ reselected sources cost update.now.source.prefix local (record self.old { entries = updated now update.now.source.prefix update.now.peer update.now.source.router update.now.distance update.now.next_hop update.now.interval self.old.entries }) }
+    {
+        let key = key_of(update);
+        let entry = entry_of(update, now);
+        let mut place = cursor.entry;
+        let known = find_near(&self.entries, &mut place, &key);
+        cursor.entry = place;
+        match known {
+            Some(old) if is_repeated(&entry, &old) => {
+                let before = find_in(&self.selections, &key.prefix);
+                self.refresh_at(place, &key, &entry, cursor);
+                let after = find_in(&self.selections, &key.prefix);
+                Some((before, after))
+            }
+            _ => None,
+        }
     }
 
     /// Stores the entry of a key that the table lacks and would have at the index.
@@ -125,6 +149,31 @@ impl<E: Table<RouteKey, Entry>, S: Table<Prefix, Selection>> RoutesOver<E, S> {
         let near = &mut cursor.selection;
         let before = refresh_selection(&mut self.selections, near, key, entry.deadline);
         SelectionChange::kept(before)
+    }
+}
+
+/// The key of the route that an update is of.
+#[inline(always)]
+fn key_of(update: &ReceivedUpdate) -> RouteKey
+    ensures { result ≡ key_of update.now.source.prefix update.now.peer }
+{
+    RouteKey {
+        prefix: update.source.prefix,
+        peer: update.peer,
+    }
+}
+
+/// The entry that an update makes.
+#[inline(always)]
+fn entry_of(update: &ReceivedUpdate, now: u64) -> Entry
+    ensures { result ≡ entry_of_update now update.now.source.router update.now.distance update.now.next_hop update.now.interval }
+{
+    Entry {
+        router: update.source.router,
+        distance: update.distance,
+        next_hop: update.next_hop,
+        interval: update.interval,
+        deadline: now.saturating_add(hold_time(update.interval)),
     }
 }
 

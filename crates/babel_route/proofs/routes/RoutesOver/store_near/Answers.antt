@@ -1,7 +1,5 @@
 -- The entry of a known key has its place already.
 use Rattle.std.proofs.Common.{◌∙◌, arith, ap, is_some, true≢false}
-use Rattle.babel_choice.specs.declared.entries.Entry.{Entry}
-use Rattle.babel_choice.specs.Routes.{key_of}
 use Rattle.babel_route.proofs.RoomLemmas.{put_within}
 use Rattle.babel_route.proofs.DueLemmas.{put_due}
 use Rattle.babel_route.proofs.routes.RoutesOver.store_near.Goals as goal
@@ -10,9 +8,8 @@ pub invariant_of-self : goal.invariant_of-self
 invariant_of-self g c =
     let old = c.self.inside in
     let kept = c.self.invariant in
-    let update = c.args.update.now in
-    let entry : Entry = record { router = update.source.router; distance = update.distance; next_hop = update.next_hop; interval = update.interval; deadline = c.saturating_add-deadline.result } in
-    let key = key_of update.source.prefix update.peer in
+    let entry = c.entry_of-entry.result in
+    let key = c.key_of-key.result in
     let es = g.E.Table.entries old.entries in
     let new_es = g.E.Table.entries c.replace.new.self in
     let within = put_within old.taken key entry es new_es (g.S.Table.entries old.selections) (g.met.E.Table.ordered old.entries) c.replace.ensures.entries (λ none. absurd (true≢false (ap is_some c.in-Some.ensures.value ∙ none))) kept.2 in
