@@ -85,6 +85,7 @@ impl<K: Copy, V: Copy> Sequence<K, V> for Vec<(K, V)> {
         self[index] = (key, value);
     }
 
+    #[inline(always)]
     fn insert(&mut self, index: usize, key: K, value: V) {
         // Most entries come in their order: nothing has to move then.
         if index == Vec::len(self) {
