@@ -56,7 +56,7 @@ struct Left {
 }
 
 /// Revises the entries in one pass, and returns the last moment before which none that is left is
-/// due. /// Each is moved at most once, and one that is kept where it is isn't written.
+/// due. Each is moved at most once, and one that is kept where it is isn't written.
 pub(crate) fn compact<K: Copy, V: Copy, R: Revision<K, V>, M: Moments<V>>(
     entries: &mut Vec<(K, V)>,
     revision: &R,
