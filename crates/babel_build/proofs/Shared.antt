@@ -2,7 +2,6 @@
 use Rattle.std.proofs.Common.{◌≡◌, ℕ, zero, suc, List, [], ◌∷◌, Bool, true, false, cond, Option, Some, None, ◌+◌, ◌++◌, length, take, min, refl, ap, arith, nat_eq, sym, ◌∙◌}
 use Rattle.std.proofs.Math.Nat.{zero-min, min-zero}
 use Rattle.std.proofs.Math.Seq.{take-nil}
-use Rattle.std.proofs.lemmas.Slice.Eq.{bytes_eq-Decides}
 use Rattle.babel_value.specs.declared.addresses.Addr.{Addr}
 use Rattle.babel_value.specs.declared.addresses.Addr.TheVariants.{V4, V6}
 use Rattle.babel_tlv.specs.Spelling.{spelled}
@@ -11,6 +10,7 @@ use Rattle.babel_packet.specs.declared.parser_state.ParserState.{ParserState}
 use Rattle.babel_packet.specs.Payloads.{octets}
 use Rattle.babel_packet.specs.BodyMeanings.{hop_for}
 use Rattle.babel_packet.specs.Compressed.{common, omitted, update_fields, is_set, with_hop, with_router}
+use Rattle.babel_packet.proofs.CompressedMessages.{is_set_before}
 
 one_more : (same : Bool) (n a b : ℕ) → min a n ≡ b → min (cond same (suc a) 0) (suc n) ≡ cond same (suc b) 0
 one_more true n a b is = omega (arith, is)
@@ -43,14 +43,10 @@ update_in_parts ae flags bits omits interval seqno metric rest =
     let long : layout.update_len + length rest ≡ length (update_fields ae flags bits omits interval seqno metric rest) = omega arith in
     ap (λ (n : ℕ). layout.update ∷ n ∷ update_fields ae flags bits omits interval seqno metric rest) long
 
-set_is_there : (before : Option (List ℕ)) (octets : List ℕ) → is_set before octets ≡ true → before ≡ Some octets
-set_is_there None octets is = cc
-set_is_there (Some before) octets is = ap (λ (o : List ℕ). Some o) ((bytes_eq-Decides before octets).0 is)
-
 -- A reader that has the router-id and the next hop keeps its state.
 pub origin_is_kept : (hop : Addr) (router : List ℕ) (d : ParserState) → is_set d.router router ≡ true → is_set (hop_for hop d) (octets hop) ≡ true →
     with_hop hop (with_router router d) ≡ d
 origin_is_kept (V4 o) router d routed hops =
-    ap (λ (r : Option (List ℕ)). record d { router = r; hop4 = Some o }) (sym (set_is_there d.router router routed)) ∙ ap (λ (h : Option (List ℕ)). record d { hop4 = h }) (sym (set_is_there d.hop4 o hops))
+    ap (λ (r : Option (List ℕ)). record d { router = r; hop4 = Some o }) (sym (is_set_before d.router router routed)) ∙ ap (λ (h : Option (List ℕ)). record d { hop4 = h }) (sym (is_set_before d.hop4 o hops))
 origin_is_kept (V6 o) router d routed hops =
-    ap (λ (r : Option (List ℕ)). record d { router = r; hop6 = Some o }) (sym (set_is_there d.router router routed)) ∙ ap (λ (h : Option (List ℕ)). record d { hop6 = h }) (sym (set_is_there d.hop6 o hops))
+    ap (λ (r : Option (List ℕ)). record d { router = r; hop6 = Some o }) (sym (is_set_before d.router router routed)) ∙ ap (λ (h : Option (List ℕ)). record d { hop6 = h }) (sym (is_set_before d.hop6 o hops))

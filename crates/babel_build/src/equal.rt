@@ -21,7 +21,7 @@ pub(crate) fn are_equal4(one: &[u8; 4], other: &[u8; 4]) -> bool
 
 /// Whether 8 octets are the same.
 #[inline]
-#[tactic(auto, using(crate::proofs::Numbers::equal_numbers8))]
+#[tactic(auto, using(babel_value::proofs::Numbers::equal_numbers8))]
 pub(crate) fn are_equal8(one: &[u8; 8], other: &[u8; 8]) -> bool
     ensures { result ≡ bytes_eq one.now other.now }
 {

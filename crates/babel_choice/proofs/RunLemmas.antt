@@ -14,6 +14,7 @@ use Rattle.std.specs.FinMap.{is_sorted}
 use Rattle.babel_value.specs.Prefixes.{PrefixValue}
 use Rattle.babel_value.specs.Orders.{prefix_cmp}
 use Rattle.babel_value.proofs.OrderLaws.{prefix_total}
+use Rattle.babel_value.proofs.Orderings.{greater_else}
 use Rattle.babel_choice.specs.RouteKeys.{route_cmp}
 use Rattle.babel_choice.specs.Routes.{Route, RouteEntries}
 use Rattle.babel_choice.specs.Choices.{is_of, routes_of, others_of}
@@ -134,13 +135,8 @@ run_end p es i e sorted at other from =
     let parts = and_parts (not (is_before p e.0.prefix)) (are_not_before p (drop (i + 1) es)) (subst (λ fs. are_not_before p fs ≡ true) next from) in
     let rest = subst (λ fs. is_sorted route_cmp fs ≡ true) next (sorted_drop route_cmp es i sorted) in
     let none : routes_of p (drop i es) ≡ [] =
-    ap (routes_of p) next ∙ rw other (none_after p e (drop (i + 1) es) (beyond (prefix_cmp e.0.prefix p) parts.0 other) (others_greater route_cmp e (drop (i + 1) es) rest)) in
+    ap (routes_of p) next ∙ rw other (none_after p e (drop (i + 1) es) (greater_else (prefix_cmp e.0.prefix p) parts.0 other) (others_greater route_cmp e (drop (i + 1) es) rest)) in
     record { routes = none; others = none_other p (drop i es) none }
-  where
-    beyond : (r : Ordering) → not (is_lt r) ≡ true → is_eq r ≡ false → r ≡ Greater
-    beyond Less h e = cc
-    beyond Equal h e = cc
-    beyond Greater h e = refl
 
 pub run_past : (p : PrefixValue) (es : RouteEntries) (i : ℕ) → drop i es ≡ [] → IsRunEnd p es i
 run_past p es i past = record { routes = ap (routes_of p) past; others = ap (others_of p) past ∙ sym past }

@@ -1,5 +1,5 @@
 -- A crash, and a start from what is on disk, is the event Restart after some whole turns.
-use Rattle.std.proofs.Common.{◌≡◌, ◌⊎◌, ℕ, List, [], ◌∷◌, map, take, Contains, Some, refl, sym, ap, subst, inl, inr}
+use Rattle.std.proofs.Common.{◌≡◌, ◌⊎◌, ℕ, List, [], map, take, Contains, Some, refl, sym, ap, subst, inl, inr}
 use Rattle.std.proofs.lemmas.List.Elements.{All-contains}
 use Rattle.std.proofs.lemmas.Option.{same_Some}
 use Rattle.babel_state.specs.declared.configs.Config.{Config}
@@ -14,13 +14,12 @@ use Rattle.babel_wire.specs.Keeping.{AreOctetsOf, turns_of}
 use Rattle.babel_wire.specs.Cuts.{File, sent_in}
 use Rattle.babel_wire.specs.Lives.{IsCovered, Step, Drive, Leads, taken, turns_in}
 use Rattle.babel_wire.specs.DurableLaws.{WhatIsKeptCoversWhatWasSent}
-use Rattle.babel_machine.specs.declared.events.Event.{Event}
 use Rattle.babel_machine.specs.declared.events.Event.TheVariants as events
 use Rattle.babel_machine.specs.NetworkLaws.{SoundHasNoLoop, SoundHasNoLoopWithOneOrigin}
 use Rattle.babel_net.specs.Invariants.{IsNetwork}
 use Rattle.babel_net.specs.Laws.{EventsKeepNetworks}
 use Rattle.babel_net.specs.Networks.{NetworkState, with_speaker_state, world_of}
-use Rattle.babel_net.specs.Promises.{MakeAll, last_network}
+use Rattle.babel_net.proofs.Chains.{network_after}
 use Rattle.babel_crashes.specs.NodeSteps.{AreFrom, IsAt, AreEvents, IsRestart}
 use Rattle.babel_crashes.specs.CrashLaws.{TurnsAreEvents, CrashesAreRestartEvents, LivesAreRestartEvents}
 use Rattle.babel_crashes.proofs.Events.{restart_made, restart_accepted, at_restarted}
@@ -32,12 +31,6 @@ pub record Laws : Type 0 where
   pub kept : EventsKeepNetworks
   pub named : SoundHasNoLoop
   pub one_origin : SoundHasNoLoopWithOneOrigin
-
-pub network_after : EventsKeepNetworks → (done : List Event) (old : NetworkState) (networks : List NetworkState) → IsNetwork old → MakeAll done old networks → IsNetwork (last_network old networks)
-network_after kept [] old [] net h = net
-network_after kept [] old (n ∷ ns) net h = absurd h
-network_after kept (e ∷ es) old [] net h = absurd h
-network_after kept (e ∷ es) old (n ∷ ns) net h = network_after kept es n ns (kept e old n net h.0 h.1) h.2
 
 -- Steps, and then a restart.
 restart_after : Laws → (n : NetworkState) (node now : ℕ) (config : Config) (first state : State) (steps : List Step) (sent : List Sending) (octets : List ℕ) →

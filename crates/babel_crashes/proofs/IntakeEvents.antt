@@ -17,11 +17,11 @@ use Rattle.babel_machine.specs.NetworkLaws.{SoundHasNoLoop, SoundHasNoLoopWithOn
 use Rattle.babel_net.specs.Invariants.{IsNetwork}
 use Rattle.babel_net.specs.Laws.{EventsKeepNetworks}
 use Rattle.babel_net.specs.Networks.{NetworkState, SentOctets, with_speaker_state, world_of}
+use Rattle.babel_net.proofs.Chains.{network_after}
 use Rattle.babel_crashes.specs.NodeSteps.{IsAt, IsFrom, IsRecorded, IsRestart}
 use Rattle.babel_crashes.specs.IntakeLaws.{AreReceiptsFrom, AreStepEvents, StepsAreEvents, CrashesWithIntakesAreRestartEvents}
 use Rattle.babel_crashes.proofs.Events.{Settings, leads_on, leads_nowhere, tick_leads, restart_made, restart_accepted, at_restarted}
 use Rattle.babel_crashes.proofs.NodeTurns.{Comes, AllSent, receives, still_from, still_recorded, turn_made}
-use Rattle.babel_crashes.proofs.Crashes.{network_after}
 
 still_receipts : (old new : List SentOctets) (rs : List Receipt) → ((d : SentOctets) → Contains old d → Contains new d) → AreReceiptsFrom old rs → AreReceiptsFrom new rs
 still_receipts old new rs keeps from r h = still_from old new r keeps (from r h)

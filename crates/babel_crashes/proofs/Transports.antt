@@ -2,31 +2,26 @@
 use Rattle.std.proofs.Common.{◌≡◌, ℕ, List, [], ◌∷◌, slice_get, Option, Some, None, option_map, refl, sym, ap, ◌∙◌}
 use Rattle.std.specs.Option.{option_and_then}
 use Rattle.std.proofs.lemmas.Option.{slice_get-map}
-use Rattle.babel_value.specs.declared.addresses.Family.{Family}
-use Rattle.babel_value.specs.declared.addresses.Family.TheVariants.{Ipv4, Ipv6}
 use Rattle.babel_value.specs.declared.keys.Peer.{Peer}
 use Rattle.babel_message.specs.declared.placements.Content.TheVariants as contents
 use Rattle.babel_message.specs.declared.placements.Content.{Content}
 use Rattle.babel_message.specs.declared.placements.Placed.{Placed}
 use Rattle.babel_state.specs.declared.configs.Config.{Config}
 use Rattle.babel_state.specs.declared.interfaces.InterfaceEntry.{InterfaceEntry}
-use Rattle.babel_state.specs.Addresses.{address_of, transport_of, transport_at}
+use Rattle.babel_state.specs.Addresses.{transport_of, transport_at}
 use Rattle.babel_state.specs.Calls.{first_state}
 use Rattle.babel_state.specs.Messages.{handle_content, after_places}
 use Rattle.babel_state.specs.Restarts.{Snapshot, restored}
 use Rattle.babel_state.specs.State.{State}
 use Rattle.babel_state.specs.StepLaws.{settings_of, settings_in, KeepsSettings, MessagesKeepSettings}
+use Rattle.babel_state.proofs.Moving.{address_settled}
 
 abbrev pub SameTransports : State → State → Type 0
 SameTransports old new = (iface : ℕ) → transport_at iface new ≡ transport_at iface old
 
-address_kept : (family : Family) (i : InterfaceEntry) → address_of family (settings_of i) ≡ address_of family i
-address_kept Ipv4 i = refl
-address_kept Ipv6 i = refl
-
 transport_kept : (o : Option InterfaceEntry) → option_and_then transport_of (option_map settings_of o) ≡ option_and_then transport_of o
 transport_kept None = refl
-transport_kept (Some i) = address_kept i.transport i
+transport_kept (Some i) = address_settled i.transport i
 
 by_settings : (s : State) (iface : ℕ) → option_and_then transport_of (slice_get (settings_in s) iface) ≡ transport_at iface s
 by_settings s iface = ap (option_and_then transport_of) (slice_get-map settings_of s.interfaces iface) ∙ transport_kept (slice_get s.interfaces iface)

@@ -3,7 +3,6 @@ use Rattle.std.specs.Prelude.{ℕ, true, false, List, [], ◌∷◌, ◌++◌, r
 use Rattle.babel_value.specs.declared.addresses.Addr.{Addr}
 use Rattle.babel_value.specs.declared.addresses.Addr.TheVariants.{V4, V6}
 use Rattle.babel_value.specs.declared.addresses.Family.TheVariants.{Ipv4}
-use Rattle.babel_value.specs.declared.distances.Distance.{Distance}
 use Rattle.babel_value.specs.declared.keys.Peer.{Peer}
 use Rattle.babel_value.specs.declared.keys.Source.{Source}
 use Rattle.babel_value.specs.Prefixes.{PrefixValue}
@@ -17,6 +16,8 @@ use Rattle.babel_state.specs.declared.notes.Verdict.{Verdict}
 use Rattle.babel_state.specs.State.{State}
 use Rattle.babel_state.specs.Messages.{handle_message}
 use Rattle.babel_state.specs.NextDatagram.{Fits, Draft, next_datagram}
+pub use Rattle.babel_state.specs.OutgoingMessages.{to_all}
+pub use Rattle.babel_examples.specs.SourceExamples.{pair}
 
 -- ---- values
 
@@ -50,12 +51,6 @@ ipv6_prefix = record { addr = V6 (254 ∷ 128 ∷ replicate 14 0); length = 64 }
 -- 10.0.0.0/8 of router n.
 abbrev pub ten_of : ℕ → Source
 ten_of n = record { prefix = ten; router = router n }
-
-abbrev pub pair : ℕ → ℕ → Distance
-pair seqno metric = record { seqno = seqno; metric = metric }
-
-abbrev pub to_all : ℕ → Target
-to_all iface = record { iface = iface; to = None }
 
 abbrev pub to_one : ℕ → Target
 to_one n = record { iface = 0; to = Some (addr n) }

@@ -10,10 +10,10 @@ use Rattle.std.specs.FinMap.Entries.{below_all, find-put, find_tied}
 use Rattle.babel_value.specs.declared.keys.Peer.{Peer}
 use Rattle.babel_value.specs.Orders.{peer_cmp}
 use Rattle.babel_value.proofs.OrderLaws.{peer_total, peer_exact}
+use Rattle.babel_value.proofs.Orderings.{less}
 use Rattle.babel_link.specs.declared.links.Link.{Link}
 use Rattle.babel_link.specs.Links.{ticked_link}
 use Rattle.babel_link.specs.Neighbours.{Links, tick_of}
-use Rattle.babel_link.proofs.PlaceLemmas.{less}
 use Rattle.babel_link.proofs.TickLemmas.{below-tick_of}
 
 pub find-put_own : (peer : Peer) (link : Link) (links : Links) → find peer_cmp peer (put peer_cmp peer link links) ≡ Some link

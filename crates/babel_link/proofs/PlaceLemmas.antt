@@ -16,21 +16,12 @@ use Rattle.babel_value.specs.Orders.{peer_cmp}
 use Rattle.babel_link.specs.declared.links.Link.{Link}
 use Rattle.babel_link.specs.Neighbours.{Links, comes_before}
 use Rattle.babel_value.proofs.OrderLaws.{peer_total}
+use Rattle.babel_value.proofs.Orderings.{less, equal}
 use Rattle.babel_link.specs.Places.{IsPlaceOf, IsGapFor}
 
 true_from_T : (b : Bool) → T b → b ≡ true
 true_from_T true t = refl
 true_from_T false t = absurd t
-
-pub less : (r : Ordering) → is_lt r ≡ true → r ≡ Less
-less Less e = refl
-less Equal e = cc
-less Greater e = cc
-
-equal : (r : Ordering) → is_eq r ≡ true → r ≡ Equal
-equal Less e = cc
-equal Equal e = refl
-equal Greater e = cc
 
 module _ {K : Type 0} {R : K → K → Ordering} (o : IsTotalOrder R) where
   turned : (k x : K) (r : Ordering) → R x k ≡ r → R k x ≡ ordering_reverse r

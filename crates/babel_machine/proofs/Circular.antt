@@ -5,13 +5,10 @@ use Rattle.std.proofs.lemmas.Bool.Decides.{nat_tests}
 use Rattle.babel_value.specs.declared.distances.Distance.{Distance}
 use Rattle.babel_value.specs.Distances.{is_better}
 use Rattle.babel_value.specs.Seqnos.{lift, is_before}
+use Rattle.babel_value.proofs.Lifting.{order_lifted}
 use Rattle.babel_machine.specs.declared.machine.pair.Pair.{Pair}
 use Rattle.babel_machine.specs.Machine.{IsBetterPair}
 use Rattle.babel_machine.specs.Views.{NetSource, lifted}
-
--- two seqnos that are at most 32,767 ahead of a first one are ordered as the numbers that they stand for
-order_lifted : (start a b : ℕ) → start < 65536 → a < 65536 → b < 65536 → lift start a ≤ 32767 → lift start b ≤ 32767 → is_before a b ≡ nat_lt (lift start a) (lift start b)
-order_lifted start a b s0 a0 b0 la lb = grind (arith, nat_tests)
 
 same_lifted : (start a b : ℕ) → start < 65536 → a < 65536 → b < 65536 → lift start a ≡ lift start b → a ≡ b
 same_lifted start a b s0 a0 b0 same = grind (arith, nat_tests)

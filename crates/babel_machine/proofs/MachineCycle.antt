@@ -10,13 +10,13 @@ use Rattle.babel_machine.specs.Sound.{IsSound}
 use Rattle.babel_machine.specs.ForeignMachine.{IsRising}
 use Rattle.babel_machine.proofs.MachineSound.{owner_free, rising_of}
 
-better_than_better : (p q r : Pair) → IsBetterPair p q → IsBetterPair q r → IsBetterPair p r
+pub better_than_better : (p q r : Pair) → IsBetterPair p q → IsBetterPair q r → IsBetterPair p r
 better_than_better p q r (inl a) (inl b) = inl (omega arith)
 better_than_better p q r (inl a) (inr b) = inl (omega arith)
 better_than_better p q r (inr a) (inl b) = inl (omega arith)
 better_than_better p q r (inr a) (inr b) = inr (omega arith, omega arith)
 
-not_better_than_itself : (p : Pair) → IsBetterPair p p → ⊥
+pub not_better_than_itself : (p : Pair) → IsBetterPair p p → ⊥
 not_better_than_itself p (inl a) = omega arith
 not_better_than_itself p (inr a) = omega arith
 

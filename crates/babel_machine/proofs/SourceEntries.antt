@@ -1,6 +1,6 @@
 -- What a source entry bounds: what is feasible against it is better than all that was sent, and it stays so when
 -- updates are sent.
-use Rattle.std.proofs.Common.{◌≡◌, ◌<◌, ◌≤◌, ℕ, Bool, true, false, List, [], ◌∷◌, ◌++◌, map, All, Option, Some, None, refl, sym, ◌∙◌, subst, inl, inr, arith, if◌then◌else◌}
+use Rattle.std.proofs.Common.{◌≡◌, ◌<◌, ◌≤◌, ℕ, Bool, true, false, List, [], ◌∷◌, ◌++◌, map, All, Option, Some, None, refl, sym, ◌∙◌, subst, arith, if◌then◌else◌}
 use Rattle.std.proofs.lemmas.Bool.{false≢true}
 use Rattle.std.proofs.lemmas.Bool.Decides.{nat_tests}
 use Rattle.std.proofs.lemmas.List.{append-nil, append_assoc}
@@ -14,6 +14,7 @@ use Rattle.babel_machine.specs.Machine.{IsBetterPair}
 use Rattle.babel_machine.specs.Views.{NetSource, lifted}
 use Rattle.babel_machine.specs.Invariants.{Bounds}
 use Rattle.babel_machine.proofs.Circular.{IsReached, better_lifted, lifted_better, better_through}
+use Rattle.babel_machine.proofs.MachineCycle.{not_better_than_itself, better_than_better}
 
 -- a feasible finite distance is better than all that was sent
 pub feasible_better : (s : NetSource) (raises : ℕ) (o : Option Distance) (sent : List Pair) (d : Distance) → s.start < 65536 → raises ≤ 32767 → IsReached s raises d → d.metric < 65535 → is_feasible o d ≡ true → Bounds s raises o sent → All (λ own. IsBetterPair (lifted s d) own) sent
@@ -27,16 +28,6 @@ feasible_better s raises (Some e) sent d s0 r0 hd finite feasible bounds =
     better : IsBetterPair (lifted s d) (lifted s e)
     better = better_lifted s raises d e s0 r0 hd (record { word = bounds.0; reached = bounds.1 }) is
 
-not_itself : (p : Pair) → IsBetterPair p p → ⊥
-not_itself p (inl a) = omega arith
-not_itself p (inr a) = omega arith
-
-better_chain : (p q r : Pair) → IsBetterPair p q → IsBetterPair q r → IsBetterPair p r
-better_chain p q r (inl a) (inl b) = inl (omega arith)
-better_chain p q r (inl a) (inr b) = inl (omega arith)
-better_chain p q r (inr a) (inl b) = inl (omega arith)
-better_chain p q r (inr a) (inr b) = inr (omega arith, omega arith)
-
 -- one pair in the list
 All-one : {X : Type 0} (P : X → Type 0) → (x : X) → P x → All P (x ∷ [])
 All-one P x h = All-cons P x [] h (All-nil P)
@@ -44,14 +35,14 @@ All-one P x h = All-cons P x [] h (All-nil P)
 -- an update that is sent lowers its source
 lowered_once : (s : NetSource) (raises : ℕ) (o : Option Distance) (sent : List Pair) (d : Distance) → s.start < 65536 → raises ≤ 32767 → IsReached s raises d → Bounds s raises o sent → Bounds s raises (Some (better_pair o d)) (sent ++ lifted s d ∷ [])
 lowered_once s raises None sent d s0 r0 hd bounds =
-    (hd.word, hd.reached, subst (λ all. All (λ own. ¬ IsBetterPair own (lifted s d)) (all ++ lifted s d ∷ [])) (sym bounds) (All-one (λ own. ¬ IsBetterPair own (lifted s d)) (lifted s d) (not_itself (lifted s d))))
+    (hd.word, hd.reached, subst (λ all. All (λ own. ¬ IsBetterPair own (lifted s d)) (all ++ lifted s d ∷ [])) (sym bounds) (All-one (λ own. ¬ IsBetterPair own (lifted s d)) (lifted s d) (not_better_than_itself (lifted s d))))
 lowered_once s raises (Some e) sent d s0 r0 hd bounds = by (is_better d e) refl
   where
     he : IsReached s raises e
     he = record { word = bounds.0; reached = bounds.1 }
 
     by : (b : Bool) → is_better d e ≡ b → Bounds s raises (Some (if b then d else e)) (sent ++ lifted s d ∷ [])
-    by true is = (hd.word, hd.reached, All-append (λ own. ¬ IsBetterPair own (lifted s d)) sent (lifted s d ∷ []) (All-weaker (λ own. ¬ IsBetterPair own (lifted s e)) (λ own. ¬ IsBetterPair own (lifted s d)) (λ own worse better. worse (better_chain own (lifted s d) (lifted s e) better (better_lifted s raises d e s0 r0 hd he is))) sent bounds.2) (All-one (λ own. ¬ IsBetterPair own (lifted s d)) (lifted s d) (not_itself (lifted s d))))
+    by true is = (hd.word, hd.reached, All-append (λ own. ¬ IsBetterPair own (lifted s d)) sent (lifted s d ∷ []) (All-weaker (λ own. ¬ IsBetterPair own (lifted s e)) (λ own. ¬ IsBetterPair own (lifted s d)) (λ own worse better. worse (better_than_better own (lifted s d) (lifted s e) better (better_lifted s raises d e s0 r0 hd he is))) sent bounds.2) (All-one (λ own. ¬ IsBetterPair own (lifted s d)) (lifted s d) (not_better_than_itself (lifted s d))))
     by false is = (bounds.0, bounds.1, All-append (λ own. ¬ IsBetterPair own (lifted s e)) sent (lifted s d ∷ []) bounds.2 (All-one (λ own. ¬ IsBetterPair own (lifted s e)) (lifted s d) (λ better. false≢true (sym is ∙ lifted_better s raises d e s0 r0 hd he better))))
 
 -- so do all updates of a list, one after the other

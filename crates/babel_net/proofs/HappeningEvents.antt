@@ -1,6 +1,5 @@
 -- An event that makes its step happens in what is seen of the network.
-use Rattle.std.proofs.Common.{◌≡◌, ◌⊎◌, ◌<◌, ◌≤◌, ◌+◌, ◌%◌, ◌^◌, ℕ, Bool, true, false, List, [], ◌∷◌, Option, Some, None, Ok, option_map, length, nat_lt, slice_get, cond, refl, sym, ap, ◌∙◌, subst, inl, inr, arith}
-use Rattle.std.proofs.lemmas.Bool.{or_parts, ltb-false}
+use Rattle.std.proofs.Common.{◌≡◌, ◌⊎◌, ◌<◌, ◌+◌, ◌%◌, ◌^◌, ℕ, Bool, true, false, List, [], Option, Some, None, Ok, option_map, slice_get, cond, refl, sym, ap, ◌∙◌, subst, inl, inr, arith}
 use Rattle.std.proofs.lemmas.Option.{none-some, same_Some, slice_get_within, get_or_from_slice_get}
 use Rattle.std.proofs.lemmas.List.Elements.{All-contains}
 use Rattle.babel_value.specs.declared.addresses.Addr.TheVariants.{V4}
@@ -16,9 +15,7 @@ use Rattle.babel_state.specs.declared.errors.SetCostFault.{SetCostFault}
 use Rattle.babel_state.specs.declared.items.Target.{Target}
 use Rattle.babel_state.specs.Addresses.{source_fault, transport_at}
 use Rattle.babel_state.specs.Calls.{set_cost_fault, is_prefix_too_many}
-use Rattle.babel_state.specs.declared.errors.ConfigFault.{ConfigFault}
-use Rattle.babel_state.specs.declared.errors.ConfigFault.TheVariants.{ReservedRouterId, InterfaceCount, NominalCost, HelloInterval, Prefixes, InterfaceAddresses}
-use Rattle.babel_state.specs.Configs.{config_fault, has_cause, first_of_causes, repeats}
+use Rattle.babel_state.specs.Configs.{config_fault}
 use Rattle.babel_state.specs.Invariants.{IsWellFormed}
 use Rattle.babel_state.specs.Messages.{after_places}
 use Rattle.babel_state.specs.NextDatagram.{Draft}
@@ -29,6 +26,7 @@ use Rattle.babel_state.specs.Seen.{Seen, UpdateValue, seen, updates_among, IsSel
 use Rattle.babel_state.specs.SeenLaws.{AreEncodable, PlacesMove, MovesAlone, TicksMove, CostsMove, AnnouncingMoves, WithdrawingMoves, RaisingMoves, DatagramsSend, NoDatagramChangesNothing}
 use Rattle.babel_state.specs.State.{State, announces}
 use Rattle.babel_speaker.specs.Sending.{fits_by, draft_at}
+use Rattle.babel_speaker.proofs.FirstTables.{few_prefixes}
 use Rattle.babel_machine.specs.declared.events.Event.{Event}
 use Rattle.babel_machine.specs.declared.events.Event.TheVariants as events
 use Rattle.babel_machine.specs.declared.errors.StepFault.{StepFault}
@@ -97,27 +95,10 @@ pub if_listed : (b : Bool) (o : Option StepFault) → cond b o (Some NotListed) 
 if_listed true o h = refl
 if_listed false o h = absurd (none-some NotListed (sym h))
 
-first_head : (current : ConfigFault → Bool) (fault : ConfigFault) (faults : List ConfigFault) → first_of_causes current (fault ∷ faults) ≡ None → (current fault ≡ false) × (first_of_causes current faults ≡ None)
-first_head current fault faults is = by (current fault) refl is
-  where
-    by : (b : Bool) → current fault ≡ b → cond b (Some fault) (first_of_causes current faults) ≡ None → (current fault ≡ false) × (first_of_causes current faults ≡ None)
-    by true at is = absurd (none-some fault (sym is))
-    by false at is = (at, is)
-
-few_listed : (c : Config) → config_fault c ≡ None → length c.prefixes.items ≤ 64
-unfolding config_fault
-few_listed c none =
-    let a = first_head (has_cause c) ReservedRouterId (InterfaceCount ∷ NominalCost ∷ HelloInterval ∷ Prefixes ∷ InterfaceAddresses ∷ []) none in
-    let b = first_head (has_cause c) InterfaceCount (NominalCost ∷ HelloInterval ∷ Prefixes ∷ InterfaceAddresses ∷ []) a.1 in
-    let d = first_head (has_cause c) NominalCost (HelloInterval ∷ Prefixes ∷ InterfaceAddresses ∷ []) b.1 in
-    let e = first_head (has_cause c) HelloInterval (Prefixes ∷ InterfaceAddresses ∷ []) d.1 in
-    let f = first_head (has_cause c) Prefixes (InterfaceAddresses ∷ []) e.1 in
-    ltb-false 64 (length c.prefixes.items) (or_parts (nat_lt 64 (length c.prefixes.items)) (repeats c.prefixes.items) f.0).0
-
 pub room_to_announce : (n : NetworkState) (node : ℕ) (s : State) (c : Config) (prefix : PrefixValue) → IsRunning n → slice_get n.speakers node ≡ Some s → slice_get n.configs node ≡ Some c → has_prefix prefix c.prefixes.items ≡ true → is_prefix_too_many prefix s ≡ false
 unfolding seen
 room_to_announce n node s c prefix net is config here =
-    not_too_many prefix s c.prefixes.items (well_at n node s net is).tables.announced.in_order (few_listed c (valid_at n node c net config)) here all
+    not_too_many prefix s c.prefixes.items (well_at n node s net is).tables.announced.in_order (few_prefixes c (valid_at n node c net config)) here all
   where
     of_this : (q : PrefixValue) → Lists n.configs node q → has_prefix q c.prefixes.items ≡ true
     of_this q l = subst (λ (d : Config). has_prefix q d.prefixes.items ≡ true) (same_Some l.0 c (sym l.1 ∙ config)) l.2

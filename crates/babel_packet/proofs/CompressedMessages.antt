@@ -81,7 +81,7 @@ adds_after source body front more message middle next sets adds =
           subst (λ octets. BodyMeans source octets (decoded ++ message ∷ [])) same (adds.means decoded (sets.silent decoded means) encodable);
     }
 
-is_set_before : (before : Option (List ℕ)) (o : List ℕ) → is_set before o ≡ true → before ≡ Some o
+pub is_set_before : (before : Option (List ℕ)) (o : List ℕ) → is_set before o ≡ true → before ≡ Some o
 is_set_before None o set = cc
 is_set_before (Some before) o set = ap Some ((bytes_eq-Decides before o).0 set)
 

@@ -1,7 +1,7 @@
 -- What a reader has after each TLV, and what an Update in few octets means.
 use Rattle.std.proofs.Common.{◌≡◌, ℕ, Bool, true, false, ◌&&◌, List, ◌∷◌, length, drop, get_or, Option, Some, None, nat_lt, nat_eq, nat_le, refl, ap, ◌∙◌, arith, length-drop, option_map}
 use Rattle.std.proofs.lemmas.List.{take_all}
-use Rattle.std.proofs.lemmas.Bool.{le-ltb, le-leb, ne_eqb, ltb-true}
+use Rattle.std.proofs.lemmas.Bool.{le-ltb, le-leb, ne_eqb, ltb-true, and_parts}
 use Rattle.babel_value.specs.declared.addresses.Addr.{Addr}
 use Rattle.babel_value.specs.declared.addresses.Addr.TheVariants.{V4, V6}
 use Rattle.babel_value.specs.Prefixes.{PrefixValue}
@@ -22,7 +22,7 @@ use Rattle.babel_packet.specs.BodyMeanings.{hop_for}
 use Rattle.babel_packet.specs.Running.{after}
 use Rattle.babel_packet.specs.Compressed.{update_fields, update_payload, given_router, with_default, with_router, with_hop, omitted_in}
 use Rattle.babel_packet.proofs.Layouts.{two_again}
-use Rattle.babel_packet.proofs.Written.{both, not_zero, link_local_again}
+use Rattle.babel_packet.proofs.Written.{not_zero, link_local_again, is_clear4, is_clear6, hop_of_family, hop_is_set}
 use Rattle.babel_packet.proofs.Compressing.{IsClear, payload, Reads, reads}
 
 pub after_router_id : (d : ParserState) (router : List ℕ) → IsRouterId router → after d 6 (router_id_payload router) ≡ with_router router d
@@ -45,14 +45,6 @@ unfolding named_router named_hop4 named_hop6 update_address
 after_next_hop d (V4 o) is =
     let fits : nat_le 6 (length (1 ∷ 0 ∷ o)) ≡ true = le-leb _ _ (omega (arith, is.0)) in rw (fits, take_all 4 o (omega (arith, is.0))) refl
 after_next_hop d (V6 o) is = after_next_hop6 d o (is_link_local o) refl is.0
-
-is_clear4 : (bits : ℕ) (o : List ℕ) → IsPrefix (record { addr = V4 o; length = bits }) → IsClear 4 bits o
-is_clear4 bits o is =
-    let clear = is.clear in record { long = is.addr.0; small = is.addr.1; short = is.short; clear = cc }
-
-is_clear6 : (bits : ℕ) (o : List ℕ) → IsPrefix (record { addr = V6 o; length = bits }) → IsClear 16 bits o
-is_clear6 bits o is =
-    let clear = is.clear in record { long = is.addr.0; small = is.addr.1; short = is.short; clear = cc }
 
 -- An Update has an address of its own AE alone.
 address_of : (ae size : ℕ) (default : Option (List ℕ)) (o p : List ℕ) → nat_eq (get_or p 0 0) ae ≡ true → Reads size default o p →
@@ -90,11 +82,6 @@ after_naming_update d (V6 o) bits interval seqno metric is =
     let r = reads 16 2 0xc0 bits d.default6 interval seqno metric o (is_clear6 bits o is) in
     rw (address_of 2 16 d.default6 o p refl r, address_of_other 1 4 d.default4 p refl r.long) refl
 
--- the next hop of the family of a prefix, as an address
-abbrev hop_of_family : Addr → ParserState → Option Addr
-hop_of_family (V4 o) d = option_map V4 d.hop4
-hop_of_family (V6 o) d = option_map V6 d.hop6
-
 update_in_again : (size : ℕ) (family : List ℕ → Addr) (default router hop : Option (List ℕ)) (ae flags bits interval seqno metric : ℕ) (o : List ℕ) →
     IsClear size bits o →
     (let p = payload ae flags bits default interval seqno metric o in
@@ -124,13 +111,6 @@ unfolding update_of word
 retraction_again d prefix interval is =
     update_of_addr d prefix.addr 0x80 prefix.length interval 0 65535 is ∙ rw (two_again interval) refl
 
--- the next hop of the family of an address, if it is set
-hop_is_set : (addr hop : Addr) (d : ParserState) → are_kin hop addr ≡ true → hop_for hop d ≡ Some (octets hop) → hop_of_family addr d ≡ Some hop
-hop_is_set (V4 o) (V4 hop) d kin set = rw set refl
-hop_is_set (V4 o) (V6 hop) d kin set = cc
-hop_is_set (V6 o) (V4 hop) d kin set = cc
-hop_is_set (V6 o) (V6 hop) d kin set = rw set refl
-
 finite_again : (prefix : PrefixValue) (router : List ℕ) (hop : Addr) (ae flags bits omitted interval seqno metric : ℕ) (written : List ℕ) → IsRouterId router →
     nat_eq metric 65535 ≡ false → nat_lt 0 interval ≡ true →
     update_of prefix (Some router) (Some hop) (update_fields ae flags bits omitted interval seqno metric written) ≡
@@ -146,8 +126,8 @@ pub update_again : (d : ParserState) (prefix : PrefixValue) (router : List ℕ) 
     content d 8 (update_payload d flags prefix interval seqno metric) ≡ means (messages.Update prefix router hop seqno metric interval)
 update_again d prefix router hop flags seqno metric interval is named encodable router_set hop_set =
     let p = update_payload d flags prefix interval seqno metric in
-    let parts = both (nat_lt metric 65535) (nat_lt 0 interval && are_kin hop prefix.addr) encodable in
-    let more = both (nat_lt 0 interval) (are_kin hop prefix.addr) parts.1 in
+    let parts = and_parts (nat_lt metric 65535) (nat_lt 0 interval && are_kin hop prefix.addr) encodable in
+    let more = and_parts (nat_lt 0 interval) (are_kin hop prefix.addr) parts.1 in
     let finite : nat_eq metric 65535 ≡ false = ne_eqb metric 65535 (λ e. absurd (omega (arith, ltb-true metric 65535 parts.0, e))) in
     update_of_addr d prefix.addr flags prefix.length interval seqno metric is ∙
     ap (λ r. update_of prefix r (hop_of_family prefix.addr d) p) router_set ∙

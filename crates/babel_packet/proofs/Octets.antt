@@ -5,6 +5,7 @@ use Rattle.std.proofs.lemmas.List.{length-take-le, length-map}
 use Rattle.std.proofs.lemmas.List.FromFn.{length-range_with_len}
 use Rattle.babel_value.specs.Prefixes.{cleared}
 use Rattle.babel_value.proofs.PrefixLaws.{cleared-cleared}
+use Rattle.babel_value.proofs.OctetLists.{take_octets, drop_octets}
 use Rattle.babel_packet.specs.Numbers.{octet, word}
 use Rattle.babel_packet.specs.Prefixes.{octets_of, prefix_octet, prefix_octets}
 use Rattle.babel_packet.specs.Encodable.{AreOctets}
@@ -13,17 +14,6 @@ use Rattle.babel_packet.specs.Encodable.{AreOctets}
 pub by_if : {A : Type 0} (P : A → Type 0) (b : Bool) (x y : A) → (b ≡ true → P x) → (b ≡ false → P y) → P (if b then x else y)
 by_if P true x y f g = f refl
 by_if P false x y f g = g refl
-
-pub take_octets : (n : ℕ) (xs : List ℕ) → AreOctets xs → AreOctets (take n xs)
-take_octets zero xs small k = omega arith
-take_octets (suc n) [] small k = omega arith
-take_octets (suc n) (x ∷ xs) small zero = small 0
-take_octets (suc n) (x ∷ xs) small (suc k) = take_octets n xs (λ j. small (suc j)) k
-
-pub drop_octets : (n : ℕ) (xs : List ℕ) → AreOctets xs → AreOctets (drop n xs)
-drop_octets zero xs small = small
-drop_octets (suc n) [] small = small
-drop_octets (suc n) (x ∷ xs) small = drop_octets n xs (λ j. small (suc j))
 
 pub slice_octets : (p : List ℕ) (a b : ℕ) → AreOctets p → AreOctets (slice_range p a b)
 slice_octets p a b small = take_octets (b - a) (drop a p) (drop_octets a p small)

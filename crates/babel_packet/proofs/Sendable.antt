@@ -8,6 +8,7 @@ use Rattle.babel_value.specs.declared.addresses.Addr.{Addr}
 use Rattle.babel_value.specs.declared.addresses.Addr.TheVariants.{V4, V6}
 use Rattle.babel_value.specs.Prefixes.{PrefixValue}
 use Rattle.babel_value.specs.RouterIds.{is_reserved, router_id_of}
+use Rattle.babel_value.proofs.OctetLists.{take_octets}
 use Rattle.babel_tlv.specs.Place.{Place}
 use Rattle.babel_tlv.specs.Split.{places_at, places_of, fault_of}
 use Rattle.babel_message.specs.Layout as layout
@@ -37,7 +38,7 @@ use Rattle.babel_packet.specs.Requests.{asked, route_request_in, dump_request, r
 use Rattle.babel_packet.specs.Meaning.{content, content_messages, placed_from, body_of, body_meaning, header_refusal, unless_refused, meaning, messages_of}
 use Rattle.babel_packet.specs.Encodable.{are_kin, is_encodable, AreOctets, IsAddr, IsReceiver, IsPrefix, IsRouterId, IsMessage}
 use Rattle.babel_packet.specs.Decoded.{IsSendable}
-use Rattle.babel_packet.proofs.Octets.{by_if, take_octets, slice_octets, append_octets, replicate_octets, Octets, slice_is, Cleared, prefix_is, word_small}
+use Rattle.babel_packet.proofs.Octets.{by_if, slice_octets, append_octets, replicate_octets, Octets, slice_is, Cleared, prefix_is, word_small}
 
 positive : (n : ℕ) → nat_eq n 0 ≡ false → nat_lt 0 n ≡ true
 positive n other = lt-ltb 0 n (let h = eqb-false n 0 other in omega arith)

@@ -8,9 +8,10 @@ use Rattle.std.proofs.lemmas.List.{take-append-drop, drop-take, drop-drop, lengt
 use Rattle.std.proofs.lemmas.List.FromFn.{fill_by_all, get_or-map-range_with_len, length-map-range_with_len}
 use Rattle.std.proofs.lemmas.Nat.{pow-add, pow_pos, shr_high, shl-shr, mod_low, shl_whole, shl_below, shr-shr, or_shifted, be_bytes_8, div-add-mod'}
 use Rattle.babel_value.specs.Prefixes.{cleared}
+use Rattle.babel_value.proofs.OctetLists.{take_octets, drop_octets}
 use Rattle.babel_packet.specs.Encodable.{AreOctets}
 use Rattle.babel_packet.specs.Prefixes.{octets_of, prefix_octet}
-use Rattle.babel_packet.proofs.Octets.{take_octets, drop_octets, append_octets, replicate_octets, cleared_octets, length-cleared}
+use Rattle.babel_packet.proofs.Octets.{append_octets, replicate_octets, cleared_octets, length-cleared}
 use Rattle.babel_packet.proofs.Spreading.{spread_octets}
 
 -- the number

@@ -1,11 +1,11 @@
 -- What is written as a message is read as that message.
-use Rattle.std.proofs.Common.{◌≡◌, ◌≢◌, ℕ, ◌+◌, ◌-◌, ◌*◌, ◌≤◌, Bool, true, false, ◌&&◌, List, [], ◌∷◌, ◌++◌, length, take, drop, replicate, Option, Some, None, nat_lt, nat_eq, refl, ap, sym, ◌∙◌, arith, length-append, length-drop, option_map, nat_le}
+use Rattle.std.proofs.Common.{◌≡◌, ◌≢◌, ℕ, ◌+◌, ◌-◌, Bool, true, false, ◌&&◌, List, [], ◌∷◌, ◌++◌, length, take, drop, replicate, Option, Some, None, nat_lt, nat_eq, refl, ap, sym, ◌∙◌, arith, length-append, length-drop, option_map, nat_le}
 use Rattle.std.proofs.lemmas.List.{take_at, take_all, drop_all, take-append-drop}
 use Rattle.std.proofs.lemmas.Slice.Eq.{bytes_eq-Decides}
-use Rattle.std.proofs.lemmas.Bool.{le-ltb, le-leb, ne_eqb, ltb-true}
+use Rattle.std.proofs.lemmas.Bool.{le-ltb, le-leb, ne_eqb, ltb-true, and_parts}
 use Rattle.babel_value.specs.declared.addresses.Addr.{Addr}
 use Rattle.babel_value.specs.declared.addresses.Addr.TheVariants.{V4, V6}
-use Rattle.babel_value.specs.Prefixes.{PrefixValue, cleared}
+use Rattle.babel_value.specs.Prefixes.{PrefixValue}
 use Rattle.babel_message.specs.declared.messages.Message.{Message}
 use Rattle.babel_message.specs.declared.messages.Message.TheVariants as messages
 use Rattle.babel_message.specs.declared.placements.Content.TheVariants as contents
@@ -27,9 +27,10 @@ use Rattle.babel_packet.specs.Requests.{route_request, route_request_in, seqno_r
 use Rattle.babel_packet.specs.Updates.{update, update_in, update_of, update_router}
 use Rattle.babel_packet.specs.Meaning.{content}
 use Rattle.babel_packet.specs.Payloads.{two, octets, is_link_local, router_id_payload, next_hop_payload, prefix_encoding, prefix_written, update_payload, kind_of, payload_of}
-use Rattle.babel_packet.specs.Encodable.{are_kin, is_encodable, AreOctets, IsAddr, IsReceiver, IsPrefix, IsRouterId, IsMessage}
+use Rattle.babel_packet.specs.Encodable.{are_kin, is_encodable, IsAddr, IsReceiver, IsPrefix, IsRouterId, IsMessage}
 use Rattle.babel_packet.specs.BodyMeanings.{Provides, hop_for}
 use Rattle.babel_packet.proofs.Layouts.{following, two_again, prefix_again, whole_again, none_following}
+use Rattle.babel_packet.proofs.Compressing.{IsClear}
 
 pub ack_request_again : (d : ParserState) (opaque interval : ℕ) →
     content d 2 (payload_of (messages.AckRequest opaque interval)) ≡ means (messages.AckRequest opaque interval)
@@ -55,31 +56,19 @@ pub dump_request_again : (d : ParserState) → content d 9 (payload_of messages.
 unfolding content route_request tail_reason
 dump_request_again d = refl
 
-pub both : (a b : Bool) → (a && b) ≡ true → (a ≡ true) × (b ≡ true)
-both true true h = (refl, refl)
-both true false h = cc
-both false b h = cc
-
 pub not_zero : (n : ℕ) → nat_lt 0 n ≡ true → nat_eq n 0 ≡ false
 not_zero n some = ne_eqb n 0 (λ e. absurd (omega (arith, ltb-true 0 n some, e)))
 
 -- the next hop of the parser state for the family of a prefix, as an address
-abbrev hop_of_family : Addr → ParserState → Option Addr
+abbrev pub hop_of_family : Addr → ParserState → Option Addr
 hop_of_family (V4 o) d = option_map V4 d.hop4
 hop_of_family (V6 o) d = option_map V6 d.hop6
 
--- what is needed of a prefix's octets
-record IsClear (size bits : ℕ) (o : List ℕ) : Type 0 where
-  long : length o ≡ size
-  small : AreOctets o
-  short : bits ≤ 8 * size
-  clear : cleared bits o ≡ o
-
-is_clear4 : (bits : ℕ) (o : List ℕ) → IsPrefix (record { addr = V4 o; length = bits }) → IsClear 4 bits o
+pub is_clear4 : (bits : ℕ) (o : List ℕ) → IsPrefix (record { addr = V4 o; length = bits }) → IsClear 4 bits o
 is_clear4 bits o is =
     let clear = is.clear in record { long = is.addr.0; small = is.addr.1; short = is.short; clear = cc }
 
-is_clear6 : (bits : ℕ) (o : List ℕ) → IsPrefix (record { addr = V6 o; length = bits }) → IsClear 16 bits o
+pub is_clear6 : (bits : ℕ) (o : List ℕ) → IsPrefix (record { addr = V6 o; length = bits }) → IsClear 16 bits o
 is_clear6 bits o is =
     let clear = is.clear in record { long = is.addr.0; small = is.addr.1; short = is.short; clear = cc }
 
@@ -191,7 +180,7 @@ retraction_again d prefix interval is =
     update_of_addr d prefix.addr prefix.length interval 0 65535 is ∙ rw (two_again interval) refl
 
 -- the next hop of the family of an address, if the parser state has one
-hop_is_set : (addr hop : Addr) (d : ParserState) → are_kin hop addr ≡ true → hop_for hop d ≡ Some (octets hop) → hop_of_family addr d ≡ Some hop
+pub hop_is_set : (addr hop : Addr) (d : ParserState) → are_kin hop addr ≡ true → hop_for hop d ≡ Some (octets hop) → hop_of_family addr d ≡ Some hop
 hop_is_set (V4 o) (V4 hop) d kin state_after = rw state_after refl
 hop_is_set (V4 o) (V6 hop) d kin state_after = cc
 hop_is_set (V6 o) (V4 hop) d kin state_after = cc
@@ -210,8 +199,8 @@ pub update_again : (d : ParserState) (prefix : PrefixValue) (router : List ℕ) 
     content d 8 (payload_of (messages.Update prefix router hop seqno metric interval)) ≡ means (messages.Update prefix router hop seqno metric interval)
 update_again d prefix router hop seqno metric interval is named encodable provides =
     let p = payload_of (messages.Update prefix router hop seqno metric interval) in
-    let parts = both (nat_lt metric 65535) (nat_lt 0 interval && are_kin hop prefix.addr) encodable in
-    let more = both (nat_lt 0 interval) (are_kin hop prefix.addr) parts.1 in
+    let parts = and_parts (nat_lt metric 65535) (nat_lt 0 interval && are_kin hop prefix.addr) encodable in
+    let more = and_parts (nat_lt 0 interval) (are_kin hop prefix.addr) parts.1 in
     let finite : nat_eq metric 65535 ≡ false = ne_eqb metric 65535 (λ e. absurd (omega (arith, ltb-true metric 65535 parts.0, e))) in
     update_of_addr d prefix.addr prefix.length interval seqno metric is ∙
     ap (λ r. update_of prefix r (hop_of_family prefix.addr d) p) provides.0 ∙
@@ -243,7 +232,7 @@ ihu_of_again : (size : ℕ) (to : Option Addr) (ae rxcost interval : ℕ) (e : L
 unfolding ihu_of word tail_reason
 ihu_of_again size to ae rxcost interval e long some =
     let p = ae ∷ 0 ∷ (two rxcost ++ (two interval ++ e)) in
-    let parts = both (nat_lt 0 rxcost) (nat_lt 0 interval) some in
+    let parts = and_parts (nat_lt 0 rxcost) (nat_lt 0 interval) some in
     let fits : nat_lt (length p) size ≡ false = le-ltb _ _ (omega arith) in
     rw (fits, drop_all size p (omega arith), two_again rxcost, two_again interval, not_zero rxcost parts.0, not_zero interval parts.1) refl
 

@@ -1,12 +1,12 @@
 -- The messages that a datagram can carry.
-use Rattle.std.specs.Prelude.{◌≡◌, ℕ, ◌<◌, ◌≤◌, List, Bool, true, false, ◌&&◌, Option, Some, None, length, slice_index, nat_lt}
+use Rattle.std.specs.Prelude.{◌≡◌, ℕ, ◌≤◌, List, Bool, true, false, ◌&&◌, Option, Some, None, length, nat_lt}
 use Rattle.babel_value.specs.declared.addresses.Addr.{Addr}
 use Rattle.babel_value.specs.declared.addresses.Addr.TheVariants.{V4, V6}
 use Rattle.babel_value.specs.Addresses.{width_of}
 use Rattle.babel_value.specs.Metrics.{infinity}
 use Rattle.babel_value.specs.Prefixes.{PrefixValue, cleared_addr}
 use Rattle.babel_value.specs.RouterIds.{is_reserved}
-use Rattle.babel_tlv.specs.Layout.{octet_bound}
+pub use Rattle.babel_value.specs.Octets.{AreOctets}
 use Rattle.babel_message.specs.Layout as layout
 use Rattle.babel_message.specs.declared.messages.Message.{Message}
 use Rattle.babel_message.specs.declared.messages.Message.TheVariants as messages
@@ -29,9 +29,6 @@ is_encodable message = true
 
 -- The octets of a message's fields (sections 4.1.3 to 4.1.5): each is below 256; a prefix has no bits past its length; and no router-id is
 -- reserved.
-abbrev pub AreOctets : List ℕ → Type 0
-AreOctets octets = (k : ℕ) → slice_index octets k < octet_bound
-
 abbrev pub IsAddr : Addr → Type 0
 IsAddr (V4 octets) = (length octets ≡ layout.ipv4_len) × AreOctets octets
 IsAddr (V6 octets) = (length octets ≡ layout.ipv6_len) × AreOctets octets

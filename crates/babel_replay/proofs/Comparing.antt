@@ -1,12 +1,10 @@
 -- `cmp` and `==` of keys are the stated orders.
-use Rattle.std.proofs.Common.{◌≡◌, ℕ, List, nat_eq, refl, sym, ap, ◌∙◌}
+use Rattle.std.proofs.Common.{◌≡◌, ℕ, List, nat_eq, sym, ap, ◌∙◌}
 use Rattle.std.specs.Cmp.Lexicographic.{pointwise, texts_ties}
 use Rattle.std.specs.Ordering.{ordering_then, nat_cmp, is_eq}
-use Rattle.babel_value.specs.declared.addresses.Addr.{Addr}
-use Rattle.babel_value.specs.declared.addresses.Addr.TheVariants.{V4, V6}
 use Rattle.babel_value.specs.declared.keys.Peer.{Peer}
 use Rattle.babel_value.specs.Prefixes.{PrefixValue}
-use Rattle.babel_value.specs.Orders.{octets_cmp, addr_cmp, peer_cmp, prefix_cmp}
+use Rattle.babel_value.specs.Orders.{octets_cmp, prefix_cmp}
 use Rattle.babel_value.specs.contracts.addresses.AddrOrd.TheImpl as addrs
 use Rattle.babel_value.specs.contracts.keys.PeerOrd.TheImpl as peers
 use Rattle.babel_value.specs.contracts.keys.PeerOrd.TheImpl.Laws.{matches_eq-law as peers_match}
@@ -14,16 +12,8 @@ use Rattle.babel_value.specs.contracts.keys.PeerPartialEq.TheImpl as equal_peers
 use Rattle.babel_value.specs.contracts.prefixes.PrefixOrd.TheImpl as prefixes
 use Rattle.babel_value.specs.contracts.prefixes.PrefixOrd.TheImpl.Laws.{matches_eq-law}
 use Rattle.babel_value.specs.contracts.prefixes.PrefixPartialEq.TheImpl as same_prefixes
+use Rattle.babel_value.proofs.StatedOrders.{cmp_of_addrs, cmp_of_peers}
 use Rattle.babel_state.specs.Sameness.{is_same_peer, is_same_prefix}
-
-cmp_of_addrs : (a b : Addr) → (addrs.ghosts).cmp a b ≡ addr_cmp a b
-cmp_of_addrs (V4 a) (V4 b) = refl
-cmp_of_addrs (V4 a) (V6 b) = refl
-cmp_of_addrs (V6 a) (V4 b) = refl
-cmp_of_addrs (V6 a) (V6 b) = refl
-
-cmp_of_peers : (a b : Peer) → (peers.ghosts).cmp a b ≡ peer_cmp a b
-cmp_of_peers a b = ap (ordering_then (nat_cmp a.iface b.iface)) (cmp_of_addrs a.addr b.addr)
 
 cmp_of_prefixes : (a b : PrefixValue) → (prefixes.ghosts).cmp a b ≡ prefix_cmp a b
 cmp_of_prefixes a b = ap (λ o. ordering_then o (nat_cmp a.length b.length)) (cmp_of_addrs a.addr b.addr)

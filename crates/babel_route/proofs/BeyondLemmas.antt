@@ -5,12 +5,13 @@ use Rattle.std.proofs.lemmas.Bool.{and_parts, and_from}
 use Rattle.std.proofs.lemmas.List.{take-append-drop, map-append}
 use Rattle.std.proofs.lemmas.List.Elements.{filter-append}
 use Rattle.std.specs.declared.cmp.Ordering.{Ordering}
-use Rattle.std.specs.declared.cmp.Ordering.TheVariants.{Less, Equal, Greater}
-use Rattle.std.specs.Ordering.{is_lt, is_gt, ordering_reverse}
+use Rattle.std.specs.declared.cmp.Ordering.TheVariants.{Less}
+use Rattle.std.specs.Ordering.{is_lt, is_gt}
 use Rattle.std.specs.FinMap.{is_sorted}
 use Rattle.babel_value.specs.Prefixes.{PrefixValue}
 use Rattle.babel_value.specs.Orders.{prefix_cmp}
 use Rattle.babel_value.proofs.OrderLaws.{prefix_total}
+use Rattle.babel_value.proofs.Orderings.{less_reversed}
 use Rattle.babel_choice.specs.declared.entries.RouteKey.{RouteKey}
 use Rattle.babel_choice.specs.RouteKeys.{route_cmp}
 use Rattle.babel_table.specs.Firsts.{first_of, lesser_of}
@@ -70,13 +71,9 @@ module _ {K V : Type 0} (R : K → K → Ordering) (prefix : K → PrefixValue) 
       ap (first_of prefix_cmp) (from_place es i below above ∙ ap (map (λ e. prefix e.0)) (drop_past es i at))
 
 -- ---- the prefixes of selections and of routes rise
-reversed : (r : Ordering) → is_lt (ordering_reverse r) ≡ is_gt r
-reversed Less = refl
-reversed Equal = refl
-reversed Greater = refl
 
 not_lesser : (p q : PrefixValue) → is_gt (prefix_cmp p q) ≡ false → is_lt (prefix_cmp q p) ≡ false
-not_lesser p q h = ap is_lt (prefix_total.antisymm q p) ∙ reversed (prefix_cmp p q) ∙ h
+not_lesser p q h = ap is_lt (prefix_total.antisymm q p) ∙ less_reversed (prefix_cmp p q) ∙ h
 
 pub prefix_rises : (p q : PrefixValue) → prefix_cmp p q ≡ Less → is_lt (prefix_cmp q p) ≡ false
 prefix_rises p q lt = not_lesser p q (ap is_gt lt)

@@ -34,7 +34,7 @@ same_key : {K : Type 0} (R : K → K → Ordering) → IsTotalOrder R → (k : K
 same_key R total k = ap is_eq (tied_itself total k)
 
 -- a selection is like itself, whatever its interval and its deadline become
-like_itself : (s t : Selection) → t.peer ≡ s.peer → t.entry.router ≡ s.entry.router → t.entry.next_hop ≡ s.entry.next_hop → t.entry.distance ≡ s.entry.distance → is_alike s t ≡ true
+pub like_itself : (s t : Selection) → t.peer ≡ s.peer → t.entry.router ≡ s.entry.router → t.entry.next_hop ≡ s.entry.next_hop → t.entry.distance ≡ s.entry.distance → is_alike s t ≡ true
 like_itself s t peer router next_hop distance =
     let distances : is_same_distance s.entry.distance s.entry.distance ≡ true = and_from (nat_eq s.entry.distance.seqno s.entry.distance.seqno) _ (eq-eqb _ _ refl) (eq-eqb s.entry.distance.metric s.entry.distance.metric refl) in
     let itself : is_alike s s ≡ true =

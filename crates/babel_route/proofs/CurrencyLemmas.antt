@@ -6,7 +6,7 @@ use Rattle.std.specs.Prelude.{nat_eq}
 use Rattle.std.specs.Ordering.{eq_by_cmp}
 use Rattle.babel_value.specs.Orders.{octets_cmp, addr_cmp, peer_cmp}
 use Rattle.babel_value.proofs.OrderLaws.{octets_exact, addr_exact, peer_exact}
-use Rattle.babel_table.proofs.LookupLemmas.{equal}
+use Rattle.babel_value.proofs.Orderings.{equal}
 use Rattle.babel_choice.specs.declared.entries.Entry.{Entry}
 use Rattle.babel_choice.specs.declared.entries.Selection.{Selection}
 use Rattle.babel_route.specs.Currency.{is_same_distance, is_same_entry, is_same_selection}

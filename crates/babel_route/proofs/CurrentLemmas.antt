@@ -2,8 +2,7 @@
 use Rattle.std.proofs.Common.{◌≡◌, ℕ, zero, suc, Bool, true, false, cond, not, ◌||◌, List, [], ◌∷◌, ◌++◌, map, filter, slice_get, Option, Some, None, option_map, refl, sym, ap, subst, ◌∙◌, arith}
 use Rattle.std.proofs.lemmas.Bool.{false≢true}
 use Rattle.std.proofs.lemmas.Option.{same_Some, none-some}
-use Rattle.std.specs.declared.cmp.Ordering.{Ordering}
-use Rattle.std.specs.declared.cmp.Ordering.TheVariants.{Less, Equal, Greater}
+use Rattle.std.specs.declared.cmp.Ordering.TheVariants.{Equal}
 use Rattle.std.specs.Ordering.{is_lt, is_eq, eq_by_cmp, nat_cmp, bool_cmp, ordering_then}
 use Rattle.std.proofs.lemmas.Map.Keys.{ge_from_not_lt}
 use Rattle.std.specs.Cmp.{IsTotalOrder, tied_itself, on_total, then_total, nat_cmp_total, bool_cmp_total}
@@ -12,6 +11,7 @@ use Rattle.babel_value.specs.declared.keys.Peer.{Peer}
 use Rattle.babel_value.specs.Prefixes.{PrefixValue}
 use Rattle.babel_value.specs.Orders.{prefix_cmp, peer_cmp}
 use Rattle.babel_value.proofs.OrderLaws.{prefix_total, prefix_exact, peer_total, peer_exact}
+use Rattle.babel_value.proofs.Orderings.{first_not_less, equal}
 use Rattle.babel_choice.specs.declared.entries.Entry.{Entry}
 use Rattle.babel_choice.specs.declared.entries.Selection.{Selection}
 use Rattle.babel_sources.specs.Sources.{Sources}
@@ -24,7 +24,7 @@ use Rattle.babel_route.specs.Selections.{RoutesValue, selection_at, choice_at, r
 use Rattle.babel_table.proofs.PlaceLemmas.{find_hit}
 use Rattle.babel_table.proofs.FirstLemmas.{first_is_first, is_first, none_first}
 use Rattle.babel_table.specs.Entries.{with_value}
-use Rattle.babel_table.proofs.LookupLemmas.{equal, find_with_value, eq_turned, with_value_same}
+use Rattle.babel_table.proofs.LookupLemmas.{find_with_value, eq_turned, with_value_same}
 
 rank_total : IsTotalOrder rank_cmp
 rank_total =
@@ -78,13 +78,9 @@ chosen_is_candidate sources cost prefix false before es s sorted chosen = by (fi
         (refl, updated_by.updated_by, updated_by.candidate)
 
 -- ---- a choice made again
-pub first_not_less : (a b : Ordering) → is_lt (ordering_then a b) ≡ false → is_lt a ≡ false
-first_not_less Less b h = h
-first_not_less Equal b h = refl
-first_not_less Greater b h = refl
 
 -- where neither comes before the other, once by the neighbour before and once by the one chosen, they are of one neighbour
-same_peer : (cost : Peer → ℕ) (before : Option Peer) (q r : Route) → is_lt (preference cost before q r) ≡ false → is_lt (preference cost (Some r.0.peer) r q) ≡ false → q.0.peer ≡ r.0.peer
+pub same_peer : (cost : Peer → ℕ) (before : Option Peer) (q r : Route) → is_lt (preference cost before q r) ≡ false → is_lt (preference cost (Some r.0.peer) r q) ≡ false → q.0.peer ≡ r.0.peer
 same_peer cost before q r not_before not_after = by (eq_by_cmp peer_cmp q.0.peer r.0.peer) refl
   where
     metric : Route → ℕ

@@ -11,9 +11,10 @@ use Rattle.babel_value.specs.declared.keys.Peer.{Peer}
 use Rattle.babel_value.specs.Prefixes.{PrefixValue}
 use Rattle.babel_value.specs.Orders.{prefix_cmp, peer_cmp}
 use Rattle.babel_value.proofs.OrderLaws.{prefix_total, prefix_exact, peer_total, peer_exact}
+use Rattle.babel_value.proofs.Orderings.{equal, first_not_less}
 use Rattle.babel_table.specs.Firsts.{first_of, lesser_of}
 use Rattle.babel_table.proofs.FirstLemmas.{first_of_row, is_first, none_first, rises}
-use Rattle.babel_table.proofs.LookupLemmas.{equal, eq_turned, find_with_value}
+use Rattle.babel_table.proofs.LookupLemmas.{eq_turned, find_with_value}
 use Rattle.babel_table.proofs.PlaceLemmas.{find_hit}
 use Rattle.babel_sources.specs.Sources.{Sources}
 use Rattle.babel_choice.specs.declared.entries.Entry.{Entry}
@@ -23,7 +24,7 @@ use Rattle.babel_choice.specs.RouteKeys.{route_cmp, route_total, route_exact}
 use Rattle.babel_choice.specs.Routes.{Route, RouteEntries, key_of, is_from, routes_but}
 use Rattle.babel_choice.specs.Choices.{is_of, routes_of, is_candidate, candidates, route_metric, selection_metric, is_change, preference, selection_of, peer_before, overtakes, choice}
 use Rattle.babel_route.specs.Selections.{RoutesValue, selection_at, choice_at, reselected, IsCurrent, IsCurrentBut}
-use Rattle.babel_route.proofs.CurrentLemmas.{preference_total, in_filter, is_entry_at, first_not_less, current_after}
+use Rattle.babel_route.proofs.CurrentLemmas.{preference_total, in_filter, is_entry_at, current_after}
 
 -- ---- parts of a list
 

@@ -4,18 +4,19 @@ use Rattle.std.specs.List.{list_all}
 use Rattle.std.proofs.lemmas.Bool.{and_parts, and_from}
 use Rattle.std.proofs.lemmas.List.Folds.{list_any-append}
 use Rattle.std.specs.declared.cmp.Ordering.{Ordering}
-use Rattle.std.specs.declared.cmp.Ordering.TheVariants.{Less, Equal, Greater}
+use Rattle.std.specs.declared.cmp.Ordering.TheVariants.{Less}
 use Rattle.std.specs.Ordering.{is_lt, is_gt, is_eq, eq_by_cmp}
 use Rattle.std.specs.Cmp.{tied_itself}
 use Rattle.std.specs.FinMap.{find, is_sorted}
 use Rattle.babel_value.specs.Orders.{prefix_cmp}
 use Rattle.babel_value.specs.Prefixes.{PrefixValue}
 use Rattle.babel_value.proofs.OrderLaws.{prefix_total, prefix_exact}
+use Rattle.babel_value.proofs.Orderings.{greater_else, less, equal}
 use Rattle.babel_table.specs.Entries.{without}
 use Rattle.babel_table.specs.Firsts.{lesser_of}
 use Rattle.babel_table.specs.Places.{are_greater}
-use Rattle.babel_table.proofs.LookupLemmas.{equal, eq_turned}
-use Rattle.babel_table.proofs.PlaceLemmas.{less, turned, turned_back, head_greater, tail_greater, others_greater, find_gap, without_gap, greater_from}
+use Rattle.babel_table.proofs.LookupLemmas.{eq_turned}
+use Rattle.babel_table.proofs.PlaceLemmas.{turned, turned_back, head_greater, tail_greater, others_greater, find_gap, without_gap, greater_from}
 use Rattle.babel_choice.specs.declared.entries.Selection.{Selection}
 use Rattle.babel_choice.specs.PrefixBounds.{is_before, route_not_after, before_falls}
 use Rattle.babel_route.specs.PrefixWalks.{are_from}
@@ -52,12 +53,7 @@ module _ (p : PrefixValue) (ss : Selections) (j : ℕ) where
   pub selection_beyond : (s : PrefixValue × Selection) → is_sorted prefix_cmp ss ≡ true → slice_get ss j ≡ Some s → eq_by_cmp prefix_cmp s.0 p ≡ false → list_all (λ f. not (is_before p f.0)) (drop j ss) ≡ true → IsPassed p ss j None j
   selection_beyond s sorted at other from =
       let here = (and_parts (not (is_before p s.0)) (list_all (λ f. not (is_before p f.0)) (drop (j + 1) ss)) (subst (λ xs. list_all (λ f. not (is_before p f.0)) xs ≡ true) (drop_at ss j s at) from)).0 in
-      beyond (greater_from prefix_cmp prefix_total p ss j s sorted at (turned_back prefix_total s.0 p (greater_one (prefix_cmp s.0 p) here other)))
-    where
-      greater_one : (r : Ordering) → not (is_lt r) ≡ true → is_eq r ≡ false → r ≡ Greater
-      greater_one Less h e = cc
-      greater_one Equal h e = cc
-      greater_one Greater h e = refl
+      beyond (greater_from prefix_cmp prefix_total p ss j s sorted at (turned_back prefix_total s.0 p (greater_else (prefix_cmp s.0 p) here other)))
 
 -- ---- the least prefix
 is_not : (b : Bool) → (b ≡ true → false ≡ true) → b ≡ false

@@ -12,10 +12,11 @@ use Rattle.babel_value.specs.declared.keys.Peer.{Peer}
 use Rattle.babel_value.specs.Prefixes.{PrefixValue}
 use Rattle.babel_value.specs.Orders.{prefix_cmp, peer_cmp}
 use Rattle.babel_value.proofs.OrderLaws.{prefix_total, peer_total}
+use Rattle.babel_value.proofs.Orderings.{equal}
 use Rattle.babel_table.specs.Entries.{with_value}
 use Rattle.babel_table.specs.Firsts.{first_from, first_of}
 use Rattle.babel_table.specs.Places.{are_greater}
-use Rattle.babel_table.proofs.LookupLemmas.{equal, eq_turned}
+use Rattle.babel_table.proofs.LookupLemmas.{eq_turned}
 use Rattle.babel_table.proofs.PlaceLemmas.{find_gap, greater_from, head_greater, tail_greater, tail_sorted, others_greater}
 use Rattle.babel_choice.specs.declared.entries.RouteKey.{RouteKey}
 use Rattle.babel_choice.specs.declared.entries.Entry.{Entry}

@@ -15,7 +15,7 @@ pub records_append : (es fs : List (Source × Distance)) → records_octets (es 
 records_append [] fs = refl
 records_append (e ∷ es) fs = ap (λ xs. record_octets e ++ xs) (records_append es fs) ∙ sym (append_assoc (record_octets e) (records_octets es) (records_octets fs))
 
-take_next : {A : Type 0} (xs : List A) (i : ℕ) (x : A) → slice_get xs i ≡ Some x → take (suc i) xs ≡ take i xs ++ x ∷ []
+pub take_next : {A : Type 0} (xs : List A) (i : ℕ) (x : A) → slice_get xs i ≡ Some x → take (suc i) xs ≡ take i xs ++ x ∷ []
 take_next [] i x at = absurd (none-some x at)
 take_next (y ∷ ys) zero x at = ap (λ z. z ∷ []) (same_Some y x at)
 take_next (y ∷ ys) (suc i) x at = ap (λ zs. y ∷ zs) (take_next ys i x at)

@@ -9,10 +9,12 @@ use Rattle.std.proofs.Math.Seq.{take-add}
 use Rattle.std.proofs.lemmas.List.{append-nil, length-drop, length-take-le, take_all, take-append-drop}
 use Rattle.std.proofs.lemmas.List.Elements.{All-nil, All-cons, All-append}
 use Rattle.std.proofs.lemmas.Nat.{div-mul-add, mod-mul-add}
+use Rattle.std.proofs.lemmas.Bool.{not-false}
 use Rattle.byteorder.specs.Endian.{big_bytes, big_from, big_number}
 use Rattle.byteorder.specs.Numbers.{big_from-cons, big_from-lt, big_from-take, big_number-reads_back, length-bytes_high_first}
 use Rattle.babel_value.specs.declared.distances.Distance.{Distance}
 use Rattle.babel_value.specs.declared.keys.Source.{Source}
+use Rattle.babel_value.proofs.OctetLists.{take_octets, drop_octets}
 use Rattle.babel_state.specs.declared.errors.RestoreFault.{RestoreFault}
 use Rattle.babel_state.specs.declared.errors.RestoreFault.TheVariants as faults
 use Rattle.babel_snapshot.specs.Layout as layout
@@ -21,20 +23,9 @@ use Rattle.babel_snapshot.specs.Reading.{distance_in, record_in, router_in, seqn
 use Rattle.babel_snapshot.specs.SnapshotLaws.{AreOctets, IsRecord, IsWhole, ReadIsWritten}
 use Rattle.babel_snapshot.proofs.Appending.{records_append}
 use Rattle.babel_snapshot.proofs.RecordsRead.{IsRecordRead, record_read}
-use Rattle.babel_snapshot.proofs.SnapshotsRead.{or_none, from_not, no_fault, IsFine, fine, faultless, record_len, next_sources, sources_len, read_snapshot}
+use Rattle.babel_snapshot.proofs.SnapshotsRead.{or_none, no_fault, IsFine, fine, faultless, record_len, next_sources, sources_len, read_snapshot}
 
 -- ---- parts of octets
-
-take_octets : (n : ℕ) (xs : List ℕ) → AreOctets xs → AreOctets (take n xs)
-take_octets zero xs small k = omega arith
-take_octets (suc n) [] small k = omega arith
-take_octets (suc n) (x ∷ xs) small zero = small 0
-take_octets (suc n) (x ∷ xs) small (suc k) = take_octets n xs (λ j. small (suc j)) k
-
-drop_octets : (n : ℕ) (xs : List ℕ) → AreOctets xs → AreOctets (drop n xs)
-drop_octets zero xs small = small
-drop_octets (suc n) [] small = small
-drop_octets (suc n) (x ∷ xs) small = drop_octets n xs (λ j. small (suc j))
 
 -- ---- a number, and the octets that it was read of
 
@@ -150,7 +141,7 @@ begins router octets none =
     let a : Option RestoreFault = if not (bytes_eq (take 4 octets) layout.beginning) then Some faults.Beginning else b in
     let k1 = no_fault (nat_lt (length octets) 24) faults.TooShort a none in
     let k2 = no_fault (not (bytes_eq (take 4 octets) layout.beginning)) faults.Beginning b k1.1 in
-    (bytes_decides (take 4 octets) layout.beginning).0 (from_not (bytes_eq (take 4 octets) layout.beginning) k2.0)
+    (bytes_decides (take 4 octets) layout.beginning).0 (not-false (bytes_eq (take 4 octets) layout.beginning) k2.0)
 
 head_kept : (octets : List ℕ) → 24 ≤ length octets → AreOctets octets → take 4 octets ≡ layout.beginning →
     layout.beginning ++ router_in octets ++ big_bytes 2 (seqno_in octets) ++ big_bytes 8 (raises_in octets) ++ big_bytes 2 (count_in octets) ≡ take 24 octets

@@ -11,14 +11,15 @@ use Rattle.std.specs.Str.{bytes_eq}
 use Rattle.std.proofs.Common.{refl, sym, ap, subst, ◌∙◌, arith, add-one, ◌⊎◌, inl, inr}
 use Rattle.std.proofs.lemmas.List.{length-append, length-drop, length-take-le}
 use Rattle.std.proofs.lemmas.List.Elements.{All-nil, All-cons, All-append}
-use Rattle.std.proofs.lemmas.Bool.{and_parts, and_from, cases_lt, eqb-true, ltb-false, true≢false}
+use Rattle.std.proofs.lemmas.Bool.{and_parts, and_from, cases_lt, eqb-true, ltb-false, true≢false, not-false}
 use Rattle.std.proofs.lemmas.Option.{none-some, slice_get_past}
 use Rattle.babel_value.specs.declared.distances.Distance.{Distance}
 use Rattle.babel_value.specs.declared.keys.Source.{Source}
 use Rattle.babel_value.specs.Orders.{octets_cmp, source_cmp}
 use Rattle.babel_value.proofs.OrderLaws.{source_total}
+use Rattle.babel_value.proofs.Orderings.{less}
 use Rattle.babel_table.specs.Places.{are_lesser}
-use Rattle.babel_table.proofs.PlaceLemmas.{less, greater, turned, turned_back}
+use Rattle.babel_table.proofs.PlaceLemmas.{greater, turned, turned_back}
 use Rattle.babel_state.specs.Restarts.{IsFinitePair, IsSnapshot}
 use Rattle.babel_state.specs.declared.errors.RestoreFault.{RestoreFault}
 use Rattle.babel_state.specs.declared.errors.RestoreFault.TheVariants as faults
@@ -33,10 +34,6 @@ use Rattle.babel_snapshot.proofs.Orders.{sources_in_order}
 pub or_none : {A : Type 0} (m n : Option A) → option_or m n ≡ None → (m ≡ None) × (n ≡ None)
 or_none None n is = (refl, is)
 or_none (Some a) n is = absurd (none-some a (sym is))
-
-pub from_not : (b : Bool) → not b ≡ false → b ≡ true
-from_not true e = refl
-from_not false e = absurd (true≢false e)
 
 pub no_fault : (b : Bool) (f : RestoreFault) (rest : Option RestoreFault) → (if b then Some f else rest) ≡ None → (b ≡ false) × (rest ≡ None)
 no_fault true f rest is = absurd (none-some f (sym is))
@@ -56,8 +53,8 @@ unfolding record_fault
 fine i octets none =
     let a = no_fault (not (is_some (record_in (record_at i octets)))) (faults.Record i) (if not (is_in_order i octets) then Some (faults.Order i) else None) none in
     let b = no_fault (not (is_in_order i octets)) (faults.Order i) None a.1 in
-    let e = there (record_in (record_at i octets)) (from_not (is_some (record_in (record_at i octets))) a.0) in
-    record { e = e.0; is = e.1; in_order = from_not (is_in_order i octets) b.0 }
+    let e = there (record_in (record_at i octets)) (not-false (is_some (record_in (record_at i octets))) a.0) in
+    record { e = e.0; is = e.1; in_order = not-false (is_in_order i octets) b.0 }
 
 pub no_more : (n : ℕ) (octets : List ℕ) → records_fault n octets ≡ None → record_fault n octets ≡ None → records_fault (n + 1) octets ≡ None
 no_more n octets none here =
@@ -90,7 +87,7 @@ faultless router octets none =
     let k4 = no_fault (nat_lt 512 count) faults.TooManyRecords d k3.1 in
     let k5 = no_fault (not (length octets == 24 + 30 * count)) faults.Length e k4.1 in
     record {
-      whole = eqb-true (length octets) (24 + 30 * count) (from_not (length octets == 24 + 30 * count) k5.0);
+      whole = eqb-true (length octets) (24 + 30 * count) (not-false (length octets == 24 + 30 * count) k5.0);
       few = omega (arith, ltb-false 512 count k4.0);
       records = k5.1;
     }

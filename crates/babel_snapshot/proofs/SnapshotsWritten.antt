@@ -19,12 +19,14 @@ use Rattle.babel_table.proofs.PlaceLemmas.{greater_at, others_greater, tail_sort
 use Rattle.babel_state.specs.Restarts.{Snapshot, IsFinitePair}
 use Rattle.babel_state.specs.declared.errors.RestoreFault.{RestoreFault}
 use Rattle.babel_state.specs.declared.errors.RestoreFault.TheVariants as faults
+use Rattle.babel_state.proofs.Tables.{each_at}
 use Rattle.babel_snapshot.specs.Layout as layout
 use Rattle.babel_snapshot.specs.Octets.{source_octets, record_octets, records_octets, snapshot_octets}
 use Rattle.babel_snapshot.specs.Reading.{record_in, router_in, seqno_in, raises_in, count_in, record_at, key_at, sources_in, snapshot_in, is_in_order, record_fault, records_fault, restore_fault}
 use Rattle.babel_snapshot.specs.SnapshotLaws.{IsRecord, IsWhole, WrittenIsRead, OctetsAreExact}
 use Rattle.babel_snapshot.proofs.RecordsWritten.{record_octets_len, record_back, key_back}
 use Rattle.babel_snapshot.proofs.Orders.{sources_in_order}
+use Rattle.babel_snapshot.proofs.Appending.{take_next}
 
 -- ---- elements by index
 
@@ -32,16 +34,6 @@ get_there : {A : Type 0} (xs : List A) (i : ℕ) → i < length xs → (x : A) �
 get_there [] i below = absurd (omega (arith, below))
 get_there (x ∷ xs) zero below = (x, refl)
 get_there (x ∷ xs) (suc i) below = get_there xs i (omega (arith, below))
-
-take_next : {A : Type 0} (xs : List A) (i : ℕ) (x : A) → slice_get xs i ≡ Some x → take (suc i) xs ≡ take i xs ++ x ∷ []
-take_next [] i x at = absurd (none-some x at)
-take_next (y ∷ ys) zero x at = ap (λ z. z ∷ []) (same_Some y x at)
-take_next (y ∷ ys) (suc i) x at = ap (λ zs. y ∷ zs) (take_next ys i x at)
-
-all_at : {A : Type 0} (P : A → Type 0) (xs : List A) (i : ℕ) (x : A) → All P xs → slice_get xs i ≡ Some x → P x
-all_at P [] i x all at = absurd (none-some x at)
-all_at P (y ∷ ys) zero x all at = subst P (same_Some y x at) (All-head P y ys all)
-all_at P (y ∷ ys) (suc i) x all at = all_at P ys i x (All-tail P y ys all) at
 
 next_less : (es : List (Source × Distance)) (i : ℕ) (d e : Source × Distance) → is_sorted source_cmp es ≡ true → slice_get es i ≡ Some d → slice_get es (suc i) ≡ Some e → is_lt (source_cmp d.0 e.0) ≡ true
 next_less [] i d e sorted one other = absurd (none-some d one)
@@ -148,10 +140,10 @@ record_there s i e whole at =
 
 record_again : (s : Snapshot) (i : ℕ) (e : Source × Distance) → IsWhole s → slice_get s.sources i ≡ Some e → record_in (record_at i (snapshot_octets s)) ≡ Some e
 record_again s i e whole at =
-    ap record_in (record_there s i e whole at) ∙ record_back e (all_at IsRecord s.sources i e whole.records at) (all_at IsFinitePair s.sources i e whole.numbers.finite at)
+    ap record_in (record_there s i e whole at) ∙ record_back e (each_at IsRecord s.sources i e at whole.records) (each_at IsFinitePair s.sources i e at whole.numbers.finite)
 
 key_there : (s : Snapshot) (i : ℕ) (e : Source × Distance) → IsWhole s → slice_get s.sources i ≡ Some e → key_at i (snapshot_octets s) ≡ source_octets e.0
-key_there s i e whole at = ap (take 26) (record_there s i e whole at) ∙ key_back e (all_at IsRecord s.sources i e whole.records at).source
+key_there s i e whole at = ap (take 26) (record_there s i e whole at) ∙ key_back e (each_at IsRecord s.sources i e at whole.records).source
 
 ordered : (s : Snapshot) (i : ℕ) → IsWhole s → i < length s.sources → is_in_order i (snapshot_octets s) ≡ true
 ordered s zero whole below = refl
@@ -161,7 +153,7 @@ ordered s (suc i) whole below =
     let keys : octets_cmp (key_at i (snapshot_octets s)) (key_at (suc i) (snapshot_octets s)) ≡ octets_cmp (source_octets d.0.0) (source_octets e.0.0) =
     (λ k. octets_cmp (key_there s i d.0 whole d.1 k) (key_there s (suc i) e.0 whole e.1 k)) in
     let order : octets_cmp (source_octets d.0.0) (source_octets e.0.0) ≡ source_cmp d.0.0 e.0.0 =
-    sources_in_order d.0.0 e.0.0 (all_at IsRecord s.sources i d.0 whole.records d.1).source (all_at IsRecord s.sources (suc i) e.0 whole.records e.1).source in
+    sources_in_order d.0.0 e.0.0 (each_at IsRecord s.sources i d.0 d.1 whole.records).source (each_at IsRecord s.sources (suc i) e.0 e.1 whole.records).source in
     ap is_lt (keys ∙ order) ∙ next_less s.sources i d.0 e.0 whole.numbers.in_order d.1 e.1
 
 no_cause : (b : Bool) (f : RestoreFault) (rest : Option RestoreFault) → b ≡ false → rest ≡ None → (if b then Some f else rest) ≡ None

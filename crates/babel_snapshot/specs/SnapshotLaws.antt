@@ -1,5 +1,5 @@
 -- What is proved of snapshots and their octets (profile).
-use Rattle.std.specs.Prelude.{◌≡◌, ℕ, ◌<◌, ◌≤◌, false, List, All, length, slice_index, None}
+use Rattle.std.specs.Prelude.{◌≡◌, ℕ, ◌<◌, ◌≤◌, false, List, All, length, None}
 use Rattle.babel_value.specs.declared.addresses.Addr.{Addr}
 use Rattle.babel_value.specs.declared.addresses.Addr.TheVariants.{V4, V6}
 use Rattle.babel_value.specs.declared.distances.Distance.{Distance}
@@ -9,6 +9,7 @@ use Rattle.babel_value.specs.Orders.{source_cmp, octets_cmp}
 use Rattle.babel_value.specs.Prefixes.{cleared_addr}
 use Rattle.babel_value.specs.RouterIds.{is_reserved}
 use Rattle.babel_value.specs.Seqnos.{seqno_modulus}
+pub use Rattle.babel_value.specs.Octets.{AreOctets}
 use Rattle.babel_state.specs.Restarts.{Snapshot, IsSnapshot}
 use Rattle.babel_snapshot.specs.Layout as layout
 use Rattle.babel_snapshot.specs.Octets.{source_octets, snapshot_octets}
@@ -56,10 +57,6 @@ pub record IsRead (router octets : List ℕ) (snapshot : Snapshot) : Type 0 wher
 
 abbrev pub WrittenIsRead : Type 0
 WrittenIsRead = (snapshot : Snapshot) → IsWhole snapshot → IsRead snapshot.router (snapshot_octets snapshot) snapshot
-
--- Each is below 256, as each octet of a file is.
-abbrev pub AreOctets : List ℕ → Type 0
-AreOctets octets = (k : ℕ) → slice_index octets k < 256
 
 -- Octets without a fault are the octets of the snapshot that they encode, and that one is whole: no two lists of octets encode the same snapshot.
 pub record IsWritten (octets : List ℕ) : Type 0 where

@@ -1,2 +1,3 @@
 pub mod CollectionLemmas
 pub mod DueLemmas
+pub mod PairLemmas

@@ -1,6 +1,5 @@
 -- What the laws of a state say of a call.
-use Rattle.std.specs.Prelude.{◌≡◌, ◌↔◌, ℕ, Bool, true, false, List, Option, Some, None, Result, Ok, Err, IsOk, IsErr, IsNone, IfSome}
-use Rattle.std.specs.Prelude.{IsSome}
+use Rattle.std.specs.Prelude.{◌≡◌, ◌↔◌, ℕ, Bool, true, false, List, Option, Some, None, Result, Ok, Err, IsOk, IsErr, IsNone, IsSome, is_some, IfSome}
 use Rattle.std.specs.Option.{option_and_then}
 use Rattle.std.proofs.Common.{refl, sym, subst, ◌∙◌}
 use Rattle.std.proofs.lemmas.Bool.{false≢true}
@@ -31,6 +30,10 @@ through R old core new after view is law = subst (λ o. R o new) view (subst (R 
 none_is : {X : Type 0} (m : Option X) → IsNone m → m ≡ None
 none_is None e = refl
 none_is (Some x) e = absurd (false≢true (sym e))
+
+pub none_if_false : {A : Type 0} (o : Option A) → is_some o ≡ false → o ≡ None
+none_if_false None none = refl
+none_if_false (Some x) none = cc
 
 pub free_if_ok : {T E X : Type 0} (result : Result T E) (x : T) (m : Option X) → (IsOk result ↔ IsNone m) → result ≡ Ok x → m ≡ None
 free_if_ok result x m iff is = none_is m (iff.0 (subst IsOk (sym is) refl))

@@ -1,9 +1,10 @@
 -- Lists that a tick walks.
-use Rattle.std.proofs.Common.{◌≡◌, ℕ, ◌+◌, zero, suc, List, [], ◌∷◌, ◌++◌, drop, length, slice_get, Some, None, refl, ap, ◌∙◌, sym, add-one}
-use Rattle.std.specs.Option.{unwrap_or}
+use Rattle.std.proofs.Common.{◌≡◌, ℕ, ◌+◌, suc, List, [], ◌∷◌, ◌++◌, drop, length, slice_get, Some, None, refl, ap, ◌∙◌, sym, add-one}
+use Rattle.std.proofs.Math.Seq.{drop-length}
 use Rattle.babel_value.specs.declared.keys.Source.{Source}
 use Rattle.babel_link.specs.Neighbours.{Links}
 use Rattle.babel_choice.specs.Routes.{RouteEntries}
+use Rattle.babel_choice.proofs.RunLemmas.{drop_past}
 use Rattle.babel_sources.specs.Sources.{Sources}
 use Rattle.babel_state.specs.declared.requests.PendingRequest.{PendingRequest}
 use Rattle.babel_state.specs.declared.interfaces.InterfaceEntry.{InterfaceEntry}
@@ -11,8 +12,8 @@ use Rattle.babel_state.specs.declared.items.Item.{Item}
 use Rattle.babel_value.specs.Prefixes.{PrefixValue}
 use Rattle.babel_state.specs.PendingRequests.{PendingRequests}
 use Rattle.babel_state.specs.Queueing.{Pending, queued, queued_at_once}
-use Rattle.babel_speaker.proofs.Walking.{drop_past}
 use Rattle.babel_speaker.specs.TickItems.{repeats_of, all_repeats_of, timers_of, all_timers_of}
+use Rattle.babel_speaker.proofs.Earliest.{drop_at, drop_past_next}
 
 -- Queueing two lists is queueing one after the other.
 pub queued_both : (xs ys : List Item) (p : Pending) → queued (xs ++ ys) p ≡ queued ys (queued xs p)
@@ -21,16 +22,6 @@ queued_both [] ys p = refl
 queued_both (x ∷ xs) ys p = queued_both xs ys (queued_at_once (x ∷ []) p)
 
 -- ---- one element after the other
-
-drop_at : {X : Type 0} (xs : List X) (k : ℕ) (x : X) → slice_get xs k ≡ Some x → drop k xs ≡ x ∷ drop (suc k) xs
-drop_at [] k x is = cc
-drop_at (y ∷ ys) zero x is = ap (λ o. unwrap_or o y ∷ ys) is
-drop_at (y ∷ ys) (suc k) x is = drop_at ys k x is
-
-drop_past_next : {X : Type 0} (xs : List X) (k : ℕ) → slice_get xs k ≡ None → drop (suc k) xs ≡ []
-drop_past_next [] k is = refl
-drop_past_next (y ∷ ys) zero is = cc
-drop_past_next (y ∷ ys) (suc k) is = drop_past_next ys k is
 
 pub one_repeated : (now : ℕ) (sources : Sources) (entries : RouteEntries) (rs : PendingRequests) (k : ℕ) (e : Source × PendingRequest) (p p2 : Pending) →
     slice_get rs k ≡ Some e → p2 ≡ queued (repeats_of now sources entries e) p →
@@ -63,14 +54,10 @@ none_timed now links prefixes is k p at =
 
 -- ---- ends
 
-drop_all : {X : Type 0} (xs : List X) → drop (length xs) xs ≡ []
-drop_all [] = refl
-drop_all (x ∷ xs) = drop_all xs
-
 pub nothing_repeated : (now : ℕ) (sources : Sources) (entries : RouteEntries) (rs : PendingRequests) (p : Pending) → queued (all_repeats_of now sources entries (drop (length rs) rs)) p ≡ p
 unfolding queued
-nothing_repeated now sources entries rs p = ap (λ es. queued (all_repeats_of now sources entries es) p) (drop_all rs)
+nothing_repeated now sources entries rs p = ap (λ es. queued (all_repeats_of now sources entries es) p) (drop-length rs)
 
 pub nothing_timed : (now : ℕ) (links : Links) (prefixes : List PrefixValue) (is : List InterfaceEntry) (iface : ℕ) (p : Pending) → queued (all_timers_of now links prefixes iface (drop (length is) is)) p ≡ p
 unfolding queued
-nothing_timed now links prefixes is iface p = ap (λ es. queued (all_timers_of now links prefixes iface es) p) (drop_all is)
+nothing_timed now links prefixes is iface p = ap (λ es. queued (all_timers_of now links prefixes iface es) p) (drop-length is)

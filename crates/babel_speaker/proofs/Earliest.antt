@@ -2,7 +2,9 @@
 use Rattle.std.proofs.Common.{◌≡◌, ℕ, zero, suc, ◌+◌, ◌≤◌, List, [], ◌∷◌, ◌++◌, map, drop, length, slice_get, Some, None, min, refl, ap, sym, ◌∙◌, add-one, arith}
 use Rattle.std.specs.Option.{unwrap_or}
 use Rattle.std.proofs.Math.Nat.{min-le_left}
+use Rattle.std.proofs.Math.Seq.{drop-length}
 use Rattle.babel_speaker.specs.Deadlines.{earliest}
+use Rattle.babel_choice.proofs.RunLemmas.{drop_past}
 
 pub earliest_both : (moment : ℕ) (xs ys : List ℕ) → earliest moment (xs ++ ys) ≡ earliest (earliest moment xs) ys
 earliest_both moment [] ys = refl
@@ -14,25 +16,15 @@ no_later moment (x ∷ xs) = omega (arith, no_later (min moment x) xs, min-le_le
 
 -- ---- the elements of a list by their indices
 
-drop_at : {X : Type 0} (xs : List X) (k : ℕ) (x : X) → slice_get xs k ≡ Some x → drop k xs ≡ x ∷ drop (suc k) xs
+pub drop_at : {X : Type 0} (xs : List X) (k : ℕ) (x : X) → slice_get xs k ≡ Some x → drop k xs ≡ x ∷ drop (suc k) xs
 drop_at [] k x is = cc
 drop_at (y ∷ ys) zero x is = ap (λ o. unwrap_or o y ∷ ys) is
 drop_at (y ∷ ys) (suc k) x is = drop_at ys k x is
 
-drop_past : {X : Type 0} (xs : List X) (k : ℕ) → slice_get xs k ≡ None → drop k xs ≡ []
-drop_past [] zero is = refl
-drop_past [] (suc k) is = refl
-drop_past (y ∷ ys) zero is = cc
-drop_past (y ∷ ys) (suc k) is = drop_past ys k is
-
-drop_past_next : {X : Type 0} (xs : List X) (k : ℕ) → slice_get xs k ≡ None → drop (suc k) xs ≡ []
+pub drop_past_next : {X : Type 0} (xs : List X) (k : ℕ) → slice_get xs k ≡ None → drop (suc k) xs ≡ []
 drop_past_next [] k is = refl
 drop_past_next (y ∷ ys) zero is = cc
 drop_past_next (y ∷ ys) (suc k) is = drop_past_next ys k is
-
-drop_all : {X : Type 0} (xs : List X) → drop (length xs) xs ≡ []
-drop_all [] = refl
-drop_all (x ∷ xs) = drop_all xs
 
 module _ {X : Type 0} (f : X → ℕ) (xs : List X) where
   pub one_passed : (k : ℕ) (x : X) (moment after : ℕ) → slice_get xs k ≡ Some x → after ≡ min moment (f x) → earliest after (map f (drop (k + 1) xs)) ≡ earliest moment (map f (drop k xs))
@@ -47,4 +39,4 @@ module _ {X : Type 0} (f : X → ℕ) (xs : List X) where
 
   pub all_passed : (k moment whole : ℕ) → k ≡ length xs → earliest moment (map f (drop k xs)) ≡ whole → moment ≡ whole
   all_passed k moment whole all is =
-      sym (ap (λ es. earliest moment (map f es)) (ap (λ n. drop n xs) all ∙ drop_all xs)) ∙ is
+      sym (ap (λ es. earliest moment (map f es)) (ap (λ n. drop n xs) all ∙ drop-length xs)) ∙ is

@@ -2,12 +2,12 @@
 use Rattle.std.proofs.Common.{◌≡◌, ◌||◌, ℕ, List, Option, true, false, Bool, cond, [], ◌∷◌, filter, not, refl, sym, ap, ◌∙◌}
 use Rattle.std.specs.List.{list_any}
 use Rattle.std.specs.Ordering.{is_eq}
-use Rattle.babel_table.proofs.LookupLemmas.{equal}
 use Rattle.babel_value.specs.declared.distances.Distance.{Distance}
 use Rattle.babel_value.specs.declared.keys.Source.{Source}
 use Rattle.babel_value.specs.Prefixes.{PrefixValue}
 use Rattle.babel_value.specs.Orders.{octets_cmp}
 use Rattle.babel_value.proofs.OrderLaws.{octets_exact}
+use Rattle.babel_value.proofs.Orderings.{equal}
 use Rattle.babel_choice.specs.Routes.{Route, RouteEntries}
 use Rattle.babel_choice.specs.Choices.{is_of, routes_of}
 use Rattle.babel_sources.specs.Distances.{is_feasible}

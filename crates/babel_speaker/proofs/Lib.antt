@@ -10,7 +10,6 @@ pub mod RequestsKept
 pub mod Snapshots
 pub mod Counting
 pub mod Networks
-pub mod Walking
 pub mod Gathering
 pub mod Reaching
 pub mod Runs
@@ -24,7 +23,6 @@ pub mod Removing
 pub mod Staleness
 pub mod RestoredSources
 pub mod DueItems
-pub mod Retractions
 pub mod TickLists
 pub mod QuietTicks
 pub mod Settling

@@ -15,9 +15,9 @@ use Rattle.babel_value.specs.Metrics.{infinity, metric_sum}
 use Rattle.babel_value.specs.Orders.{prefix_cmp, peer_cmp}
 use Rattle.babel_value.specs.Prefixes.{PrefixValue}
 use Rattle.babel_value.proofs.OrderLaws.{prefix_total, peer_exact}
+use Rattle.babel_value.proofs.Orderings.{equal}
 use Rattle.babel_table.specs.Entries.{with_value, without}
 use Rattle.babel_table.specs.Places.{IsAt}
-use Rattle.babel_table.proofs.LookupLemmas.{equal}
 use Rattle.babel_table.proofs.PlaceLemmas.{find_hit, put_hit, without_hit}
 use Rattle.babel_table.proofs.FirstLemmas.{none_first}
 use Rattle.babel_table.specs.Firsts.{first_of}

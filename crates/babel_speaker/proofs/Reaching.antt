@@ -12,14 +12,15 @@ use Rattle.std.proofs.lemmas.List.{length-map}
 use Rattle.babel_value.specs.Orders.{prefix_cmp}
 use Rattle.babel_value.specs.Prefixes.{PrefixValue}
 use Rattle.babel_value.proofs.OrderLaws.{prefix_total, prefix_exact}
+use Rattle.babel_value.proofs.Orderings.{less}
 use Rattle.babel_table.specs.Places.{are_greater}
-use Rattle.babel_table.proofs.PlaceLemmas.{less, turned, turned_back, head_greater, others_greater, tail_sorted, greater_from}
+use Rattle.babel_table.proofs.PlaceLemmas.{turned, turned_back, head_greater, others_greater, tail_sorted, greater_from}
 use Rattle.babel_choice.specs.Choices.{Selections}
 use Rattle.babel_choice.specs.declared.entries.Selection.{Selection}
+use Rattle.babel_choice.proofs.RunLemmas.{drop_at, drop_past}
 use Rattle.babel_state.specs.State.{PrefixSet, gathered, prefixes_in}
 use Rattle.babel_speaker.specs.Reaching.{reachable_of}
 use Rattle.babel_speaker.proofs.Gathering.{gathered_both}
-use Rattle.babel_speaker.proofs.Walking.{drop_at, drop_past}
 
 -- ---- prefixes after another one
 

@@ -8,7 +8,7 @@ use Rattle.std.specs.FinMap.{find, put, is_sorted}
 use Rattle.std.proofs.Common.{refl, sym, ap, ◌∙◌, arith, add-one}
 use Rattle.std.proofs.lemmas.Bool.{and_parts, and_from}
 use Rattle.std.proofs.lemmas.List.{map-append}
-use Rattle.std.proofs.lemmas.Option.{none-some, same_Some}
+use Rattle.std.proofs.lemmas.Option.{none-some}
 use Rattle.babel_value.specs.declared.distances.Distance.{Distance}
 use Rattle.babel_value.specs.declared.keys.Source.{Source}
 use Rattle.babel_value.specs.Orders.{source_cmp}
@@ -17,6 +17,7 @@ use Rattle.babel_table.specs.Places.{are_lesser}
 use Rattle.babel_table.proofs.PlaceLemmas.{greater, turned, greater_at, others_greater, tail_sorted}
 use Rattle.babel_sources.specs.Sources.{Sources, pair_of, lowered, source_entry_after}
 use Rattle.babel_state.specs.Restarts.{restored_source, restored_sources}
+use Rattle.babel_snapshot.proofs.Appending.{take_next}
 
 -- ---- entries after lesser ones
 
@@ -46,11 +47,6 @@ module _ {K V : Type 0} (R : K → K → Ordering) where
 lesser_restored : (now : ℕ) (k : Source) (es : List (Source × Distance)) → are_lesser source_cmp k (restored_sources now es) ≡ are_lesser source_cmp k es
 lesser_restored now k [] = refl
 lesser_restored now k (e ∷ es) = λ i. is_gt (source_cmp k e.0) && lesser_restored now k es i
-
-take_next : {A : Type 0} (xs : List A) (i : ℕ) (x : A) → slice_get xs i ≡ Some x → take (suc i) xs ≡ take i xs ++ x ∷ []
-take_next [] i x at = absurd (none-some x at)
-take_next (y ∷ ys) zero x at = ap (λ z. z ∷ []) (same_Some y x at)
-take_next (y ∷ ys) (suc i) x at = ap (λ zs. y ∷ zs) (take_next ys i x at)
 
 pub lesser_sources : (now : ℕ) (es : List (Source × Distance)) (i : ℕ) (e : Source × Distance) → is_sorted source_cmp es ≡ true → slice_get es i ≡ Some e →
     are_lesser source_cmp e.0 (restored_sources now (take i es)) ≡ true

@@ -10,7 +10,7 @@ use Rattle.babel_state.specs.declared.items.Item.TheVariants.{Update}
 use Rattle.babel_state.specs.declared.items.Target.{Target}
 use Rattle.babel_state.specs.Queueing.{Pending, counted, last_ones, queued}
 use Rattle.babel_speaker.specs.PendingItems.{updates_only}
-use Rattle.babel_speaker.proofs.Walking.{drop_at}
+use Rattle.babel_choice.proofs.RunLemmas.{drop_at}
 
 -- What is pending: the items, and then the Updates of the run.
 abbrev pub with_run : List Item → Target → List PrefixValue → ℕ → Pending

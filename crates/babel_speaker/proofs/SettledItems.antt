@@ -13,9 +13,9 @@ use Rattle.babel_value.specs.declared.keys.Source.{Source}
 use Rattle.babel_value.specs.Orders.{octets_cmp, prefix_cmp}
 use Rattle.babel_value.specs.Prefixes.{PrefixValue}
 use Rattle.babel_value.proofs.OrderLaws.{prefix_exact, source_exact}
+use Rattle.babel_value.proofs.Orderings.{equal}
 use Rattle.babel_message.specs.declared.messages.Message.{Message}
 use Rattle.babel_message.specs.declared.messages.Message.TheVariants as messages
-use Rattle.babel_table.proofs.LookupLemmas.{equal}
 use Rattle.babel_table.specs.Firsts.{first_of}
 use Rattle.babel_route.specs.Currency.{is_current}
 use Rattle.babel_sources.specs.Distances.{improves_on, better_pair, is_feasible}
@@ -23,17 +23,19 @@ use Rattle.babel_choice.specs.Routes.{Route, RouteEntries}
 use Rattle.babel_choice.specs.Choices.{is_of, routes_of, source_of, is_candidate, route_metric, preference, peer_before, selection_of}
 use Rattle.babel_route.specs.Selections.{RoutesValue, IsCurrent, selection_at, choice_at}
 use Rattle.babel_sources.specs.Sources.{Sources, pair_of, lowered}
+use Rattle.babel_sources.proofs.PairLemmas.{pair_lowered}
 use Rattle.babel_route.proofs.CurrencyLemmas.{same_selection}
 use Rattle.babel_state.specs.declared.interfaces.InterfaceEntry.{InterfaceEntry}
 use Rattle.babel_state.specs.declared.items.Outgoing.TheVariants as outgoings
 use Rattle.babel_state.specs.declared.items.Target.{Target}
 use Rattle.babel_state.specs.State.{State, interface_at, announces, cost_at, with_interface}
-use Rattle.babel_state.specs.NextDatagram.{draft_with, next_hello, after_message}
+use Rattle.babel_state.specs.NextDatagram.{next_hello, after_message}
 use Rattle.babel_state.specs.CurrentSelections.{IsCurrentAt, AreCurrent}
-use Rattle.babel_state.specs.StepLaws.{KnownValue, known_of}
+use Rattle.babel_state.specs.StepLaws.{known_of}
 use Rattle.babel_state.proofs.DatagramsSent.{costs_kept, announces_kept}
-use Rattle.babel_state.proofs.SendingLaws.{pair_lowered, one_known}
-use Rattle.babel_speaker.specs.SentMessages.{changes_a_pair, named_prefix, is_named_current, no_draft}
+use Rattle.babel_state.proofs.SendingLaws.{message_known}
+use Rattle.babel_state.proofs.StayingCurrent.{routes_kept}
+use Rattle.babel_speaker.specs.SentMessages.{changes_a_pair, named_prefix, is_named_current}
 
 -- ---- pairs that stay
 
@@ -86,10 +88,6 @@ with_pairs sources others cost prefix false routes kept current =
     (same_of prefix (is_candidate sources cost) (is_candidate others cost)
     (λ r is. ap (λ pair. is_feasible pair r.1.distance && nat_lt (route_metric cost r) 65535) (sym (kept (source_of r) is))) routes.entries)
 
-routes_kept : (s t : State) → known_of t ≡ known_of s → t.routes ≡ s.routes
-unfolding known_of
-routes_kept s t same = ap (λ (k : KnownValue). k.routes) same
-
 -- What changes neither what is known nor a pair of the prefix keeps its selection current.
 same_current : (s t : State) → known_of t ≡ known_of s → (p : PrefixValue) → ArePairsKept p s.sources t.sources → IsCurrentAt p s → IsCurrentAt p t
 same_current s t known p pairs current =
@@ -99,10 +97,6 @@ same_current s t known p pairs current =
     (with_pairs s.sources t.sources (cost_at s) p (announces p s) s.routes pairs current)))
 
 -- ---- a message that is sent
-
-message_known : (now : ℕ) (target : Target) (m : Message) (s : State) → known_of (after_message now target m s) ≡ known_of s
-unfolding draft_with
-message_known now target m s = one_known s now (λ t ms x. true) (no_draft s) (outgoings.Message target m) refl
 
 hello_sources : (iface : ℕ) (s : State) → (with_interface iface next_hello s).sources ≡ s.sources
 hello_sources iface s = by (interface_at iface s)

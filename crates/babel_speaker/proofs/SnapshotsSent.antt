@@ -11,9 +11,9 @@ use Rattle.babel_value.specs.declared.distances.Distance.{Distance}
 use Rattle.babel_value.specs.declared.keys.Source.{Source}
 use Rattle.babel_value.specs.Orders.{source_cmp}
 use Rattle.babel_value.proofs.OrderLaws.{source_exact, source_total}
+use Rattle.babel_value.proofs.Orderings.{equal}
 use Rattle.babel_message.specs.declared.messages.Message.{Message}
 use Rattle.babel_message.specs.declared.messages.Message.TheVariants as messages
-use Rattle.babel_table.proofs.LookupLemmas.{equal}
 use Rattle.babel_sources.specs.declared.sources.SourceEntry.{SourceEntry}
 use Rattle.babel_sources.specs.Distances.{improves_on}
 use Rattle.babel_sources.specs.Sources.{Sources, pair_of, source_entry_after, lowered}

@@ -13,8 +13,8 @@ use Rattle.babel_value.specs.declared.keys.Peer.{Peer}
 use Rattle.babel_value.specs.Orders.{prefix_cmp, peer_cmp}
 use Rattle.babel_value.specs.Prefixes.{PrefixValue}
 use Rattle.babel_value.proofs.OrderLaws.{prefix_total, prefix_exact, peer_total, peer_exact}
+use Rattle.babel_value.proofs.Orderings.{equal}
 use Rattle.babel_table.specs.Entries.{with_value}
-use Rattle.babel_table.proofs.LookupLemmas.{equal}
 use Rattle.babel_table.proofs.PlaceLemmas.{holds, so, sorted_put, sorted_without}
 use Rattle.babel_choice.specs.declared.entries.Selection.{Selection}
 use Rattle.babel_route.specs.Currency.{is_current}

@@ -11,9 +11,10 @@ use Rattle.babel_value.specs.declared.keys.Peer.{Peer}
 use Rattle.babel_value.specs.Orders.{prefix_cmp}
 use Rattle.babel_value.specs.Prefixes.{PrefixValue}
 use Rattle.babel_value.proofs.OrderLaws.{prefix_total, prefix_exact}
+use Rattle.babel_value.proofs.Orderings.{equal}
 use Rattle.babel_table.specs.Entries.{without}
 use Rattle.babel_table.specs.Firsts.{first_of}
-use Rattle.babel_table.proofs.LookupLemmas.{equal, eq_turned, find_with_value}
+use Rattle.babel_table.proofs.LookupLemmas.{eq_turned, find_with_value}
 use Rattle.babel_choice.specs.declared.entries.Selection.{Selection}
 use Rattle.babel_route.specs.Currency.{is_same_selection, is_current}
 use Rattle.babel_choice.specs.Choices.{others_of, Selections, is_of, routes_of, is_candidate, preference, peer_before, selection_of, choice}
@@ -107,9 +108,6 @@ module _ (sources : Sources) (cost : Peer → ℕ) (announced : PrefixSet) (rout
 
   abbrev pub AreDone : PrefixSet → RoutesValue → Type 0
   AreDone set rest = (p : PrefixValue) → IsDone set rest p
-
-  pub none_done : AreDone [] routes
-  none_done p = inr (refl, record { routes = refl; selection = refl })
 
   pub all_done : (set : PrefixSet) → AreDone set empty → (p : PrefixValue) → has_prefix p (prefixes_in set) ≡ is_stale sources cost announced routes p
   all_done set done p = by (done p)

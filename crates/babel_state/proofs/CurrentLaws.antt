@@ -1,20 +1,17 @@
 -- After all prefixes were reselected, the selection is current at each of them.
 use Rattle.std.specs.Prelude.{◌≡◌, ℕ, Bool, true, false, cond, ◌||◌, List, [], ◌∷◌, map, slice_get, Option, Some, None, is_some}
-use Rattle.std.specs.List.{cons_option}
 use Rattle.std.specs.Option.{option_map, option_map_or}
-use Rattle.std.specs.declared.cmp.Ordering.{Ordering}
-use Rattle.std.specs.Ordering.{eq_by_cmp, is_lt}
-use Rattle.std.specs.FinMap.{find, put, is_sorted}
-use Rattle.std.specs.FinMap.Entries.{below_all, find-put, is_some-find}
+use Rattle.std.specs.Ordering.{eq_by_cmp}
+use Rattle.std.specs.FinMap.{find, put}
+use Rattle.std.specs.FinMap.Entries.{find-put, is_some-find}
 use Rattle.std.proofs.Common.{refl, sym, ◌∙◌, ap, subst}
-use Rattle.std.proofs.lemmas.Bool.{and_parts, and_from}
 use Rattle.std.proofs.lemmas.Option.{slice_get-map}
 use Rattle.babel_value.specs.declared.keys.Peer.{Peer}
 use Rattle.babel_value.specs.Orders.{prefix_cmp}
 use Rattle.babel_value.proofs.OrderLaws.{prefix_total}
 use Rattle.babel_value.specs.Prefixes.{PrefixValue}
 use Rattle.babel_link.specs.Neighbours.{cost_of, gone_of, tick_of}
-use Rattle.babel_table.specs.Entries.{revised_entries}
+use Rattle.babel_table.proofs.RevisionLemmas.{sorted_revised}
 use Rattle.babel_choice.specs.RouteKeys.{route_cmp}
 use Rattle.babel_choice.specs.Routes.{kept_without, expired_entry}
 use Rattle.babel_route.specs.RouteLaws.{each_reselected}
@@ -100,25 +97,6 @@ reselections_current now s sorted p =
 
 -- ---- the order of the routes
 
-below_revised : {K V : Type 0} (R : K → K → Ordering) (f : K → V → Option V) (x : K) (es : List (K × V)) → below_all R x es ≡ true → below_all R x (revised_entries f es) ≡ true
-below_revised R f x [] below = refl
-below_revised {K} {V} R f x (e ∷ es) below =
-    let parts = and_parts (is_lt (R x e.0)) (below_all R x es) below in by (f e.0 e.1) parts.0 (below_revised R f x es parts.1)
-  where
-    by : (r : Option V) → is_lt (R x e.0) ≡ true → below_all R x (revised_entries f es) ≡ true → below_all R x (cons_option (option_map (λ v. (e.0, v)) r) (revised_entries f es)) ≡ true
-    by None here rest = rest
-    by (Some v) here rest = and_from (is_lt (R x e.0)) (below_all R x (revised_entries f es)) here rest
-
-pub sorted_revised : {K V : Type 0} (R : K → K → Ordering) (f : K → V → Option V) (es : List (K × V)) → is_sorted R es ≡ true → is_sorted R (revised_entries f es) ≡ true
-sorted_revised R f [] sorted = refl
-sorted_revised {K} {V} R f (e ∷ es) sorted =
-    let parts = and_parts (below_all R e.0 es) (is_sorted R es) sorted in
-    by (f e.0 e.1) (below_revised R f e.0 es parts.0) (sorted_revised R f es parts.1)
-  where
-    by : (r : Option V) → below_all R e.0 (revised_entries f es) ≡ true → is_sorted R (revised_entries f es) ≡ true → is_sorted R (cons_option (option_map (λ v. (e.0, v)) r) (revised_entries f es)) ≡ true
-    by None here rest = rest
-    by (Some v) here rest = and_from (below_all R e.0 (revised_entries f es)) (is_sorted R (revised_entries f es)) here rest
-
 forgets_sorted : (peers : List Peer) (s : State) → AreRoutesInOrder s → AreRoutesInOrder (forget_each peers s)
 forgets_sorted [] s sorted = sorted
 forgets_sorted (peer ∷ peers) s sorted =
@@ -128,7 +106,7 @@ links_sorted : (now : ℕ) (s : State) → AreRoutesInOrder s → AreRoutesInOrd
 unfolding links_ticked
 links_sorted now s sorted = forgets_sorted (gone_of now s.neighbours) (record s { neighbours = tick_of now s.neighbours }) sorted
 
-all_sorted : (now : ℕ) (s : State) → AreRoutesInOrder s → AreRoutesInOrder (reselect_all now s)
+pub all_sorted : (now : ℕ) (s : State) → AreRoutesInOrder s → AreRoutesInOrder (reselect_all now s)
 unfolding base_of
 all_sorted now s sorted = subst AreRoutesInOrder (sym (all_base now s)) sorted
 

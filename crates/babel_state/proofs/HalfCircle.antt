@@ -1,5 +1,5 @@
 -- While the seqnos of a prefix lie in one half of the circle, sending keeps its selection current.
-use Rattle.std.specs.Prelude.{◌≡◌, ℕ, ◌<◌, ◌≤◌, Bool, true, false, ◌||◌, not, nat_lt, List, [], ◌∷◌, All, filter, slice_get, slice_index_or, Option, Some, None, if◌then◌else◌}
+use Rattle.std.specs.Prelude.{◌≡◌, ℕ, ◌<◌, Bool, true, false, ◌||◌, not, nat_lt, List, [], ◌∷◌, All, filter, slice_get, slice_index_or, Option, Some, None, if◌then◌else◌}
 use Rattle.std.specs.Option.{option_map}
 use Rattle.std.proofs.Common.{refl, sym, ap, subst, ◌∙◌, arith, inl, inr}
 use Rattle.std.proofs.lemmas.Bool.{or_right, false≢true}
@@ -13,6 +13,8 @@ use Rattle.babel_value.specs.Orders.{source_cmp}
 use Rattle.babel_value.specs.Prefixes.{PrefixValue}
 use Rattle.babel_value.specs.Seqnos.{lift, is_before}
 use Rattle.babel_value.proofs.OrderLaws.{source_exact}
+use Rattle.babel_value.proofs.Orderings.{equal}
+use Rattle.babel_value.proofs.Lifting.{order_lifted}
 use Rattle.babel_message.specs.declared.messages.Message.{Message}
 use Rattle.babel_choice.specs.declared.entries.RouteKey.{RouteKey}
 use Rattle.babel_choice.specs.declared.entries.Selection.{Selection}
@@ -29,14 +31,11 @@ use Rattle.babel_state.specs.NextDatagram.{next_datagram}
 use Rattle.babel_state.specs.Seen.{UpdateValue, seen, updates_among, is_of_source, all_lowered, Advertises, IsOwnUpdate, IsRouteUpdate}
 use Rattle.babel_state.specs.State.{State, announces, pair_at, selected_at}
 use Rattle.babel_state.proofs.DatagramsSent.{AreSent, draft_of, selected_stay}
-use Rattle.babel_state.proofs.SendingLaws.{sending_known, sending_lowers, equal_of}
+use Rattle.babel_state.proofs.SendingLaws.{sending_known, sending_lowers}
 use Rattle.babel_state.proofs.SendingTables.{sending_well}
 use Rattle.babel_state.proofs.StayingCurrent.{route_at, stays_current, revives_none}
 
 -- ---- in one half the order is transitive
-
-order_lifted : (first a b : ℕ) → first < 65536 → a < 65536 → b < 65536 → lift first a ≤ 32767 → lift first b ≤ 32767 → is_before a b ≡ nat_lt (lift first a) (lift first b)
-order_lifted first a b f0 a0 b0 la lb = grind (arith, nat_tests)
 
 better_through : (first : ℕ) (d u e : Distance) → first < 65536 → IsInHalf first d.seqno → IsInHalf first u.seqno → IsInHalf first e.seqno → is_better d u ≡ true → is_better u e ≡ true → is_better d e ≡ true
 better_through first d u e f0 hd hu he du ue =
@@ -98,7 +97,7 @@ module _ (s : State) (first : ℕ) (prefix : PrefixValue) (half : AreInHalf firs
   update_half router u of_source advertised =
       let one : Source = record { prefix = prefix; router = router } in
       let two : Source = record { prefix = u.prefix; router = u.router } in
-      by (ap (λ (k : Source). k.prefix) (source_exact one two (equal_of (source_cmp one two) of_source))) advertised
+      by (ap (λ (k : Source). k.prefix) (source_exact one two (equal (source_cmp one two) of_source))) advertised
     where
       by : prefix ≡ u.prefix → Advertises (seen s) u → IsInHalf first u.distance.seqno
       by same (inl own) = own_half u same own

@@ -11,6 +11,7 @@ use Rattle.babel_value.specs.declared.distances.Distance.{Distance}
 use Rattle.babel_value.specs.declared.keys.Peer.{Peer}
 use Rattle.babel_value.specs.declared.keys.Source.{Source}
 use Rattle.babel_value.specs.Prefixes.{PrefixValue}
+use Rattle.babel_value.proofs.Orderings.{equal}
 use Rattle.babel_link.specs.declared.marks.Heard.{Heard}
 use Rattle.babel_link.specs.declared.marks.Heard.TheVariants.{Kept, Flush}
 use Rattle.babel_link.specs.Neighbours.{hello_of, hello_verdict, ihu_of, gone_of, tick_of}
@@ -24,7 +25,7 @@ use Rattle.babel_table.specs.Entries.{revised_entries}
 use Rattle.babel_choice.specs.RouteKeys.{route_cmp, route_total, route_exact}
 use Rattle.babel_choice.specs.Routes.{RouteEntries, key_of, is_from, entry_of_update, updated, retracted_entry, retracted, retracted_from, retracted_all, has_routes_from, kept_without, forgotten, expired_entry, expired}
 use Rattle.babel_table.proofs.PlaceLemmas.{so, holds, find_revised}
-use Rattle.babel_table.proofs.LookupLemmas.{equal}
+use Rattle.babel_table.proofs.RevisionLemmas.{sorted_revised}
 use Rattle.babel_state.specs.declared.notes.Verdict.TheVariants as verdicts
 use Rattle.babel_state.specs.declared.requests.Resend.TheVariants.{Never}
 use Rattle.babel_state.specs.Sameness.{is_same_router}
@@ -41,7 +42,6 @@ use Rattle.babel_state.specs.Ticks.{forget_each, links_ticked, routes_ticked, re
 use Rattle.babel_state.specs.SeenLaws.{MessagesAreHeard, TicksHearNothing}
 use Rattle.babel_state.specs.StepLaws.{kept_of, base_of}
 use Rattle.babel_state.proofs.Reselecting.{if_kept, queue_kept, requests_kept, asks_kept, base_kept, reselects_base, all_base}
-use Rattle.babel_state.proofs.CurrentLaws.{sorted_revised}
 
 -- ---- entries
 
@@ -164,7 +164,7 @@ on_base peer us s t r same p = subst (λ k. Fine peer us s k) (sym same) p
 on_kept : (peer : Peer) (us : List UpdateValue) (s t r : State) → kept_of t ≡ kept_of r → Fine peer us s r → Fine peer us s t
 on_kept peer us s t r same p = on_base peer us s t r (base_kept r t same) p
 
-advertise_if_kept : (prefix : PrefixValue) (s : State) → kept_of (advertise_if_selected prefix s) ≡ kept_of s
+pub advertise_if_kept : (prefix : PrefixValue) (s : State) → kept_of (advertise_if_selected prefix s) ≡ kept_of s
 advertise_if_kept prefix s = if_kept _ _ _ _ (queue_kept _ s) refl
 
 pub satisfy_kept : (source : Source) (seqno : ℕ) (s : State) → kept_of (satisfy_request source seqno s) ≡ kept_of s

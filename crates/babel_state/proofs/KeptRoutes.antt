@@ -11,12 +11,12 @@ use Rattle.babel_value.specs.declared.keys.Source.{Source}
 use Rattle.babel_value.specs.Orders.{addr_cmp, octets_cmp, peer_cmp, prefix_cmp}
 use Rattle.babel_value.proofs.OrderLaws.{addr_exact, octets_exact, peer_exact}
 use Rattle.babel_value.specs.Prefixes.{PrefixValue}
+use Rattle.babel_value.proofs.Orderings.{equal}
 use Rattle.babel_link.specs.declared.links.Link.{Link}
 use Rattle.babel_link.specs.declared.marks.Heard.{Heard}
 use Rattle.babel_link.specs.declared.marks.Heard.TheVariants.{Kept, Flush}
 use Rattle.babel_link.specs.Links.{hello_link, ihu_link}
 use Rattle.babel_link.specs.Neighbours.{link_of, hello_of, hello_verdict, ihu_of, cost_of}
-use Rattle.babel_table.proofs.LookupLemmas.{equal}
 use Rattle.babel_choice.specs.declared.entries.Selection.{Selection}
 use Rattle.babel_choice.specs.Routes.{RouteEntries, key_of}
 use Rattle.babel_route.specs.Currency.{is_same_distance}
@@ -28,7 +28,7 @@ use Rattle.babel_state.specs.declared.selected.Selected.{Selected}
 use Rattle.babel_state.specs.State.{State, announces, interface_at, nominal_cost, cost_at, selected_at, with_entries}
 use Rattle.babel_state.specs.Reselection.{UnfeasibleUpdate, select, follow_up}
 use Rattle.babel_state.specs.Hellos.{forgets_flushed, hears}
-use Rattle.babel_state.specs.Updates.{advertise_if_selected, satisfy_request}
+use Rattle.babel_state.specs.Updates.{satisfy_request}
 use Rattle.babel_state.specs.Ticks.{requests_ticked, fired, interfaces_ticked, sources_ticked}
 use Rattle.babel_state.specs.Calls.{reported_selected, selected_route}
 use Rattle.babel_state.specs.Sameness.{is_same_addr, is_same_peer, is_same_router}
@@ -37,9 +37,10 @@ use Rattle.babel_state.specs.SettledLaws.{with_ihu}
 use Rattle.babel_route.specs.SelectionChanges.{is_alike, are_alike}
 use Rattle.babel_state.specs.KeptRoutes.{KeepsRoutes}
 use Rattle.babel_state.proofs.CurrentLaws.{cost_fired}
-use Rattle.babel_state.proofs.Reselecting.{if_kept, queue_kept, requests_kept, follows_kept}
+use Rattle.babel_state.proofs.Reselecting.{if_kept, requests_kept, follows_kept}
 use Rattle.babel_state.proofs.Selecting.{selected_after, same_prefix}
 use Rattle.babel_state.proofs.SettledLemmas.{same_cost}
+use Rattle.babel_state.proofs.Hearing.{advertise_if_kept}
 
 -- ---- in general
 
@@ -112,9 +113,6 @@ kept_routes s t same prefix = ap (selected_route prefix) same
 -- What follows from a selection queues and requests alone.
 pub follows_routes : (now : ℕ) (cause : Option UnfeasibleUpdate) (prefix : PrefixValue) (old new : Option Selection) (s t : State) → t ≡ follow_up now cause prefix old new s → KeepsRoutes s t
 follows_routes now cause prefix old new s t is = kept_routes s t (ap kept_of is ∙ follows_kept now cause prefix old new s)
-
-advertise_if_kept : (prefix : PrefixValue) (s : State) → kept_of (advertise_if_selected prefix s) ≡ kept_of s
-advertise_if_kept prefix s = if_kept _ _ _ _ (queue_kept _ s) refl
 
 pub satisfies_routes : (source : Source) (seqno : ℕ) (s t : State) → t ≡ satisfy_request source seqno s → KeepsRoutes s t
 unfolding satisfy_request

@@ -16,6 +16,7 @@ use Rattle.babel_value.specs.Orders.{prefix_cmp}
 use Rattle.babel_value.proofs.OrderLaws.{prefix_total, prefix_exact}
 use Rattle.babel_value.specs.Prefixes.{PrefixValue}
 use Rattle.babel_value.specs.Seqnos.{next_seqno}
+use Rattle.babel_value.proofs.Orderings.{equal}
 use Rattle.babel_message.specs.declared.messages.Message.{Message}
 use Rattle.babel_message.specs.declared.placements.Content.{Content}
 use Rattle.babel_message.specs.declared.placements.Content.TheVariants as contents
@@ -24,7 +25,7 @@ use Rattle.babel_packet.specs.Encodable.{is_encodable}
 use Rattle.babel_packet.specs.Meaning.{content_messages, messages_of}
 use Rattle.babel_table.specs.Entries.{without}
 use Rattle.babel_sources.specs.Sources.{pair_of, collected}
-use Rattle.babel_table.proofs.LookupLemmas.{equal, find_with_value}
+use Rattle.babel_table.proofs.LookupLemmas.{find_with_value}
 use Rattle.babel_state.specs.declared.interfaces.InterfaceEntry.{InterfaceEntry}
 use Rattle.babel_state.specs.Queueing.{counted}
 use Rattle.babel_state.specs.State.{State, PrefixSet, announces, pair_at, interface_at}
@@ -42,10 +43,11 @@ use Rattle.babel_state.proofs.Hearing.{messages_heard, ticks_heard}
 use Rattle.babel_state.proofs.OwnRouters.{message_others, none_heard}
 use Rattle.babel_state.proofs.SeeingLaws.{well_selecting}
 use Rattle.babel_state.proofs.WellFormed.{message_well, tick_well, cost_well, announced_well, withdrawn_well, raised_well}
+use Rattle.babel_state.proofs.TickTables.{cost_address}
 
 -- ---- addresses
 
-address_settled : (family : Family) (i : InterfaceEntry) → address_of family (settings_of i) ≡ address_of family i
+pub address_settled : (family : Family) (i : InterfaceEntry) → address_of family (settings_of i) ≡ address_of family i
 address_settled Ipv4 i = refl
 address_settled Ipv6 i = refl
 
@@ -268,10 +270,6 @@ at_set g (i ∷ is) zero v old zero at same = same ∙ ap g (sym (same_Some i ol
 at_set g (i ∷ is) zero v old (suc j) at same = refl
 at_set g (i ∷ is) (suc k) v old zero at same = refl
 at_set g (i ∷ is) (suc k) v old (suc j) at same = at_set g is k v old j at same
-
-cost_address : (cost : ℕ) (family : Family) (i : InterfaceEntry) → address_of family (record i { cost = cost }) ≡ address_of family i
-cost_address cost Ipv4 i = refl
-cost_address cost Ipv6 i = refl
 
 pub cost_moves : CostsMove
 unfolding cost_set seen

@@ -5,7 +5,7 @@ use Rattle.std.specs.Option.{option_map}
 use Rattle.std.specs.FinMap.{find, put, is_sorted}
 use Rattle.std.specs.FinMap.Entries.{length-put}
 use Rattle.std.proofs.Common.{refl, sym, subst, arith}
-use Rattle.std.proofs.lemmas.Bool.{and_parts, or_parts, leb-true, ltb-false, true≢false, false≢true}
+use Rattle.std.proofs.lemmas.Bool.{and_parts, or_parts, leb-true, ltb-false, false≢true, not-false}
 use Rattle.std.proofs.lemmas.Option.{none-some}
 use Rattle.std.proofs.lemmas.List.{length-map}
 use Rattle.std.proofs.lemmas.List.Elements.{All-nil, All-cons}
@@ -24,34 +24,30 @@ use Rattle.babel_state.specs.State.{PrefixSet, gathered}
 use Rattle.babel_state.specs.Addresses.{address_of}
 use Rattle.babel_state.specs.Calls.{new_interface, first_state}
 use Rattle.babel_state.specs.Invariants.{IsUsable, HasCost, HasHops, HasShortWait, IsFinite, NewSpeakersAreWellFormed}
-use Rattle.babel_state.proofs.Tables.{in_order_put}
+use Rattle.babel_table.proofs.PlaceLemmas.{sorted_put}
 
 -- ---- no cause holds
 
-first_head : (current : ConfigFault → Bool) (fault : ConfigFault) (faults : List ConfigFault) → first_of_causes current (fault ∷ faults) ≡ None → (current fault ≡ false) × (first_of_causes current faults ≡ None)
+pub first_head : (current : ConfigFault → Bool) (fault : ConfigFault) (faults : List ConfigFault) → first_of_causes current (fault ∷ faults) ≡ None → (current fault ≡ false) × (first_of_causes current faults ≡ None)
 first_head current fault faults is = by (current fault) refl is
   where
     by : (b : Bool) → current fault ≡ b → (if b then Some fault else first_of_causes current faults) ≡ None → (current fault ≡ false) × (first_of_causes current faults ≡ None)
     by true at is = absurd (none-some fault (sym is))
     by false at is = (at, is)
 
-from_not : (b : Bool) → not b ≡ false → b ≡ true
-from_not true e = refl
-from_not false e = absurd (true≢false e)
-
 is_there : {A B : Type 0} (f : A → B) (m : Option A) → is_some m ≡ true → IsSome (option_map f m)
 is_there f None e = absurd (false≢true e)
 is_there f (Some a) e = refl
 
 transport_there : (i : Interface) (family : Family) → not (if is_same_family family Ipv4 then is_some i.ipv4 else is_some i.ipv6) ≡ false → IsSome (address_of family (new_interface i))
-transport_there i Ipv4 e = is_there (λ net. V4 net.0) i.ipv4 (from_not (is_some i.ipv4) e)
-transport_there i Ipv6 e = is_there V6 i.ipv6 (from_not (is_some i.ipv6) e)
+transport_there i Ipv4 e = is_there (λ net. V4 net.0) i.ipv4 (not-false (is_some i.ipv4) e)
+transport_there i Ipv6 e = is_there V6 i.ipv6 (not-false (is_some i.ipv6) e)
 
 usable : (i : Interface) → has_bad_cost i ≡ false → has_bad_hello i ≡ false → has_bad_addresses i ≡ false → IsUsable (new_interface i)
 unfolding has_bad_cost has_bad_hello has_bad_addresses
 usable i cost hello addresses =
-    let costs = and_parts (nat_le 1 i.cost) (nat_le i.cost 65534) (from_not (is_up_to 65534 i.cost) cost) in
-    let hellos = and_parts (nat_le 1 i.hello) (nat_le i.hello 4000) (from_not (is_up_to 4000 i.hello) hello) in
+    let costs = and_parts (nat_le 1 i.cost) (nat_le i.cost 65534) (not-false (is_up_to 65534 i.cost) cost) in
+    let hellos = and_parts (nat_le 1 i.hello) (nat_le i.hello 4000) (not-false (is_up_to 4000 i.hello) hello) in
     let a = or_parts (lacks_transport i || has_global_address i || has_long_network i || nat_lt 16 (length i.peers.items)) (has_foreign_peer i) addresses in
     let b = or_parts (lacks_transport i || has_global_address i || has_long_network i) (nat_lt 16 (length i.peers.items)) a.0 in
     let c = or_parts (lacks_transport i || has_global_address i) (has_long_network i) b.0 in
@@ -74,7 +70,7 @@ all_usable (i ∷ is) cost hello addresses =
 
 gathered_in_order : (ps : List PrefixValue) (es : PrefixSet) → is_sorted prefix_cmp es ≡ true → is_sorted prefix_cmp (gathered ps es) ≡ true
 gathered_in_order [] es sorted = sorted
-gathered_in_order (p ∷ ps) es sorted = gathered_in_order ps (put prefix_cmp p tt es) (in_order_put prefix_cmp prefix_total p tt es sorted)
+gathered_in_order (p ∷ ps) es sorted = gathered_in_order ps (put prefix_cmp p tt es) (sorted_put prefix_cmp prefix_total p tt es sorted)
 
 to_hold : (b : Bool) → b ≡ true → T b
 to_hold b e = subst T (sym e) tt
@@ -89,9 +85,9 @@ put_one p es sorted = by (is_some (find prefix_cmp p es)) (length-put prefix_cmp
 gathered_few : (ps : List PrefixValue) (es : PrefixSet) → is_sorted prefix_cmp es ≡ true → length (gathered ps es) ≤ length ps + length es
 gathered_few [] es sorted = omega arith
 gathered_few (p ∷ ps) es sorted =
-    omega (arith, gathered_few ps (put prefix_cmp p tt es) (in_order_put prefix_cmp prefix_total p tt es sorted), put_one p es sorted)
+    omega (arith, gathered_few ps (put prefix_cmp p tt es) (sorted_put prefix_cmp prefix_total p tt es sorted), put_one p es sorted)
 
-few_of : (n bound : ℕ) → is_up_to bound n ≡ true → n ≤ bound
+pub few_of : (n bound : ℕ) → is_up_to bound n ≡ true → n ≤ bound
 few_of n bound e = leb-true n bound (and_parts (nat_le 1 n) (nat_le n bound) e).1
 
 new_length : (is : List Interface) → length (map new_interface is) ≡ length is
@@ -106,7 +102,7 @@ new_well c small none =
     let e = first_head (has_cause c) HelloInterval (Prefixes ∷ InterfaceAddresses ∷ []) d.1 in
     let f = first_head (has_cause c) Prefixes (InterfaceAddresses ∷ []) e.1 in
     let g = first_head (has_cause c) InterfaceAddresses [] f.1 in
-    let count : length c.interfaces.items ≤ 8 = few_of (length c.interfaces.items) 8 (from_not (is_up_to 8 (length c.interfaces.items)) b.0) in
+    let count : length c.interfaces.items ≤ 8 = few_of (length c.interfaces.items) 8 (not-false (is_up_to 8 (length c.interfaces.items)) b.0) in
     let prefixes : length c.prefixes.items ≤ 64 = omega (arith, ltb-false 64 (length c.prefixes.items) (or_parts (nat_lt 64 (length c.prefixes.items)) (repeats c.prefixes.items) f.0).0) in
     record {
       tables = record {

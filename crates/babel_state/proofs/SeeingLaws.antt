@@ -69,7 +69,7 @@ good prefix s route selectable at =
     let parts = and_parts (is_feasible_route s.sources (key_of prefix route.peer, route.entry)) (nat_lt (route_metric (cost_at s) (key_of prefix route.peer, route.entry)) 65535) local.1 in
     record { there = chosen.0; feasible = parts.0; finite = ltb-true (route_metric (cost_at s) (key_of prefix route.peer, route.entry)) 65535 parts.1 }
 
-below_sum : (m cost : ℕ) → 1 ≤ cost → metric_sum m cost < 65535 → m < metric_sum m cost
+pub below_sum : (m cost : ℕ) → 1 ≤ cost → metric_sum m cost < 65535 → m < metric_sum m cost
 below_sum m cost positive finite = omega arith
 
 finite_part : (m cost : ℕ) → metric_sum m cost < 65535 → m < 65535

@@ -24,6 +24,8 @@ use Rattle.babel_table.specs.Entries.{without}
 use Rattle.babel_choice.specs.RouteKeys.{route_cmp, route_total}
 use Rattle.babel_choice.specs.Routes.{RouteEntries, key_of, kept_without, retracted_from, updated, retracted, retracted_all, retracted_entry, entry_of_update, has_routes_from}
 use Rattle.babel_table.proofs.LookupLemmas.{eq_turned, find_with_value}
+use Rattle.babel_table.proofs.RevisionLemmas.{sorted_revised}
+use Rattle.babel_table.proofs.PlaceLemmas.{sorted_put}
 use Rattle.babel_state.specs.declared.items.Item.{Item}
 use Rattle.babel_state.specs.declared.items.Item.TheVariants as items
 use Rattle.babel_state.specs.declared.notes.Verdict.TheVariants as verdicts
@@ -38,12 +40,11 @@ use Rattle.babel_state.specs.SeqnoRequests.{raised, outcomes, requested_of_own, 
 use Rattle.babel_state.specs.Messages.{handle_from_neighbour, handle_message}
 use Rattle.babel_state.specs.Calls.{announced_also, withdrawn, select_and_advertise}
 use Rattle.babel_state.specs.CurrentSelections.{IsCurrentAt, AreRoutesInOrder, KeepsCurrent}
-use Rattle.babel_state.specs.StepLaws.{kept_of, base_of}
+use Rattle.babel_state.specs.StepLaws.{kept_of}
 use Rattle.babel_state.specs.Invariants.{AreSelectable}
-use Rattle.babel_state.proofs.Reselecting.{asks_kept, reselects_kept, all_base}
-use Rattle.babel_state.proofs.CurrentLaws.{reselections_current, sorted_revised}
+use Rattle.babel_state.proofs.Reselecting.{asks_kept, reselects_kept}
+use Rattle.babel_state.proofs.CurrentLaws.{reselections_current, all_sorted}
 use Rattle.babel_state.proofs.Hearing.{satisfy_kept}
-use Rattle.babel_state.proofs.Tables.{in_order_put}
 use Rattle.babel_state.proofs.Selecting.{changed, IsSameElsewhere, all_selectable, selected_selectable, selected_current, put_elsewhere, routes_put}
 
 -- Both facts of a step: the selections can be selected, and what was current is current.
@@ -67,13 +68,9 @@ on_kept s t r same g = record {
 
 -- ---- all prefixes reselected
 
-pub sorted_all : (now : ℕ) (s : State) → AreRoutesInOrder s → AreRoutesInOrder (reselect_all now s)
-unfolding base_of
-sorted_all now s sorted = subst AreRoutesInOrder (sym (all_base now s)) sorted
-
 pub all_good : (now : ℕ) (s t : State) → AreRoutesInOrder t → IsGoodStep s (reselect_all now t)
 all_good now s t sorted = record {
-  selectable = λ good. all_selectable now t sorted (sorted_all now t sorted);
+  selectable = λ good. all_selectable now t sorted (all_sorted now t sorted);
   current = λ prefix current. reselections_current now t sorted prefix;
 }
 
@@ -87,7 +84,7 @@ selected_good p announced entries s same = record {
 
 put_same : (p : PrefixValue) (peer : Peer) (e : Entry) (s : State) → AreRoutesInOrder s → IsSameElsewhere p s.announced (put route_cmp (key_of p peer) e s.routes.entries) s
 put_same p peer e s sorted = record {
-  in_order = in_order_put route_cmp route_total (key_of p peer) e s.routes.entries sorted;
+  in_order = sorted_put route_cmp route_total (key_of p peer) e s.routes.entries sorted;
   local = λ q other. refl;
   entry = λ q from other. put_elsewhere q p from peer e s.routes.entries other;
   routes = λ q other. routes_put q p peer e s.routes.entries (sym (eq_turned prefix_cmp prefix_total q p) ∙ other);

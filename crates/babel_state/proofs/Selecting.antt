@@ -14,6 +14,7 @@ use Rattle.babel_value.specs.declared.keys.Peer.{Peer}
 use Rattle.babel_value.specs.Orders.{prefix_cmp}
 use Rattle.babel_value.proofs.OrderLaws.{prefix_total, prefix_exact}
 use Rattle.babel_value.specs.Prefixes.{PrefixValue}
+use Rattle.babel_value.proofs.Orderings.{equal}
 use Rattle.babel_choice.specs.declared.entries.Entry.{Entry}
 use Rattle.babel_choice.specs.declared.entries.Selection.{Selection}
 use Rattle.babel_choice.specs.declared.entries.RouteKey.{RouteKey}
@@ -24,7 +25,7 @@ use Rattle.babel_route.specs.RouteLaws.{is_among}
 use Rattle.babel_choice.specs.Choices.{is_of, routes_of, is_candidate, choice, selection_of, peer_before, preference}
 use Rattle.babel_route.specs.Selections.{choice_at, selection_at}
 use Rattle.babel_route.proofs.CurrentLemmas.{all_current, chosen_is_candidate}
-use Rattle.babel_table.proofs.LookupLemmas.{equal, find_with_value}
+use Rattle.babel_table.proofs.LookupLemmas.{find_with_value}
 use Rattle.babel_state.specs.State.{State, PrefixSet, announces, entry_at, selected_at, cost_at}
 use Rattle.babel_state.specs.Reselection.{select, reselect_all}
 use Rattle.babel_state.specs.CurrentSelections.{IsCurrentAt, AreCurrent, AreRoutesInOrder}

@@ -1,12 +1,8 @@
 -- What sending keeps, and by what it lowers sources.
 use Rattle.std.specs.Prelude.{◌≡◌, ℕ, Bool, true, false, cond, ◌&&◌, zero, suc, slice_get, slice_set, List, [], ◌∷◌, ◌++◌, map, Option, Some, None, IfSome, if◌then◌else◌}
 use Rattle.std.specs.List.{filter}
-use Rattle.std.specs.Option.{option_map, option_map_or}
-use Rattle.std.specs.declared.cmp.Ordering.{Ordering}
-use Rattle.std.specs.declared.cmp.Ordering.TheVariants.{Less, Equal, Greater}
-use Rattle.std.specs.Ordering.{eq_by_cmp, is_eq}
-use Rattle.std.specs.FinMap.{find}
-use Rattle.std.specs.FinMap.Entries.{find-put}
+use Rattle.std.specs.Option.{option_map_or}
+use Rattle.std.specs.Ordering.{eq_by_cmp}
 use Rattle.std.proofs.Common.{refl, sym, ◌∙◌, ap, append_assoc}
 use Rattle.std.proofs.lemmas.List.{append-nil}
 use Rattle.std.proofs.lemmas.Option.{same_Some, none-some}
@@ -14,12 +10,14 @@ use Rattle.std.proofs.lemmas.List.Elements.{filter-append}
 use Rattle.babel_value.specs.declared.distances.Distance.{Distance}
 use Rattle.babel_value.specs.declared.keys.Source.{Source}
 use Rattle.babel_value.specs.Orders.{source_cmp}
-use Rattle.babel_value.proofs.OrderLaws.{source_total, source_exact}
+use Rattle.babel_value.proofs.OrderLaws.{source_exact}
 use Rattle.babel_value.specs.Prefixes.{PrefixValue}
+use Rattle.babel_value.proofs.Orderings.{equal}
 use Rattle.babel_message.specs.declared.messages.Message.{Message}
 use Rattle.babel_message.specs.declared.messages.Message.TheVariants as messages
 use Rattle.babel_sources.specs.Distances.{better_pair}
-use Rattle.babel_sources.specs.Sources.{Sources, pair_of, source_entry_after, lowered}
+use Rattle.babel_sources.specs.Sources.{Sources, pair_of, lowered}
+use Rattle.babel_sources.proofs.PairLemmas.{pair_lowered}
 use Rattle.babel_state.specs.declared.interfaces.InterfaceEntry.{InterfaceEntry}
 use Rattle.babel_state.specs.declared.items.Item.{Item}
 use Rattle.babel_state.specs.declared.items.Outgoing.{Outgoing}
@@ -75,7 +73,7 @@ hello_known iface s = by (interface_at iface s) refl
       requests = s.requests;
     }
 
-message_known : (now : ℕ) (target : Target) (m : Message) (s : State) → known_of (after_message now target m s) ≡ known_of s
+pub message_known : (now : ℕ) (target : Target) (m : Message) (s : State) → known_of (after_message now target m s) ≡ known_of s
 unfolding after_message known_of
 message_known now target (messages.AckRequest opaque interval) s = refl
 message_known now target (messages.Ack opaque) s = refl
@@ -111,21 +109,6 @@ sending_known now fits s =
 
 -- ---- sources
 
-either : {A B : Type 0} (f : A → B) (b : Bool) (x : A) (o : Option A) → option_map f (cond b (Some x) o) ≡ cond b (Some (f x)) (option_map f o)
-either f true x o = refl
-either f false x o = refl
-
-pub pair_lowered : (now : ℕ) (source other : Source) (sent : Distance) (sources : Sources) →
-    pair_of other (lowered now source sent sources) ≡ cond (eq_by_cmp source_cmp other source) (Some (better_pair (pair_of source sources) sent)) (pair_of other sources)
-pair_lowered now source other sent sources =
-    ap (option_map (λ source_entry. source_entry.distance)) (find-put source_cmp source_total other source (source_entry_after now (pair_of source sources) sent) sources)
-    ∙ either (λ source_entry. source_entry.distance) (eq_by_cmp source_cmp other source) (source_entry_after now (pair_of source sources) sent) (find source_cmp other sources)
-
-pub equal_of : (r : Ordering) → is_eq r ≡ true → r ≡ Equal
-equal_of Less e = cc
-equal_of Equal e = refl
-equal_of Greater e = cc
-
 one_lowered : (now : ℕ) (other : Source) (u : UpdateValue) (sources : Sources) →
     pair_of other (lowered now (record { prefix = u.prefix; router = u.router }) u.distance sources)
     ≡ all_lowered (filter (is_of_source other.prefix other.router) (u ∷ [])) (pair_of other sources)
@@ -138,7 +121,7 @@ one_lowered now other u sources =
         ≡ all_lowered (cond b (u ∷ []) []) (pair_of other sources)
     by true e =
         ap (λ k. Some (better_pair (pair_of k sources) u.distance))
-        (sym (source_exact other (record { prefix = u.prefix; router = u.router }) (equal_of _ e)))
+        (sym (source_exact other (record { prefix = u.prefix; router = u.router }) (equal _ e)))
     by false e = refl
 
 interface_pair : (prefix : PrefixValue) (router : List ℕ) (iface : ℕ) (change : InterfaceEntry → InterfaceEntry) (s : State) →

@@ -15,10 +15,10 @@ use Rattle.babel_value.specs.declared.keys.Source.{Source}
 use Rattle.babel_value.specs.Addresses.{family_of}
 use Rattle.babel_value.specs.Distances.{is_better}
 use Rattle.babel_value.specs.Seqnos.{is_before}
-use Rattle.babel_value.specs.Metrics.{metric_sum}
 use Rattle.babel_value.specs.Orders.{source_cmp}
 use Rattle.babel_value.proofs.OrderLaws.{source_total, source_exact}
 use Rattle.babel_value.specs.Prefixes.{PrefixValue}
+use Rattle.babel_value.proofs.Orderings.{equal}
 use Rattle.babel_message.specs.declared.messages.Message.{Message}
 use Rattle.babel_message.specs.declared.messages.Message.TheVariants as messages
 use Rattle.babel_choice.specs.declared.entries.Selection.{Selection}
@@ -27,6 +27,7 @@ use Rattle.babel_sources.specs.Distances.{is_feasible, better_pair}
 use Rattle.babel_choice.specs.Routes.{Route, key_of}
 use Rattle.babel_choice.specs.Choices.{is_candidate, is_feasible_route, route_metric}
 use Rattle.babel_sources.specs.Sources.{pair_of, source_entry_after, lowered}
+use Rattle.babel_sources.proofs.PairLemmas.{pair_lowered}
 use Rattle.babel_state.specs.declared.interfaces.InterfaceEntry.{InterfaceEntry}
 use Rattle.babel_state.specs.declared.items.Item.{Item}
 use Rattle.babel_state.specs.declared.items.Item.TheVariants as items
@@ -39,11 +40,13 @@ use Rattle.babel_state.specs.Addresses.{address_of, address_at}
 use Rattle.babel_state.specs.OutgoingMessages.{Advertisement, own_advertisement, route_advertisement, is_source_too_many, outgoing_ihu, outgoing_finite, outgoing_advertisement, outgoing_update, outgoing_over, outgoing}
 use Rattle.babel_state.specs.NextDatagram.{Fits, Draft, next_hello, lower_source, after_message, with_message, goes_to, draft_with, left_out_more, without_first, drafted, next_datagram}
 use Rattle.babel_state.specs.Invariants.{IsUsable, HasHops, AreTables, IsSelectable, AreSelectable, IsWellFormed, SendingKeepsWellFormed}
-use Rattle.babel_state.proofs.Tables.{each_put, each_find, few_put, in_order_put}
+use Rattle.babel_state.proofs.Tables.{each_put, each_find, few_put}
 use Rattle.babel_state.proofs.TableLaws.{interfaces_tables, sources_tables, pending_tables, left_out_tables}
 use Rattle.babel_state.proofs.TickTables.{usable_at}
 use Rattle.babel_state.proofs.SelectableTicks.{costs_positive, interface_good}
-use Rattle.babel_state.proofs.SendingLaws.{if_some, pair_lowered, equal_of}
+use Rattle.babel_state.proofs.SendingLaws.{if_some}
+use Rattle.babel_state.proofs.SeeingLaws.{below_sum}
+use Rattle.babel_table.proofs.PlaceLemmas.{sorted_put}
 
 -- ---- what an item means
 
@@ -124,9 +127,6 @@ still_feasible (Some pair) d sent same below feasible = by (is_better sent pair)
     by true = or_right (not (nat_lt d.metric 65535)) (is_better d sent) (sent_below d sent same below)
     by false = feasible
 
-below_sum : (m cost : ℕ) → 1 ≤ cost → metric_sum m cost < 65535 → m < metric_sum m cost
-below_sum m cost positive finite = omega arith
-
 lowered_selectable : (now : ℕ) (s : State) (iface : ℕ) (prefix : PrefixValue) (router : List ℕ) (hop : Addr) (sent : Distance) → IsUpdate s iface prefix router hop sent → IsWellFormed s →
     AreSelectable (lower_source now (record { prefix = prefix; router = router }) sent s)
 lowered_selectable now s iface prefix router hop sent update well q route at =
@@ -155,7 +155,7 @@ lowered_selectable now s iface prefix router hop sent update well q route at =
     by old local feasible finite true e = from update.advertised
       where
         same : mine ≡ named
-        same = source_exact mine named (equal_of _ e)
+        same = source_exact mine named (equal _ e)
 
         from : IsOwn s prefix router sent ⊎ IsOfRoute s prefix router sent → is_feasible (Some (better_pair (pair_of named s.sources) sent)) route.entry.distance ≡ true
         from (inl own) = absurd (true≢false (sym local ∙ ap not (ap (λ (k : Source). announces k.prefix s) same ∙ own.0)))
@@ -197,7 +197,7 @@ lowered_tables now s source sent finite room t =
       few = few_put source_cmp source_total source (source_entry_after now (pair_of source s.sources) sent) 512 s.sources t.sources.in_order t.sources.few room;
       finite = each_put source_cmp (λ (e : SourceEntry). e.distance.metric < 65535) source (source_entry_after now (pair_of source s.sources) sent) s.sources
           (better_finite (find source_cmp source s.sources) sent finite (λ e at. each_find source_cmp (λ (e : SourceEntry). e.distance.metric < 65535) source e s.sources t.sources.finite at)) t.sources.finite;
-      in_order = in_order_put source_cmp source_total source (source_entry_after now (pair_of source s.sources) sent) s.sources t.sources.in_order;
+      in_order = sorted_put source_cmp source_total source (source_entry_after now (pair_of source s.sources) sent) s.sources t.sources.in_order;
     }) t
 
 -- ---- a Hello

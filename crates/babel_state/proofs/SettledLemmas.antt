@@ -10,12 +10,12 @@ use Rattle.babel_value.specs.declared.keys.Peer.{Peer}
 use Rattle.babel_value.specs.Orders.{peer_cmp, octets_cmp}
 use Rattle.babel_value.specs.Prefixes.{PrefixValue}
 use Rattle.babel_value.proofs.OrderLaws.{peer_total, peer_exact, octets_total}
+use Rattle.babel_value.proofs.Orderings.{equal}
 use Rattle.babel_link.specs.declared.links.Link.{Link}
 use Rattle.babel_link.specs.declared.marks.Heard.{Heard}
 use Rattle.babel_link.specs.declared.marks.Heard.TheVariants.{Kept, Flush}
 use Rattle.babel_link.specs.Links.{hello_link, ihu_link, link_cost}
 use Rattle.babel_link.specs.Neighbours.{Links, link_of, hello_of, hello_verdict, ihu_of, cost_of}
-use Rattle.babel_table.proofs.LookupLemmas.{equal}
 use Rattle.babel_choice.specs.declared.entries.Selection.{Selection}
 use Rattle.babel_route.specs.Selections.{RoutesValue, IsCurrent}
 use Rattle.babel_route.proofs.CurrentLemmas.{all_settled}

@@ -3,30 +3,28 @@ use Rattle.std.specs.Prelude.{◌≡◌, ℕ, zero, suc, Bool, true, false, cond
 use Rattle.std.specs.List.{filter, list_any}
 use Rattle.std.specs.Option.{option_map}
 use Rattle.std.specs.declared.cmp.Ordering.{Ordering}
-use Rattle.std.specs.declared.cmp.Ordering.TheVariants.{Less, Equal, Greater}
-use Rattle.std.specs.Ordering.{is_lt, is_eq, eq_by_cmp, nat_cmp, bool_cmp, ordering_then}
-use Rattle.std.specs.Cmp.{IsTotalOrder, tied_itself, nat_cmp_total}
+use Rattle.std.specs.Ordering.{is_lt}
+use Rattle.std.specs.Cmp.{IsTotalOrder}
 use Rattle.std.specs.FinMap.{find}
-use Rattle.std.proofs.Common.{refl, sym, ap, subst, ◌∙◌, arith}
+use Rattle.std.proofs.Common.{refl, sym, ap, subst, ◌∙◌}
 use Rattle.std.proofs.lemmas.Bool.{and_parts, and_from, or_parts, false≢true}
 use Rattle.std.proofs.lemmas.Option.{same_Some, none-some}
-use Rattle.std.proofs.lemmas.Map.Keys.{ge_from_not_lt}
 use Rattle.babel_value.specs.declared.keys.Peer.{Peer}
-use Rattle.babel_value.specs.Orders.{prefix_cmp, peer_cmp}
+use Rattle.babel_value.specs.Orders.{prefix_cmp}
 use Rattle.babel_value.specs.Prefixes.{PrefixValue}
-use Rattle.babel_value.proofs.OrderLaws.{prefix_exact, peer_total, peer_exact}
+use Rattle.babel_value.proofs.OrderLaws.{prefix_exact}
+use Rattle.babel_value.proofs.Orderings.{equal}
 use Rattle.babel_table.specs.Firsts.{first_of, IsFirst}
 use Rattle.babel_table.proofs.FirstLemmas.{is_first, none_first}
-use Rattle.babel_table.proofs.LookupLemmas.{equal}
 use Rattle.babel_table.proofs.PlaceLemmas.{find_hit}
 use Rattle.babel_choice.specs.declared.entries.Entry.{Entry}
 use Rattle.babel_choice.specs.declared.entries.Selection.{Selection}
 use Rattle.babel_choice.specs.RouteKeys.{route_cmp, route_total}
 use Rattle.babel_choice.specs.Routes.{Route, RouteEntries, key_of}
-use Rattle.babel_choice.specs.Choices.{is_of, routes_of, is_candidate, is_feasible_route, route_metric, preference, is_change, selection_of, choice}
+use Rattle.babel_choice.specs.Choices.{is_of, routes_of, is_candidate, is_feasible_route, route_metric, preference, selection_of, choice}
 use Rattle.babel_route.specs.Selections.{IsCurrent}
 use Rattle.babel_sources.specs.Sources.{Sources}
-use Rattle.babel_route.proofs.CurrentLemmas.{preference_total}
+use Rattle.babel_route.proofs.CurrentLemmas.{preference_total, same_peer}
 use Rattle.babel_state.specs.State.{State, announces, cost_at, selected_at}
 use Rattle.babel_state.specs.CurrentSelections.{IsCurrentAt, AreRoutesInOrder, becomes_feasible, has_revived_route}
 use Rattle.babel_state.specs.Invariants.{AreSelectable}
@@ -116,37 +114,6 @@ first_left order total p q routes x fewer first passes = (there.1, by (first_of 
 
 -- ---- routes of one neighbour
 
-first_not_less : (a b : Ordering) → is_lt (ordering_then a b) ≡ false → is_lt a ≡ false
-first_not_less Less b h = h
-first_not_less Equal b h = refl
-first_not_less Greater b h = refl
-
--- the selected route comes before each other of its metric, so that one that it doesn't come before is of its neighbour
-same_peer : (cost : Peer → ℕ) (q r : Route) → is_lt (preference cost (Some r.0.peer) q r) ≡ false → is_lt (preference cost (Some r.0.peer) r q) ≡ false → q.0.peer ≡ r.0.peer
-same_peer cost q r not_before not_after = by (eq_by_cmp peer_cmp q.0.peer r.0.peer) refl
-  where
-    metric : Route → ℕ
-    metric = route_metric cost
-
-    change : Peer → Bool
-    change = is_change (Some r.0.peer)
-
-    same : metric r ≡ metric q
-    same = omega (arith, ge_from_not_lt (metric q) (metric r) (first_not_less (nat_cmp (metric q) (metric r)) _ not_before), ge_from_not_lt (metric r) (metric q) (first_not_less (nat_cmp (metric r) (metric q)) _ not_after))
-
-    tie : nat_cmp (metric r) (metric q) ≡ Equal
-    tie = subst (λ m. nat_cmp (metric r) m ≡ Equal) same (tied_itself nat_cmp_total (metric r))
-
-    unchanged : change r.0.peer ≡ false
-    unchanged = ap (λ o. not (is_eq o)) (tied_itself peer_total r.0.peer)
-
-    rest : is_lt (ordering_then (bool_cmp false (change q.0.peer)) (peer_cmp r.0.peer q.0.peer)) ≡ false
-    rest = subst (λ b. is_lt (ordering_then (bool_cmp b (change q.0.peer)) (peer_cmp r.0.peer q.0.peer)) ≡ false) unchanged (subst (λ o. is_lt (ordering_then o (ordering_then (bool_cmp (change r.0.peer) (change q.0.peer)) (peer_cmp r.0.peer q.0.peer))) ≡ false) tie not_after)
-
-    by : (b : Bool) → eq_by_cmp peer_cmp q.0.peer r.0.peer ≡ b → q.0.peer ≡ r.0.peer
-    by true here = peer_exact q.0.peer r.0.peer (equal (peer_cmp q.0.peer r.0.peer) here)
-    by false here = absurd (false≢true (sym (subst (λ b. is_lt (ordering_then (bool_cmp false (not b)) (peer_cmp r.0.peer q.0.peer)) ≡ false) here rest)))
-
 -- a route of the prefix is what its neighbour advertised of it
 pub record IsRouteAt (prefix : PrefixValue) (es : RouteEntries) (route : Route) : Type 0 where
   pub key : route.0 ≡ key_of prefix route.0.peer
@@ -214,7 +181,7 @@ module _ (s : State) (sources : Sources) (prefix : PrefixValue) (sorted : AreRou
 
           one_peer : left.0.0.peer ≡ x.0.peer
           one_peer =
-              same_peer (cost_at s) left.0 x
+              same_peer (cost_at s) (Some x.0.peer) left.0 x
               (subst (λ p. is_lt (preference (cost_at s) (Some p) left.0 x) ≡ false) peer_is left.1.not_before)
               (subst (λ p. is_lt (preference (cost_at s) (Some p) x left.0) ≡ false) peer_is left.1.not_after)
 
@@ -239,7 +206,7 @@ module _ (s : State) (sources : Sources) (prefix : PrefixValue) (sorted : AreRou
 
 -- ---- a state after it that knows the same
 
-routes_kept : (s t : State) → known_of t ≡ known_of s → t.routes ≡ s.routes
+pub routes_kept : (s t : State) → known_of t ≡ known_of s → t.routes ≡ s.routes
 unfolding known_of
 routes_kept s t same = ap (λ (k : KnownValue). k.routes) same
 

@@ -26,6 +26,8 @@ use Rattle.babel_choice.specs.declared.entries.Entry.{Entry}
 use Rattle.babel_choice.specs.declared.entries.Selection.{Selection}
 use Rattle.babel_sources.specs.Distances.{is_feasible}
 use Rattle.babel_table.specs.Entries.{without, with_value}
+use Rattle.babel_table.proofs.RevisionLemmas.{sorted_revised}
+use Rattle.babel_table.proofs.PlaceLemmas.{sorted_put, sorted_without}
 use Rattle.babel_choice.specs.RouteKeys.{route_cmp, route_total}
 use Rattle.babel_choice.specs.Routes.{RouteEntries, key_of, updated, retracted, retracted_all, retracted_entry, forgotten, entry_of_update, kept_without, retracted_from}
 use Rattle.babel_route.specs.Selections.{RoutesValue, reselected, choice_at}
@@ -48,8 +50,7 @@ use Rattle.babel_state.specs.SeqnoRequests.{raised, outcomes, requested_of_own, 
 use Rattle.babel_state.specs.Messages.{handle_from_neighbour, handle_message}
 use Rattle.babel_state.specs.Invariants.{AreInterfaces, AreNeighbours, AreAnnounced, AreSources, AreRoutes, AreRequests, HasShortWait, HasHops, IsQueue, HasCost, AreTables, MessagesKeepTables}
 use Rattle.babel_state.proofs.Cutting.{queueing-cuts}
-use Rattle.babel_state.proofs.CurrentLaws.{sorted_revised}
-use Rattle.babel_state.proofs.Tables.{each_put, each_find, each_revised, few_put, few_revised, few_without, in_order_put, in_order_without}
+use Rattle.babel_state.proofs.Tables.{each_put, each_find, each_revised, few_put, few_revised, few_without}
 
 if_tables : (b : Bool) (x y : State) → AreTables x → AreTables y → AreTables (if b then x else y)
 if_tables true x y p q = p
@@ -227,7 +228,7 @@ recorded_is now source seqno resend requests r = by (has_no_room source requests
     by false room = record {
       few = few_put source_cmp source_total source made 64 requests r.in_order r.few room;
       waits = each_put source_cmp (λ (q : PendingRequest). q.wait < 3200) source made requests (omega arith) r.waits;
-      in_order = in_order_put source_cmp source_total source made requests r.in_order;
+      in_order = sorted_put source_cmp source_total source made requests r.in_order;
     }
 
 asks_tables : (now : ℕ) (source : Source) (seqno : ℕ) (resend : Resend) (hops : ℕ) (peers : List Peer) (s : State) → 1 ≤ hops → AreTables s → AreTables (request_seqno now source seqno resend hops peers s)
@@ -258,8 +259,8 @@ seqno_tables now cause prefix None None s t = sender_tables now cause prefix Non
 seqno_tables now cause prefix None (Some new) s t = sender_tables now cause prefix None s t
 
 with_value_sorted : (prefix : PrefixValue) (value : Option Selection) (selections : List (PrefixValue × Selection)) → is_sorted prefix_cmp selections ≡ true → is_sorted prefix_cmp (with_value prefix_cmp prefix value selections) ≡ true
-with_value_sorted prefix None selections sorted = in_order_without prefix_cmp prefix selections sorted
-with_value_sorted prefix (Some value) selections sorted = in_order_put prefix_cmp prefix_total prefix value selections sorted
+with_value_sorted prefix None selections sorted = sorted_without prefix_cmp prefix selections sorted
+with_value_sorted prefix (Some value) selections sorted = sorted_put prefix_cmp prefix_total prefix value selections sorted
 
 pub select_tables : (prefix : PrefixValue) (s : State) → AreTables s → AreTables (select prefix s)
 select_tables prefix s t =
@@ -315,7 +316,7 @@ hello_neighbours now peer unicast seqno interval s room n = record {
   few = few_put peer_cmp peer_total peer heard 64 s.neighbours n.in_order n.few (none_and_full (find peer_cmp peer s.neighbours) (length s.neighbours) room);
   costs = each_put peer_cmp (λ (link : Link). 1 ≤ link.txcost) peer heard s.neighbours
       (hello_cost now unicast seqno interval (link_of peer s.neighbours) (known_cost (find peer_cmp peer s.neighbours) (find_costs peer s.neighbours n.costs))) n.costs;
-  in_order = in_order_put peer_cmp peer_total peer heard s.neighbours n.in_order;
+  in_order = sorted_put peer_cmp peer_total peer heard s.neighbours n.in_order;
 }
   where
     heard : Link
@@ -334,7 +335,7 @@ ihu_neighbours now peer rxcost interval links positive n = by (find peer_cmp pee
     by (Some link) at = record {
       few = few_put peer_cmp peer_total peer (ihu_link now rxcost interval link) 64 links n.in_order n.few (rw at refl);
       costs = each_put peer_cmp (λ (link : Link). 1 ≤ link.txcost) peer (ihu_link now rxcost interval link) links positive n.costs;
-      in_order = in_order_put peer_cmp peer_total peer (ihu_link now rxcost interval link) links n.in_order;
+      in_order = sorted_put peer_cmp peer_total peer (ihu_link now rxcost interval link) links n.in_order;
     }
 
 fired_cost : (now : ℕ) (unicast : Bool) (link : Link) → 1 ≤ link.txcost → IfSome (fired_link now unicast link) (λ l. 1 ≤ l.txcost)
@@ -419,7 +420,7 @@ without_requests : (source : Source) (requests : PendingRequests) → AreRequest
 without_requests source requests r = record {
   few = few_without source_cmp source 64 requests r.few;
   waits = All-filter _ HasShortWait requests r.waits;
-  in_order = in_order_without source_cmp source requests r.in_order;
+  in_order = sorted_without source_cmp source requests r.in_order;
 }
 
 satisfy_tables : (source : Source) (seqno : ℕ) (s : State) → AreTables s → AreTables (satisfy_request source seqno s)
@@ -449,14 +450,14 @@ update_tables now peer prefix router next_hop distance interval s t =
     (if_step (is_route_too_many prefix peer s) full judged t
     (judge_tables now peer prefix router distance (pair_at prefix router s) stored
     (entries_tables s (updated now prefix peer router distance next_hop interval s.routes.entries)
-    (in_order_put route_cmp route_total (key_of prefix peer) (entry_of_update now router distance next_hop interval) s.routes.entries t.routes.entries_in_order) t)))
+    (sorted_put route_cmp route_total (key_of prefix peer) (entry_of_update now router distance next_hop interval) s.routes.entries t.routes.entries_in_order) t)))
 
 pub retracted_sorted : (now : ℕ) (prefix : PrefixValue) (peer : Peer) (es : RouteEntries) → is_sorted route_cmp es ≡ true → is_sorted route_cmp (retracted now prefix peer es) ≡ true
 retracted_sorted now prefix peer es sorted = by (find route_cmp (key_of prefix peer) es)
   where
     by : (m : Option Entry) → is_sorted route_cmp (option_map_or (λ e. put route_cmp (key_of prefix peer) (retracted_entry now e) es) m es) ≡ true
     by None = sorted
-    by (Some e) = in_order_put route_cmp route_total (key_of prefix peer) (retracted_entry now e) es sorted
+    by (Some e) = sorted_put route_cmp route_total (key_of prefix peer) (retracted_entry now e) es sorted
 
 retraction_tables : (now : ℕ) (peer : Peer) (prefix : PrefixValue) (s : State) → AreTables s → AreTables (handle_retraction now peer prefix s).0
 unfolding handle_retraction

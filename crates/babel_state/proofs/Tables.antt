@@ -7,16 +7,12 @@ use Rattle.std.specs.declared.cmp.Ordering.TheVariants.{Less, Equal, Greater}
 use Rattle.std.specs.Ordering.{eq_by_cmp, is_eq}
 use Rattle.std.specs.Cmp.{IsTotalOrder}
 use Rattle.std.specs.FinMap.{find, put, is_sorted}
-use Rattle.std.specs.FinMap.Entries.{by_order, is_sorted-put, is_sorted-where_key, length-put}
-use Rattle.std.proofs.Common.{refl, sym, subst, arith}
+use Rattle.std.specs.FinMap.Entries.{by_order, length-put}
+use Rattle.std.proofs.Common.{sym, subst, arith}
 use Rattle.std.proofs.lemmas.Bool.{eqb-false}
 use Rattle.std.proofs.lemmas.Option.{same_Some, none-some}
 use Rattle.std.proofs.lemmas.List.Elements.{All-nil, All-cons, All-head, All-tail}
 use Rattle.babel_table.specs.Entries.{without, revised_entries}
-
-holds_from : (b : Bool) → T b → b ≡ true
-holds_from true h = refl
-holds_from false h = absurd h
 
 to_hold : (b : Bool) → b ≡ true → T b
 to_hold b e = subst T (sym e) tt
@@ -80,9 +76,6 @@ module _ {K V : Type 0} (R : K → K → Ordering) where
           by false rest = omega (arith, rest)
 
   module _ (o : IsTotalOrder R) where
-    pub in_order_put : (k : K) (v : V) (es : List (K × V)) → is_sorted R es ≡ true → is_sorted R (put R k v es) ≡ true
-    in_order_put k v es sorted = holds_from (is_sorted R (put R k v es)) (is_sorted-put R o k v es (to_hold (is_sorted R es) sorted))
-
     -- a key that is there, or room for it
     pub few_put : (k : K) (v : V) (n : ℕ) (es : List (K × V)) → is_sorted R es ≡ true → length es ≤ n → (is_none (find R k es) && (length es == n)) ≡ false → length (put R k v es) ≤ n
     few_put k v n es sorted few room = by (find R k es) room (length-put R o k v es (to_hold (is_sorted R es) sorted))
@@ -90,7 +83,3 @@ module _ {K V : Type 0} (R : K → K → Ordering) where
         by : (m : Option V) → (is_none m && (length es == n)) ≡ false → length (put R k v es) ≡ cond (is_some m) (length es) (length es + 1) → length (put R k v es) ≤ n
         by (Some w) room is = omega (arith, is, few)
         by None room is = omega (arith, is, few, eqb-false (length es) n room)
-
-  pub in_order_without : (k : K) (es : List (K × V)) → is_sorted R es ≡ true → is_sorted R (without R k es) ≡ true
-  in_order_without k es sorted =
-      holds_from (is_sorted R (without R k es)) (is_sorted-where_key R (λ x. not (eq_by_cmp R k x)) es (to_hold (is_sorted R es) sorted))

@@ -18,6 +18,8 @@ use Rattle.babel_value.specs.Prefixes.{PrefixValue}
 use Rattle.babel_link.specs.Neighbours.{gone_of, tick_of, peers_of}
 use Rattle.babel_sources.specs.declared.sources.SourceEntry.{SourceEntry}
 use Rattle.babel_table.specs.Entries.{without, revised_entries}
+use Rattle.babel_table.proofs.RevisionLemmas.{sorted_revised}
+use Rattle.babel_table.proofs.PlaceLemmas.{sorted_put, sorted_without}
 use Rattle.babel_choice.specs.RouteKeys.{route_cmp}
 use Rattle.babel_choice.specs.Routes.{expired, expired_entry}
 use Rattle.babel_sources.specs.Sources.{collected, collected_entry}
@@ -37,8 +39,7 @@ use Rattle.babel_state.specs.Addresses.{address_of}
 use Rattle.babel_state.specs.Calls.{cost_set, set_cost_fault, set_cost_fault_on, is_prefix_too_many, announced_also, withdrawn, select_and_advertise}
 use Rattle.babel_state.specs.Configs.{is_up_to}
 use Rattle.babel_state.specs.Invariants.{IsUsable, HasHops, AreTables, TicksKeepTables}
-use Rattle.babel_state.proofs.CurrentLaws.{sorted_revised}
-use Rattle.babel_state.proofs.Tables.{each_at, each_revised, few_put, few_revised, few_without, in_order_put, in_order_without}
+use Rattle.babel_state.proofs.Tables.{each_at, each_revised, few_put, few_revised, few_without}
 use Rattle.babel_state.proofs.TableLaws.{interfaces_tables, neighbours_tables, announced_tables, sources_tables, requests_tables, queue_tables, entries_tables, forget_tables, all_tables, select_tables, tick_neighbours, asked_hops, one_hops, to_all_hops}
 
 forgets_tables : (peers : List Peer) (s : State) → AreTables s → AreTables (forget_each peers s)
@@ -121,7 +122,7 @@ fired_address : (now : ℕ) (family : Family) (i : InterfaceEntry) → address_o
 fired_address now Ipv4 i = refl
 fired_address now Ipv6 i = refl
 
-cost_address : (cost : ℕ) (family : Family) (i : InterfaceEntry) → address_of family (record i { cost = cost }) ≡ address_of family i
+pub cost_address : (cost : ℕ) (family : Family) (i : InterfaceEntry) → address_of family (record i { cost = cost }) ≡ address_of family i
 cost_address cost Ipv4 i = refl
 cost_address cost Ipv6 i = refl
 
@@ -217,7 +218,7 @@ announced_also_tables prefix s room t = by (announces prefix s) refl room
         (announced_tables s (put prefix_cmp prefix tt s.announced)
         (record {
           few = few_put prefix_cmp prefix_total prefix tt 64 s.announced t.announced.in_order t.announced.few (and_right (is_none (find prefix_cmp prefix s.announced)) (length s.announced == 64) room);
-          in_order = in_order_put prefix_cmp prefix_total prefix tt s.announced t.announced.in_order;
+          in_order = sorted_put prefix_cmp prefix_total prefix tt s.announced t.announced.in_order;
         }) t)
 
 pub withdrawn_tables : (prefix : PrefixValue) (s : State) → AreTables s → AreTables (withdrawn prefix s)
@@ -225,4 +226,4 @@ unfolding withdrawn
 withdrawn_tables prefix s t =
     chosen_tables prefix (record s { announced = without prefix_cmp prefix s.announced })
     (announced_tables s (without prefix_cmp prefix s.announced)
-    (record { few = few_without prefix_cmp prefix 64 s.announced t.announced.few; in_order = in_order_without prefix_cmp prefix s.announced t.announced.in_order }) t)
+    (record { few = few_without prefix_cmp prefix 64 s.announced t.announced.few; in_order = sorted_without prefix_cmp prefix s.announced t.announced.in_order }) t)

@@ -6,19 +6,14 @@ use Rattle.std.proofs.lemmas.Option.{same_Some, none-some}
 use Rattle.std.proofs.lemmas.Cmp.{upto}
 use Rattle.std.specs.declared.cmp.Ordering.{Ordering}
 use Rattle.std.specs.declared.cmp.Ordering.TheVariants.{Less, Equal, Greater}
-use Rattle.std.specs.Ordering.{is_lt, is_gt, ordering_reverse}
+use Rattle.std.specs.Ordering.{is_lt, is_gt}
 use Rattle.std.specs.Cmp.{IsTotalOrder, tied_itself}
 use Rattle.babel_table.specs.Firsts.{first_from, first_of, lesser_of, IsFirst, IsFirstOf}
-use Rattle.babel_table.proofs.PlaceLemmas.{less}
+use Rattle.babel_value.proofs.Orderings.{less_reversed, less}
 
 -- the lesser of two, the earlier one where neither is
 abbrev pub lesser : {X : Type 0} → (X → X → Ordering) → X → X → X
 lesser order a b = if is_lt (order b a) then b else a
-
-reversed : (r : Ordering) → is_lt (ordering_reverse r) ≡ is_gt r
-reversed Less = refl
-reversed Equal = refl
-reversed Greater = refl
 
 not_greater : (r : Ordering) → is_lt r ≡ true → is_gt r ≡ false
 not_greater Less h = refl
@@ -27,7 +22,7 @@ not_greater Greater h = sym h
 
 module _ {X : Type 0} (order : X → X → Ordering) (o : IsTotalOrder order) where
   flip : (a b : X) → is_lt (order a b) ≡ is_gt (order b a)
-  flip a b = ap is_lt (o.antisymm a b) ∙ reversed (order b a)
+  flip a b = ap is_lt (o.antisymm a b) ∙ less_reversed (order b a)
 
   -- where neither step falls, nothing falls
   pub rises : (a b c : X) → is_lt (order b a) ≡ false → is_lt (order c b) ≡ false → is_lt (order c a) ≡ false

@@ -11,20 +11,16 @@ use Rattle.std.specs.FinMap.Entries.{by_order, find-put, find-append, find-where
 use Rattle.babel_table.specs.Entries.{without, lesser_keys}
 use Rattle.babel_table.specs.Insertions.{in_order, are_distinct, sorted_in_order}
 use Rattle.babel_table.proofs.PlaceLemmas.{holds, sorted_put, sorted_without, lesser_cons, lesser_at, find_hit}
+use Rattle.babel_value.proofs.Orderings.{equal}
 
 -- what holds of a success, if there is no failure
 pub is_stored : {X E P : Type 0} (r : Result X E) → OnOk r P → (IsErr r → ⊥) → P
 is_stored (Ok x) ok never = ok
 is_stored (Err e) ok never = absurd (never refl)
 
-no_value : {A : Type 0} (o : Option A) → is_none o ≡ true → o ≡ None
+pub no_value : {A : Type 0} (o : Option A) → is_none o ≡ true → o ≡ None
 no_value None e = refl
 no_value (Some x) e = absurd (true≢false (sym e))
-
-pub tied : (r : Ordering) → is_eq r ≡ true → r ≡ Equal
-tied Less e = cc
-tied Equal e = refl
-tied Greater e = cc
 
 -- a test that is repeated
 shadowed : {A : Type 0} (b : Bool) (x y z : A) → cond b x z ≡ cond b x (cond b y z)
@@ -63,7 +59,7 @@ module _ {K V : Type 0} (R : K → K → Ordering) (o : IsTotalOrder R) where
     where
       by : (b : Bool) → eq_by_cmp R y x ≡ b → eq_by_cmp R y x ≡ false
       by false p = p
-      by true p = absurd (none-some v (sym none ∙ find_tied R o y x (tied (R y x) p) es ∙ some))
+      by true p = absurd (none-some v (sym none ∙ find_tied R o y x (equal (R y x) p) es ∙ some))
 
   -- an entry of a list with no key twice is found
   pub find_at : (es : List (K × V)) (i : ℕ) (e : K × V) → are_distinct R es ≡ true → slice_get es i ≡ Some e → find R e.0 es ≡ Some e.1
@@ -82,7 +78,7 @@ module _ {K V : Type 0} (R : K → K → Ordering) (o : IsTotalOrder R) where
   place_from_find q (e ∷ es) v some = by (eq_by_cmp R q e.0) refl some (place_from_find q es v)
     where
       by : (b : Bool) → eq_by_cmp R q e.0 ≡ b → cond b (Some e.1) (find R q es) ≡ Some v → (find R q es ≡ Some v → (i : ℕ) × (k : K) × (slice_get es i ≡ Some (k, v)) × (R q k ≡ Equal)) → (i : ℕ) × (k : K) × (slice_get (e ∷ es) i ≡ Some (k, v)) × (R q k ≡ Equal)
-      by true p found rest = (0, e.0, ap (λ w. Some (e.0, w)) (same_Some e.1 v found), tied (R q e.0) p)
+      by true p found rest = (0, e.0, ap (λ w. Some (e.0, w)) (same_Some e.1 v found), equal (R q e.0) p)
       by false p found rest = let later = rest found in (suc later.0, later.1, later.2, later.3)
 
   -- ---- storing
@@ -96,7 +92,7 @@ module _ {K V : Type 0} (R : K → K → Ordering) (o : IsTotalOrder R) where
       let none = head_apart f es h in
       let some = find_at es i (k, w) rest at in
       ap (cond (eq_by_cmp R q f.0) (Some f.1)) (find_set es i k w v q rest at)
-      ∙ swapped (eq_by_cmp R q f.0) (eq_by_cmp R q k) (Some f.1) (Some v) (find R q es) (λ a b. none-some w (sym none ∙ find_tied R o q f.0 (tied (R q f.0) a) es ∙ sym (find_tied R o q k (tied (R q k) b) es) ∙ some))
+      ∙ swapped (eq_by_cmp R q f.0) (eq_by_cmp R q k) (Some f.1) (Some v) (find R q es) (λ a b. none-some w (sym none ∙ find_tied R o q f.0 (equal (R q f.0) a) es ∙ sym (find_tied R o q k (equal (R q k) b) es) ∙ some))
 
   pub distinct_set : (es : List (K × V)) (i : ℕ) (k : K) (w v : V) → are_distinct R es ≡ true → slice_get es i ≡ Some (k, w) → are_distinct R (set es i (k, v)) ≡ true
   distinct_set [] i k w v h at = absurd (none-some (k, w) at)

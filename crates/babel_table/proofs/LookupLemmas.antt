@@ -8,11 +8,7 @@ use Rattle.std.specs.FinMap.{find, IsAntisymmetric, is_sorted}
 use Rattle.std.specs.FinMap.Entries.{find-put, find-where_key, same_entries}
 use Rattle.babel_table.specs.Entries.{with_value}
 use Rattle.babel_table.proofs.PlaceLemmas.{holds, sorted_put, sorted_without}
-
-pub equal : (r : Ordering) → is_eq r ≡ true → r ≡ Equal
-equal Less e = cc
-equal Equal e = refl
-equal Greater e = cc
+use Rattle.babel_value.proofs.Orderings.{equal}
 
 eq_reversed : (r : Ordering) → is_eq (ordering_reverse r) ≡ is_eq r
 eq_reversed Less = refl

@@ -3,7 +3,7 @@ use Rattle.std.proofs.Common.{◌≡◌, ℕ, true, List, slice_get, Some, sym, 
 use Rattle.std.specs.declared.cmp.Ordering.{Ordering}
 use Rattle.std.specs.Ordering.{is_eq}
 use Rattle.std.specs.FinMap.{IsAntisymmetric}
-use Rattle.babel_table.proofs.LookupLemmas.{equal}
+use Rattle.babel_value.proofs.Orderings.{equal}
 
 module _ {K V : Type 0} (R : K → K → Ordering) where
   pub at_there : IsAntisymmetric R → (k : K) (es : List (K × V)) (i : ℕ) (e : K × V) → slice_get es i ≡ Some e → is_eq (R k e.0) ≡ true → slice_get es i ≡ Some (k, e.1)

@@ -1,8 +1,8 @@
 -- What is at each index of a list of entries whose keys rise, and what `find`, `put` and `without` make of it there.
-use Rattle.std.proofs.Common.{◌≡◌, ℕ, zero, suc, ◌+◌, ◌<◌, ◌≤◌, Bool, true, false, cond, not, T, List, [], ◌∷◌, ◌++◌, length, take, drop, set, get_or, remove, insert, slice_get, option_map, option_and_then, append_assoc, length-take-le, Option, Some, None, refl, sym, ap, subst, ◌∙◌, arith}
+use Rattle.std.proofs.Common.{◌≡◌, ℕ, zero, suc, ◌+◌, ◌≤◌, Bool, true, false, cond, not, T, List, [], ◌∷◌, length, take, drop, set, remove, insert, slice_get, option_map, option_and_then, Option, Some, None, refl, sym, ap, subst, ◌∙◌, arith}
 use Rattle.std.specs.List.{cons_option}
 use Rattle.std.proofs.lemmas.List.Sums.{sum_by-cons}
-use Rattle.std.proofs.lemmas.List.{take_more, drop_more, drop_all, set_at}
+use Rattle.std.proofs.lemmas.List.{drop_all}
 use Rattle.std.proofs.lemmas.Bool.{and_parts, and_from}
 use Rattle.std.proofs.lemmas.Option.{same_Some, none-some, slice_get_within}
 use Rattle.std.specs.declared.cmp.Ordering.{Ordering}
@@ -11,13 +11,9 @@ use Rattle.std.specs.Ordering.{is_lt, is_gt, is_eq, eq_by_cmp, ordering_reverse}
 use Rattle.std.specs.Cmp.{IsTotalOrder, tied_itself}
 use Rattle.std.specs.FinMap.{find, put, is_sorted, IsAntisymmetric}
 use Rattle.std.specs.FinMap.Entries.{below_all, is_sorted-put, is_sorted-where_key}
-use Rattle.babel_table.specs.Entries.{without, with_value, revised_entries, lesser_keys}
+use Rattle.babel_table.specs.Entries.{without, revised_entries, lesser_keys}
 use Rattle.babel_table.specs.Places.{IsGap, are_lesser, are_greater}
-
-pub less : (r : Ordering) → is_lt r ≡ true → r ≡ Less
-less Less e = refl
-less Equal e = cc
-less Greater e = cc
+use Rattle.babel_value.proofs.Orderings.{less}
 
 pub greater : (r : Ordering) → is_gt r ≡ true → r ≡ Greater
 greater Less e = cc
@@ -196,43 +192,7 @@ module _ {K V : Type 0} (R : K → K → Ordering) where
   sorted_without k es sorted =
       so (is_sorted R (without R k es)) (is_sorted-where_key R (λ x. not (eq_by_cmp R k x)) es (holds (is_sorted R es) sorted))
 
--- ---- between what is before and what is after
-at_length : {A : Type 0} (xs : List A) (x : A) (ys : List A) → slice_get (xs ++ x ∷ ys) (length xs) ≡ Some x
-at_length [] x ys = refl
-at_length (y ∷ xs) x ys = at_length xs x ys
-
-remove_between : {A : Type 0} (xs : List A) (x : A) (ys : List A) → remove (xs ++ x ∷ ys) (length xs) ≡ xs ++ ys
-remove_between [] x ys = refl
-remove_between (y ∷ xs) x ys = ap (λ zs. y ∷ zs) (remove_between xs x ys)
-
-module _ {K V : Type 0} (R : K → K → Ordering) (o : IsTotalOrder R) where
-  put_between : (before : List (K × V)) (e : K × V) (following : List (K × V)) (w : V) → is_sorted R (before ++ e ∷ following) ≡ true → put R e.0 w (before ++ e ∷ following) ≡ before ++ (e.0, w) ∷ following
-  put_between before e following w sorted =
-      put_hit R o w (before ++ e ∷ following) (length before) e sorted (at_length before e following) ∙ set_at before e following (e.0, w) (length before) refl
-
-  without_between : (before : List (K × V)) (e : K × V) (following : List (K × V)) → is_sorted R (before ++ e ∷ following) ≡ true → without R e.0 (before ++ e ∷ following) ≡ before ++ following
-  without_between before e following sorted =
-      without_hit R o (before ++ e ∷ following) (length before) e sorted (at_length before e following) ∙ remove_between before e following
-
-  with_value_between : (before : List (K × V)) (e : K × V) (following : List (K × V)) (o : Option V) → is_sorted R (before ++ e ∷ following) ≡ true → with_value R e.0 o (before ++ e ∷ following) ≡ before ++ cons_option (option_map (λ w. (e.0, w)) o) following
-  with_value_between before e following None sorted = without_between before e following sorted
-  with_value_between before e following (Some w) sorted = put_between before e following w sorted
-
-  -- a step of a walk from the end: the entry before the place p is revised too
-  pub revised_more : (f : K → V → Option V) (old now : List (K × V)) (i p : ℕ) (e : K × V) → i + 1 ≡ p → p ≤ length old → is_sorted R now ≡ true → now ≡ take p old ++ revised_entries f (drop p old) → slice_get now i ≡ Some e → with_value R e.0 (f e.0 e.1) now ≡ take i old ++ revised_entries f (drop i old)
-  revised_more f old now i p e next within sorted is at =
-      let lt : i < length old = omega arith in
-      let before = take i old in
-      let x = get_or old i e in
-      let following = revised_entries f (drop (i + 1) old) in
-      let until : now ≡ take (i + 1) old ++ following = subst (λ n. now ≡ take n old ++ revised_entries f (drop n old)) (sym next) is in
-      let whole : now ≡ before ++ x ∷ following = until ∙ ap (λ es. es ++ following) (take_more old i e lt) ∙ append_assoc before (x ∷ []) following in
-      let len : length before ≡ i = length-take-le i old (omega arith) in
-      let here : slice_get now i ≡ Some x = subst (λ es. slice_get es i ≡ Some x) (sym whole) (subst (λ n. slice_get (before ++ x ∷ following) n ≡ Some x) len (at_length before x following)) in
-      let same : x ≡ e = same_Some x e (sym here ∙ at) in
-      subst (λ (y : K × V). with_value R y.0 (f y.0 y.1) now ≡ take i old ++ revised_entries f (drop i old)) same
-      (ap (with_value R x.0 (f x.0 x.1)) whole ∙ with_value_between before x following (f x.0 x.1) (subst (λ es. is_sorted R es ≡ true) whole sorted) ∙ ap (λ es. before ++ revised_entries f es) (sym (drop_more old i e lt)))
-
+-- ---- the end
 pub gap_at_end : {K V : Type 0} (R : K → K → Ordering) (k : K) (es : List (K × V)) (i : ℕ) → are_lesser R k (take i es) ≡ true → length es ≡ i → IsGap R k es i
 gap_at_end R k es i before end = record { within = omega (arith, end); lesser = before; greater = ap (are_greater R k) (drop_all i es (omega (arith, end))) }
 

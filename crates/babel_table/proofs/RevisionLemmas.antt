@@ -3,7 +3,7 @@ use Rattle.std.proofs.Common.{◌≡◌, ℕ, ◌+◌, ◌<◌, ◌≤◌, true,
 use Rattle.std.specs.List.{cons_option}
 use Rattle.std.proofs.Math.Seq.{drop-cons}
 use Rattle.std.proofs.lemmas.List.{drop-set-lt, take_more_set}
-use Rattle.std.proofs.lemmas.Bool.{and_parts, and_from, true≢false}
+use Rattle.std.proofs.lemmas.Bool.{and_parts, and_from}
 use Rattle.std.proofs.lemmas.Option.{none-some}
 use Rattle.std.specs.declared.cmp.Ordering.{Ordering}
 use Rattle.std.specs.declared.cmp.Ordering.TheVariants.{Less, Equal, Greater}
@@ -14,7 +14,7 @@ use Rattle.std.specs.FinMap.Entries.{below_all, same_entries}
 use Rattle.babel_table.specs.Entries.{revised_entries}
 use Rattle.babel_table.specs.Insertions.{in_order, are_distinct, sorted_in_order}
 use Rattle.babel_table.proofs.PlaceLemmas.{holds, find_revised}
-use Rattle.babel_table.proofs.InsertionLemmas.{find_in_order}
+use Rattle.babel_table.proofs.InsertionLemmas.{find_in_order, no_value}
 
 module _ {K V : Type 0} (f : K → V → Option V) (es : List (K × V)) (i : ℕ) (d : K × V) (within : i < length es) where
   abbrev e : K × V
@@ -70,10 +70,6 @@ module _ {K V : Type 0} (R : K → K → Ordering) (f : K → V → Option V) wh
       by r Equal p h rest = absurd (none-some e.1 (sym h))
       by (Some v) Less p h rest = rw p (rest h)
       by (Some v) Greater p h rest = rw p (rest h)
-
-  no_value : {A : Type 0} (o : Option A) → is_none o ≡ true → o ≡ None
-  no_value None e = refl
-  no_value (Some x) e = absurd (true≢false (sym e))
 
   pub distinct_revised : (es : List (K × V)) → are_distinct R es ≡ true → are_distinct R (revised_entries f es) ≡ true
   distinct_revised [] h = refl

@@ -1,9 +1,7 @@
 -- What the texts of steps and of expectations are about.
-use Rattle.std.proofs.Common.{◌≡◌, ◌<◌, ℕ, List, Bool, Option, Some, None, length, sym, subst, arith}
-use Rattle.std.specs.List.{position}
+use Rattle.std.proofs.Common.{◌≡◌, ◌<◌, ℕ, List, Option, Some, None, length, sym, subst}
 use Rattle.std.specs.String.{string_bytes}
 use Rattle.std.specs.Str.{bytes_eq}
-use Rattle.std.proofs.lemmas.Grind.{common_steps}
 use Rattle.babel_value.specs.Prefixes.{PrefixValue}
 use Rattle.babel_topology.specs.declared.topology.Node.{Node}
 use Rattle.babel_topology.specs.declared.topology.Link.{Link}
@@ -15,9 +13,7 @@ use Rattle.babel_topology.specs.declared.verbs.Verb.TheVariants as verbs
 use Rattle.babel_topology.specs.Words.{IsPair, after_mark, blank}
 use Rattle.babel_topology.specs.Names.{joins, link_of, IsNodeText, IsLinkText}
 use Rattle.babel_topology.specs.Actions.{HasFields, IsActionText, IsHopText, IsRouteText, IsAbout, IsHopAmong}
-
-position_below : {X : Type 0} → (p : X → Bool) (xs : List X) (i : ℕ) → position p xs ≡ Some i → i < length xs
-position_below p xs i is = grind (arith, common_steps)
+use Rattle.babel_topology.proofs.GrowingLists.{position_below}
 
 -- A link or a node that a text names is one of the list.
 link_below : (links : List Link) (a b : Option ℕ) (link : ℕ) → link_of links a b ≡ Some link → link < length links

@@ -7,7 +7,7 @@ use Rattle.std.proofs.lemmas.List.{get_or-drop, get_or-take}
 use Rattle.babel_value.specs.Lines.{half_text}
 use Rattle.babel_value.specs.Texts.{groups_text, ipv6_text}
 use Rattle.babel_value.proofs.Digits.{hex_one}
-use Rattle.babel_value.proofs.Numbers.{AreSmall}
+use Rattle.babel_value.specs.Octets.{AreOctets}
 
 -- Zero has one digit.
 pub zero_after : (xs : List ℕ) → xs ++ codes "0" ≡ xs ++ digits 16 false 0
@@ -59,7 +59,7 @@ last_groups xs =
       get_or-drop 8 xs 7 0,
     ) refl
 
-pub in_halves : (before octets : List ℕ) → AreSmall octets
+pub in_halves : (before octets : List ℕ) → AreOctets octets
     → ((before ++ half_text (from_be_bytes w64 (take 8 octets))) ++ codes ":") ++ half_text (from_be_bytes w64 (drop 8 octets)) ≡ before ++ ipv6_text octets
 in_halves before octets small =
     let first = eight_in_groups (take 8 octets) (λ i below. rw (get_or-take 8 octets i 0 below) (small i)) ∙ first_groups octets in

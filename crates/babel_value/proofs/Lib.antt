@@ -3,3 +3,7 @@ pub mod PrefixLaws
 pub mod Numbers
 pub mod Digits
 pub mod Groups
+pub mod Orderings
+pub mod StatedOrders
+pub mod Lifting
+pub mod OctetLists

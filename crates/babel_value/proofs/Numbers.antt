@@ -12,9 +12,7 @@ use Rattle.std.proofs.lemmas.Bool.{eqb-true, eq-eqb}
 use Rattle.std.proofs.lemmas.Nat.{be_bytes_8}
 use Rattle.std.proofs.lemmas.Slice.Eq.{bytes_eq-Decides}
 use Rattle.babel_value.specs.Orders.{octets_cmp}
-
-abbrev pub AreSmall : List ℕ → Type 0
-AreSmall xs = (i : ℕ) → get_or xs i 0 < 256
+use Rattle.babel_value.specs.Octets.{AreOctets}
 
 then_equal : (o : Ordering) → ordering_then o Equal ≡ o
 then_equal Less = refl
@@ -39,7 +37,7 @@ octet_more a b x y x_small y_small =
     by Equal Equal high low = let same : a ≡ b = high in let too : x ≡ y = low in omega arith
     by Equal Greater high low = let same : a ≡ b = high in let less : y < x = low in omega arith
 
-pub cmp-big_endian : (a b : ℕ) (xs ys : List ℕ) → length xs ≡ length ys → AreSmall xs → AreSmall ys →
+pub cmp-big_endian : (a b : ℕ) (xs ys : List ℕ) → length xs ≡ length ys → AreOctets xs → AreOctets ys →
     nat_cmp (big_endian a xs) (big_endian b ys) ≡ ordering_then (nat_cmp a b) (octets_cmp xs ys)
 cmp-big_endian a b [] [] long xs_small ys_small = sym (then_equal (nat_cmp a b))
 cmp-big_endian a b [] (y ∷ ys) long xs_small ys_small = cc
@@ -79,12 +77,12 @@ eight_spell xs long =
     big_endian 0 (listed 8 (λ i. get_or xs i 0)) = omega arith in
     sum ∙ ap (big_endian 0) (listed-take 8 xs (omega arith) ∙ take_all 8 xs (omega arith))
 
-pub cmp_numbers4 : (xs ys : List ℕ) → length xs ≡ 4 → length ys ≡ 4 → AreSmall xs → AreSmall ys →
+pub cmp_numbers4 : (xs ys : List ℕ) → length xs ≡ 4 → length ys ≡ 4 → AreOctets xs → AreOctets ys →
     nat_cmp (from_be_bytes w32 xs) (from_be_bytes w32 ys) ≡ octets_cmp xs ys
 cmp_numbers4 xs ys xs_long ys_long xs_small ys_small =
     rw (four_spell xs xs_long, four_spell ys ys_long) (cmp-big_endian 0 0 xs ys (xs_long ∙ sym ys_long) xs_small ys_small)
 
-pub cmp_numbers8 : (xs ys : List ℕ) → length xs ≡ 8 → length ys ≡ 8 → AreSmall xs → AreSmall ys →
+pub cmp_numbers8 : (xs ys : List ℕ) → length xs ≡ 8 → length ys ≡ 8 → AreOctets xs → AreOctets ys →
     nat_cmp (from_be_bytes w64 xs) (from_be_bytes w64 ys) ≡ octets_cmp xs ys
 cmp_numbers8 xs ys xs_long ys_long xs_small ys_small =
     rw (eight_spell xs xs_long, eight_spell ys ys_long) (cmp-big_endian 0 0 xs ys (xs_long ∙ sym ys_long) xs_small ys_small)
@@ -99,13 +97,13 @@ cmp_parts (suc n) (x ∷ xs) (y ∷ ys) xs_long ys_long =
     then_then (nat_cmp x y) (octets_cmp (take n xs) (take n ys)) (octets_cmp (drop n xs) (drop n ys))
     ∙ ap (ordering_then (nat_cmp x y)) (cmp_parts n xs ys (omega arith) (omega arith))
 
-both_true : (a b : Bool) → (a ≡ true → b ≡ true) → (b ≡ true → a ≡ true) → a ≡ b
+pub both_true : (a b : Bool) → (a ≡ true → b ≡ true) → (b ≡ true → a ≡ true) → a ≡ b
 both_true true b there back = sym (there refl)
 both_true false true there back = back refl
 both_true false false there back = refl
 
 -- Octets are the same if and only if the numbers that they spell are.
-pub equal_numbers8 : (xs ys : List ℕ) → length xs ≡ 8 → length ys ≡ 8 → AreSmall xs → AreSmall ys →
+pub equal_numbers8 : (xs ys : List ℕ) → length xs ≡ 8 → length ys ≡ 8 → AreOctets xs → AreOctets ys →
     nat_eq (from_be_bytes w64 xs) (from_be_bytes w64 ys) ≡ bytes_eq xs ys
 equal_numbers8 xs ys xs_long ys_long xs_small ys_small =
     both_true (nat_eq (from_be_bytes w64 xs) (from_be_bytes w64 ys)) (bytes_eq xs ys)

@@ -11,3 +11,4 @@ pub mod Moments
 pub mod Hellos
 pub mod Texts
 pub mod Lines
+pub mod Octets

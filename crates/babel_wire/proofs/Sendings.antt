@@ -34,7 +34,7 @@ grows_more (Some a) xs (Some b) ys (Some c) first later = later ∙ ap (λ h. h 
 abbrev pub counted : Report → Sending → Report
 counted r x = cond x.is_sent (record r { sent = r.sent + 1 }) (record r { faults = r.faults + 1 })
 
-abbrev counts_of : List Sending → Report
+abbrev pub counts_of : List Sending → Report
 counts_of xs = record { received = 0; sent = sent_by xs; refused = 0; faults = lost_by xs }
 
 abbrev four : ℕ → ℕ → Report
@@ -44,7 +44,7 @@ counted_by : (is_sent : Bool) (n m : ℕ) → cond is_sent (four (n + 1) m) (fou
 counted_by true n m = ap (λ k. four (n + 1) k) (sym (add-zero m))
 counted_by false n m = ap (λ k. four k (m + 1)) (sym (add-zero n))
 
-counted_more : (xs : List Sending) (x : Sending) → counted (counts_of xs) x ≡ counts_of (xs ++ x ∷ [])
+pub counted_more : (xs : List Sending) (x : Sending) → counted (counts_of xs) x ≡ counts_of (xs ++ x ∷ [])
 counted_more xs x =
     rw (sum_by_push (λ (y : Sending). cond y.is_sent 1 0) xs x, sum_by_push (λ (y : Sending). cond (not y.is_sent) 1 0) xs x) (counted_by x.is_sent (sent_by xs) (lost_by xs))
 

@@ -1,8 +1,7 @@
 -- Datagrams that are taken, and given to the wire later.
-use Rattle.std.proofs.Common.{◌≡◌, ◌+◌, ℕ, Bool, true, false, not, cond, List, [], ◌∷◌, ◌++◌, map, take, All, Option, Some, Result, add-zero, refl, sym, ap, ◌∙◌, subst}
+use Rattle.std.proofs.Common.{◌≡◌, ◌+◌, ℕ, false, List, [], ◌∷◌, ◌++◌, map, take, All, Option, Some, Result, refl, sym, ap, ◌∙◌, subst}
 use Rattle.std.proofs.lemmas.List.{map-append, length-append, length-map}
 use Rattle.std.proofs.lemmas.List.Elements.{All-nil, All-cons}
-use Rattle.std.proofs.lemmas.List.Sums.{sum_by_push}
 use Rattle.babel_state.specs.declared.items.Target.{Target}
 use Rattle.babel_state.specs.Addresses.{transport_at}
 use Rattle.babel_state.specs.State.{State}
@@ -10,8 +9,8 @@ use Rattle.babel_speaker.specs.Sending.{IsBuiltFrom, MeansFrom, draft_at}
 use Rattle.babel_wire.specs.declared.errors.WireFault.{WireFault}
 use Rattle.babel_wire.specs.declared.report.Report.{Report}
 use Rattle.babel_wire.specs.Calls.{Call, Send, Sending, Grows, call_of_send, sending_of}
-use Rattle.babel_wire.specs.Turns.{AreSent, SendsPending, Ends, sent_by, lost_by}
-use Rattle.babel_wire.proofs.Sendings.{sent_more, grows_more, counted}
+use Rattle.babel_wire.specs.Turns.{AreSent, SendsPending, Ends}
+use Rattle.babel_wire.proofs.Sendings.{sent_more, grows_more, counted, counted_more}
 use Rattle.babel_wire.specs.declared.durable.outbox.Datagram.{Datagram}
 use Rattle.babel_wire.specs.Taken.{Taken, taken_of, waiting, datagram_of}
 use Rattle.babel_wire.specs.DurableRuns.{AreTakenSoFar, AreGiven}
@@ -34,20 +33,6 @@ taking_goes count now old mid taken target octets new later so goes means built 
     })
 
 -- ---- the datagrams are given to the wire
-
-abbrev counts_of : List Sending → Report
-counts_of xs = record { received = 0; sent = sent_by xs; refused = 0; faults = lost_by xs }
-
-abbrev four : ℕ → ℕ → Report
-four sent faults = record { received = 0; sent = sent; refused = 0; faults = faults }
-
-counted_by : (is_sent : Bool) (n m : ℕ) → cond is_sent (four (n + 1) m) (four n (m + 1)) ≡ four (n + cond is_sent 1 0) (m + cond (not is_sent) 1 0)
-counted_by true n m = ap (λ k. four (n + 1) k) (sym (add-zero m))
-counted_by false n m = ap (λ k. four k (m + 1)) (sym (add-zero n))
-
-counted_more : (xs : List Sending) (x : Sending) → counted (counts_of xs) x ≡ counts_of (xs ++ x ∷ [])
-counted_more xs x =
-    rw (sum_by_push (λ (y : Sending). cond y.is_sent 1 0) xs x, sum_by_push (λ (y : Sending). cond (not y.is_sent) 1 0) xs x) (counted_by x.is_sent (sent_by xs) (lost_by xs))
 
 -- The next one was given.
 given_more : (taken : List Taken) (h h1 : Option (List Call)) (r : Report) (one : Taken) (octets : List ℕ) (result : Result Unit WireFault)

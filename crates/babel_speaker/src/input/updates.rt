@@ -286,7 +286,7 @@ impl Core {
 
     /// Handles a retraction of all that a neighbour advertised (RFC 8966, section 4.6.9). A settled
     /// speaker looks only at the selected routes, of which those of the neighbour are lost.
-    #[tactic(auto, using(crate::proofs::Retractions::retracted_none, crate::proofs::Losses::retracted_unless), unfolding(babel_state::specs::Updates::handle_retract_all))]
+    #[tactic(auto, using(babel_route::proofs::RetractionLemmas::nothing_retracted, crate::proofs::Losses::retracted_unless), unfolding(babel_state::specs::Updates::handle_retract_all))]
     pub fn handle_retract_all(&mut self, now: u64, peer: &Peer, hints: &mut Hints) -> Verdict
         requires settled { IsTrue hints.old.settled → AreCurrent self.old }
         ensures settled { hints.new.settled ≡ hints.old.settled }

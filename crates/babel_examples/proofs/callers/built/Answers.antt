@@ -1,23 +1,19 @@
 -- The datagram means one more message.
-use Rattle.std.proofs.Common.{◌≡◌, ◌+◌, Bool, true, false, ◌&&◌, List, [], ◌∷◌, ◌++◌, take, refl, ap, sym, ◌∙◌, subst}
+use Rattle.std.proofs.Common.{◌≡◌, ◌+◌, true, List, [], ◌∷◌, ◌++◌, take, refl, ap, sym, ◌∙◌, subst}
 use Rattle.std.specs.List.{list_all}
 use Rattle.std.proofs.Math.Bool.{and-true}
 use Rattle.std.proofs.lemmas.List.{take_more}
 use Rattle.std.proofs.lemmas.List.Folds.{list_all-append}
+use Rattle.std.proofs.lemmas.Bool.{and_parts}
 use Rattle.babel_message.specs.declared.messages.Message.{Message}
 use Rattle.babel_packet.specs.Encodable.{is_encodable}
 use Rattle.babel_build.specs.Built.{Built, HasEncoded}
 use Rattle.babel_examples.proofs.callers.built.Goals as goal
 
-both : (a b : Bool) → (a && b) ≡ true → (a ≡ true) × (b ≡ true)
-both true true h = (refl, refl)
-both true false h = cc
-both false b h = cc
-
 parts : (earlier : List Message) (message : Message) → list_all is_encodable (earlier ++ message ∷ []) ≡ true →
     (list_all is_encodable earlier ≡ true) × (is_encodable message ≡ true)
 parts earlier message all =
-    let split = both (list_all is_encodable earlier) (list_all is_encodable (message ∷ [])) (sym (list_all-append is_encodable earlier (message ∷ [])) ∙ all) in
+    let split = and_parts (list_all is_encodable earlier) (list_all is_encodable (message ∷ [])) (sym (list_all-append is_encodable earlier (message ∷ [])) ∙ all) in
     (split.0, sym (and-true (is_encodable message)) ∙ split.1)
 
 pub loop-message-preserved : goal.loop-message-preserved

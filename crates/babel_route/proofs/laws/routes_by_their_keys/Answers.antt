@@ -9,8 +9,8 @@ use Rattle.babel_choice.specs.declared.entries.Entry.{Entry}
 use Rattle.babel_choice.specs.RouteKeys.{route_cmp, route_total, route_exact}
 use Rattle.babel_choice.specs.Routes.{RouteEntries, key_of, entry_of_update, retracted_entry, retracted_from, kept_without, expired_entry}
 use Rattle.babel_table.proofs.PlaceLemmas.{find_revised}
-use Rattle.babel_table.proofs.LookupLemmas.{equal}
 use Rattle.babel_route.proofs.laws.routes_by_their_keys.Goals as goal
+use Rattle.babel_value.proofs.Orderings.{equal}
 
 pub returns-clause-updates : goal.returns-clause-updates
 returns-clause-updates c = λ now prefix peer router distance next_hop interval key es.

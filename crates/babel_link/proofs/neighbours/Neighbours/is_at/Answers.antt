@@ -1,9 +1,9 @@
 -- An entry with the peer's key is at the peer's place.
 use Rattle.std.proofs.Common.{sym, ap, ◌∙◌}
 use Rattle.std.specs.Ordering.{is_eq}
-use Rattle.babel_link.proofs.PeerCmp.{cmp_of_peers}
 use Rattle.babel_link.proofs.PlaceLemmas.{place_of_entry}
 use Rattle.babel_link.proofs.neighbours.Neighbours.is_at.Goals as goal
+use Rattle.babel_value.proofs.StatedOrders.{cmp_of_peers}
 
 pub returns-in-Some : goal.returns-in-Some
 returns-in-Some c found =

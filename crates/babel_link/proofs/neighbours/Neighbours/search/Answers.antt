@@ -2,9 +2,9 @@
 use Rattle.std.proofs.Common.{rules, subst}
 use Rattle.std.specs.List.Sorted.{IsBinarySearchResult}
 use Rattle.std.proofs.lemmas.List.Sorted.{answers_always}
-use Rattle.babel_link.proofs.PeerCmp.{cmp_of_peers}
 use Rattle.babel_link.proofs.PlaceLemmas.{searched}
 use Rattle.babel_link.proofs.neighbours.Neighbours.search.Goals as goal
+use Rattle.babel_value.proofs.StatedOrders.{cmp_of_peers}
 
 pub returns : goal.returns
 returns c =

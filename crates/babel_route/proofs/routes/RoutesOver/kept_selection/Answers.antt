@@ -2,7 +2,7 @@
 use Rattle.std.proofs.Common.{◌≡◌, ◌∙◌, true, refl, sym, ap, subst}
 use Rattle.babel_value.specs.Orders.{prefix_cmp, peer_cmp}
 use Rattle.babel_value.proofs.OrderLaws.{prefix_exact, peer_exact}
-use Rattle.babel_table.proofs.LookupLemmas.{equal}
+use Rattle.babel_value.proofs.Orderings.{equal}
 use Rattle.babel_choice.specs.Choices.{is_change, overtakes, peer_before}
 use Rattle.babel_choice.specs.Routes.{key_of}
 use Rattle.babel_route.specs.Selections.{RoutesValue, IsCurrentBut}

@@ -3,7 +3,7 @@ use Rattle.std.proofs.Common.{sym, ap, ◌∙◌}
 use Rattle.std.specs.Ordering.{is_eq}
 use Rattle.babel_value.specs.Orders.{octets_cmp}
 use Rattle.babel_value.proofs.OrderLaws.{octets_exact}
-use Rattle.babel_table.proofs.LookupLemmas.{equal}
+use Rattle.babel_value.proofs.Orderings.{equal}
 use Rattle.babel_speaker.proofs.state.settings.is_same_router.Goals as goal
 
 pub returns : goal.returns

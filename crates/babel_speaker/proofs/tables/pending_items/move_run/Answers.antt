@@ -4,8 +4,8 @@ use Rattle.std.proofs.lemmas.List.{append-nil}
 use Rattle.std.proofs.lemmas.Option.{slice_get_within}
 use Rattle.babel_state.specs.declared.items.Item.TheVariants.{Update}
 use Rattle.babel_speaker.proofs.Runs.{first_moved}
-use Rattle.babel_speaker.proofs.Walking.{drop_past}
 use Rattle.babel_speaker.proofs.tables.pending_items.move_run.Goals as goal
+use Rattle.babel_choice.proofs.RunLemmas.{drop_past}
 
 pub loop-prefix-preserved : goal.loop-prefix-preserved
 loop-prefix-preserved c =

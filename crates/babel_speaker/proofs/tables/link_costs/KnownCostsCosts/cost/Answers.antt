@@ -3,7 +3,7 @@ use Rattle.std.proofs.Common.{sym, ap, ◌∙◌}
 use Rattle.std.specs.Ordering.{is_eq}
 use Rattle.babel_value.specs.Orders.{peer_cmp}
 use Rattle.babel_value.proofs.OrderLaws.{peer_exact}
-use Rattle.babel_table.proofs.LookupLemmas.{equal}
+use Rattle.babel_value.proofs.Orderings.{equal}
 use Rattle.babel_speaker.specs.Costs.{link_cost}
 use Rattle.babel_speaker.proofs.tables.link_costs.KnownCostsCosts.cost.Goals as goal
 

@@ -1,8 +1,8 @@
 -- The prefix at the place is the next one.
 use Rattle.std.proofs.Common.{sym, ap, ◌∙◌, length, rules}
-use Rattle.babel_speaker.proofs.Walking.{drop_at}
 use Rattle.babel_state.specs.State.{prefixes_in}
 use Rattle.babel_speaker.proofs.tables.prefixes.PrefixesIterator.next.Goals as goal
+use Rattle.babel_choice.proofs.RunLemmas.{drop_at}
 
 pub returns-clause-steps : goal.returns-clause-steps
 returns-clause-steps c =

@@ -4,7 +4,7 @@ use Rattle.std.specs.declared.cmp.Ordering.{Ordering}
 use Rattle.std.specs.declared.cmp.Ordering.TheVariants.{Less, Equal, Greater}
 use Rattle.std.specs.Ordering.{is_eq, is_gt}
 use Rattle.babel_value.specs.Prefixes.{PrefixValue}
-use Rattle.babel_table.proofs.LookupLemmas.{equal}
+use Rattle.babel_value.proofs.Orderings.{equal}
 use Rattle.babel_table.proofs.PlaceLemmas.{greater}
 use Rattle.babel_speaker.proofs.Reaching.{ends, only_selected, only_own, own_less, selected_less, both_same}
 use Rattle.babel_speaker.proofs.tables.reachable.ReachableIterator.next.Goals.{then-is_eq, else-is_eq}

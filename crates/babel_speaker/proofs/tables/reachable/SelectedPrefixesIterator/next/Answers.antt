@@ -1,7 +1,7 @@
 -- The prefix of the selection at the index is the next one.
 use Rattle.std.proofs.Common.{sym, ap, ◌∙◌, map, length, rules}
 use Rattle.babel_choice.specs.Choices.{Selections}
-use Rattle.babel_speaker.proofs.Walking.{drop_at, drop_past}
+use Rattle.babel_choice.proofs.RunLemmas.{drop_at, drop_past}
 use Rattle.babel_speaker.proofs.tables.reachable.SelectedPrefixesIterator.next.Goals as goal
 
 pub returns-in_err-selection-clause-steps : goal.returns-in_err-selection-clause-steps

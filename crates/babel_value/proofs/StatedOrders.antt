@@ -1,4 +1,4 @@
--- `cmp` of two peers is the stated order.
+-- `cmp` of two addresses, and of two peers, is the stated order.
 use Rattle.std.proofs.Common.{◌≡◌, refl, ap}
 use Rattle.std.specs.Ordering.{ordering_then, nat_cmp}
 use Rattle.babel_value.specs.declared.addresses.Addr.{Addr}
@@ -8,7 +8,7 @@ use Rattle.babel_value.specs.Orders.{addr_cmp, peer_cmp}
 use Rattle.babel_value.specs.contracts.addresses.AddrOrd.TheImpl as addrs
 use Rattle.babel_value.specs.contracts.keys.PeerOrd.TheImpl as peers
 
-cmp_of_addrs : (a b : Addr) → (addrs.ghosts).cmp a b ≡ addr_cmp a b
+pub cmp_of_addrs : (a b : Addr) → (addrs.ghosts).cmp a b ≡ addr_cmp a b
 cmp_of_addrs (V4 a) (V4 b) = refl
 cmp_of_addrs (V4 a) (V6 b) = refl
 cmp_of_addrs (V6 a) (V4 b) = refl
