@@ -1,12 +1,12 @@
 -- The counts of changes.
-use Rattle.std.specs.Prelude.{◌≡◌, ◌≤◌, ◌<◌, ℕ, Bool, true, false, IsFalse}
+use Rattle.std.specs.Prelude.{◌≡◌, ◌+◌, ◌≤◌, ◌<◌, ℕ, Bool, true, false, not, IsTrue, IsFalse}
 use Rattle.std.proofs.Common.{refl, sym, ◌∙◌, ap, subst, arith, true≢false}
 use Rattle.babel_state.specs.KeptRoutes.{KeepsRoutes}
 use Rattle.babel_state.specs.Restarts.{snapshot_of}
 use Rattle.babel_state.specs.SeqnoRequests.{raised}
 use Rattle.babel_state.specs.State.{State}
 use Rattle.babel_state.proofs.KeptRoutes.{parts_routes, routes_through, same_routes}
-use Rattle.babel_speaker.specs.Versions.{SpeakerValue, greatest_version, CountsChanges, CountsAddUp}
+use Rattle.babel_speaker.specs.Versions.{SpeakerValue, greatest_version, CountsChanges, CountsRoutes, CountsSnapshots, CountsAddUp}
 
 -- A count after what may have changed.
 pub record IsCounted (changed : Bool) (old new : ℕ) : Type 0 where
@@ -29,6 +29,12 @@ counts old new routes snapshot r s kept saved = record {
 -- The same of a view of the old value.
 pub counts_from : (view old new : SpeakerValue) → view ≡ old → CountsChanges view new → CountsChanges old new
 counts_from view old new is counted = subst (λ o. CountsChanges o new) is counted
+
+pub counts_routes : (view old new : SpeakerValue) → view ≡ old → (KeepsRoutes view.state new.state → new.routes_version ≡ view.routes_version) → new.routes_version ≤ view.routes_version + 1 → CountsRoutes old new
+counts_routes view old new is kept step = subst (λ o. CountsRoutes o new) is (record { kept = kept; step = step })
+
+pub counts_snapshots : (view old new : SpeakerValue) → view ≡ old → (snapshot_of new.state ≡ snapshot_of view.state → new.snapshot_version ≡ view.snapshot_version) → new.snapshot_version ≤ view.snapshot_version + 1 → CountsSnapshots old new
+counts_snapshots view old new is kept step = subst (λ o. CountsSnapshots o new) is (record { kept = kept; step = step })
 
 pub counts_nothing : (old new : SpeakerValue) → new ≡ old → CountsChanges old new
 counts_nothing old new same = record {
@@ -53,6 +59,10 @@ add_up old mid new one two = record {
 }
 
 -- ---- what a call can't have changed
+
+pub is_not : (b : Bool) → IsTrue b → IsFalse (not b)
+is_not true is = refl
+is_not false is = sym is
 
 pub state_of : (a b : SpeakerValue) → a ≡ b → a.state ≡ b.state
 state_of a b same = ap (λ (v : SpeakerValue). v.state) same

@@ -1,14 +1,15 @@
 -- If candidates are only lost, the selection of each prefix whose selected route is still one stays current.
-use Rattle.std.specs.Prelude.{◌≡◌, ◌⊎◌, All, ℕ, zero, suc, ◌+◌, ◌<◌, ◌≤◌, length, Bool, true, false, cond, not, ◌&&◌, List, [], ◌∷◌, drop, remove, slice_get, filter, map, IfSome, Option, Some, None, nat_lt, nat_le, if◌then◌else◌}
+use Rattle.std.specs.Prelude.{◌≡◌, ◌⊎◌, All, ℕ, zero, suc, ◌+◌, ◌<◌, ◌≤◌, length, Bool, true, false, cond, not, ◌&&◌, ◌||◌, List, [], ◌∷◌, drop, remove, slice_get, filter, map, IfSome, Option, Some, None, nat_lt, nat_le, if◌then◌else◌}
 use Rattle.std.specs.List.{cons_option, list_any}
 use Rattle.std.specs.Option.{option_map}
 use Rattle.std.specs.Ordering.{eq_by_cmp, is_lt}
 use Rattle.std.specs.FinMap.{find, put, is_sorted}
 use Rattle.std.specs.FinMap.Entries.{below_all}
 use Rattle.std.proofs.Common.{refl, sym, ◌∙◌, ap, subst, arith, add-one, inl, inr}
-use Rattle.std.proofs.lemmas.List.Elements.{All-head, All-tail, All-weaker}
+use Rattle.std.proofs.lemmas.List.Elements.{All-nil, All-cons, All-head, All-tail, All-weaker, filter_passes}
+use Rattle.std.proofs.lemmas.List.Folds.{list_any_none}
 use Rattle.std.proofs.Math.Nat.{min-eq_right}
-use Rattle.std.proofs.lemmas.Bool.{ltb-false, le-ltb, and_parts, or_parts, false≢true}
+use Rattle.std.proofs.lemmas.Bool.{ltb-false, le-ltb, and_parts, or_parts, not-true, false≢true}
 use Rattle.std.proofs.lemmas.List.{drop-set-lt}
 use Rattle.babel_value.specs.declared.keys.Peer.{Peer}
 use Rattle.babel_value.specs.Metrics.{infinity, metric_sum}
@@ -19,7 +20,7 @@ use Rattle.babel_value.proofs.Orderings.{equal}
 use Rattle.babel_table.specs.Entries.{with_value, without}
 use Rattle.babel_table.specs.Places.{IsAt}
 use Rattle.babel_table.proofs.PlaceLemmas.{find_hit, put_hit, without_hit}
-use Rattle.babel_table.proofs.FirstLemmas.{none_first}
+use Rattle.babel_table.proofs.FirstLemmas.{is_first, none_first}
 use Rattle.babel_table.specs.Firsts.{first_of}
 use Rattle.babel_sources.specs.Sources.{Sources}
 use Rattle.babel_choice.specs.declared.entries.Selection.{Selection}
@@ -48,9 +49,10 @@ use Rattle.babel_state.specs.SettledLaws.{AreSelectionsInOrder}
 use Rattle.babel_state.specs.Hellos.{hears, forgets_flushed}
 use Rattle.babel_state.specs.Ticks.{forget_each, routes_ticked}
 use Rattle.babel_state.proofs.SettledLemmas.{other_cost}
+use Rattle.babel_state.proofs.Tables.{each_at}
 use Rattle.babel_speaker.specs.declared.input.losses.Loss.{Loss}
 use Rattle.babel_speaker.specs.declared.input.losses.Loss.TheVariants.{Cost, Deadline, Neighbour}
-use Rattle.babel_speaker.specs.Losses.{is_finite_route, is_lost, prefixes_lost, AreCurrentUnless, is_loss}
+use Rattle.babel_speaker.specs.Losses.{is_finite_route, is_any_lost, is_lost, prefixes_lost, AreCurrentUnless, is_loss}
 use Rattle.babel_speaker.proofs.LinkChanges.{AreSame, same_first, all_forgets}
 use Rattle.babel_speaker.proofs.Settling.{settled_all}
 use Rattle.babel_speaker.proofs.StaleReselections.{units, of_units, all_reselected, costs_kept}
@@ -525,3 +527,55 @@ next_selected now place p change s t u sorted at selects changes is =
     by (Some w) kept =
         rw (ap is_loss kept ∙ not_loss _)
         (ap (drop (place + 1)) (put_hit prefix_cmp prefix_total w ss place (p, at.0) sorted at.1) ∙ drop-set-lt (place + 1) ss place (p, w) (omega arith))
+
+-- ---- whether a selected route is lost
+
+module _ (lost : Selection → Bool) (place : ℕ) (e : PrefixValue × Selection) (ss : Selections) (at : slice_get ss place ≡ Some e) where
+  next_lost : is_any_lost lost (drop place ss) ≡ (lost e.1 || is_any_lost lost (drop (place + 1) ss))
+  next_lost = ap (is_any_lost lost) (drop_at ss place e at)
+
+  pub this_lost : lost e.1 ≡ true → is_any_lost lost (drop place ss) ≡ true
+  this_lost gone = next_lost ∙ ap (λ b. b || is_any_lost lost (drop (place + 1) ss)) gone
+
+  pub this_stays : lost e.1 ≡ false → is_any_lost lost (drop place ss) ≡ is_any_lost lost (drop (place + 1) ss)
+  this_stays stays = next_lost ∙ ap (λ b. b || is_any_lost lost (drop (place + 1) ss)) stays
+
+-- A tick of the routes changes no selection.
+pub still_lost : (now : ℕ) (s t : State) → t ≡ routes_ticked now s → is_any_lost (is_lost (Deadline now) t) t.routes.selections ≡ is_any_lost (is_lost (Deadline now) s) s.routes.selections
+unfolding routes_ticked
+still_lost now s t is = ap (λ (u : State). is_any_lost (is_lost (Deadline now) u) u.routes.selections) is
+
+-- No route was due, so no selected one was.
+module _ (now : ℕ) (s : State) where
+  abbrev is_later : Route → Type 0
+  is_later r = nat_le r.1.deadline now ≡ false
+
+  candidates_later : (p : PrefixValue) (local : Bool) → expired now s.routes.entries ≡ s.routes.entries → All is_later (candidates s.sources (cost_at s) p local s.routes.entries)
+  candidates_later p true same = All-nil is_later
+  candidates_later p false same =
+      let cs : RouteEntries = candidates s.sources (cost_at s) p false s.routes.entries in
+      let left : filter (λ r. not (nat_le r.1.deadline now)) cs ≡ cs = sym (due_lost s.sources (cost_at s) now p s.routes.entries) ∙ ap (candidates s.sources (cost_at s) p false) same in
+      subst (All is_later) left
+      (All-weaker (λ r. not (nat_le r.1.deadline now) ≡ true) is_later (λ r later. not-true (nat_le r.1.deadline now) later) (filter (λ r. not (nat_le r.1.deadline now)) cs)
+      (filter_passes (λ r. not (nat_le r.1.deadline now)) cs))
+
+  chosen_later : (before : Option Peer) (cs : RouteEntries) → All is_later cs → IfSome (option_map selection_of (first_of (preference (cost_at s) before) cs)) (λ v. is_lost (Deadline now) s v ≡ false)
+  chosen_later before cs later = by (first_of (preference (cost_at s) before) cs) refl
+    where
+      by : (o : Option Route) → first_of (preference (cost_at s) before) cs ≡ o → IfSome (option_map selection_of o) (λ v. is_lost (Deadline now) s v ≡ false)
+      by None is = tt
+      by (Some r) is =
+          let first = is_first (preference (cost_at s) before) (preference_total (cost_at s) before) cs r is in
+          each_at is_later cs first.place r first.at later
+
+  each_later : (ss : Selections) → ((i : ℕ) (e : PrefixValue × Selection) → slice_get ss i ≡ Some e → is_lost (Deadline now) s e.1 ≡ false) → All (λ e. is_lost (Deadline now) s e.1 ≡ false) ss
+  each_later [] later = All-nil (λ e. is_lost (Deadline now) s e.1 ≡ false)
+  each_later (e ∷ ss) later = All-cons (λ e. is_lost (Deadline now) s e.1 ≡ false) e ss (later 0 e refl) (each_later ss (λ i f at. later (suc i) f at))
+
+  pub none_lost : AreSelectionsInOrder s → AreCurrent s → routes_ticked now s ≡ s → false ≡ is_any_lost (is_lost (Deadline now) s) s.routes.selections
+  unfolding routes_ticked
+  none_lost sorted current same =
+      sym (list_any_none (λ e. is_lost (Deadline now) s e.1) s.routes.selections (each_later s.routes.selections (λ i e at.
+      subst (λ o. IfSome o (λ v. is_lost (Deadline now) s v ≡ false)) (sym (current e.0) ∙ find_hit prefix_cmp prefix_total s.routes.selections i e sorted at)
+      (chosen_later (peer_before (selected_at e.0 s)) (candidates s.sources (cost_at s) e.0 (announces e.0 s) s.routes.entries)
+      (candidates_later e.0 (announces e.0 s) (ap (λ (t : State). t.routes.entries) same))))))

@@ -1,18 +1,23 @@
 -- What leaves the selected routes as they are.
-use Rattle.std.specs.Prelude.{◌≡◌, ℕ, Bool, true, false, not, IsTrue, IsFalse, List, [], slice_get}
-use Rattle.std.specs.Option.{option_map_or}
+use Rattle.std.specs.Prelude.{◌≡◌, ℕ, Bool, true, false, not, IsTrue, IsFalse, List, [], Option, Some, None, slice_get, if◌then◌else◌}
+use Rattle.std.specs.Option.{option_map, option_map_or}
+use Rattle.std.proofs.lemmas.Option.{same_Some}
 use Rattle.std.proofs.Common.{refl, sym, ◌∙◌, ap, subst, true≢false}
 use Rattle.babel_value.specs.declared.keys.Peer.{Peer}
 use Rattle.babel_value.specs.Metrics.{infinity}
 use Rattle.babel_value.specs.Prefixes.{PrefixValue}
 use Rattle.babel_link.specs.Neighbours.{Links, cost_of}
-use Rattle.babel_route.specs.declared.routes.changes.Report.TheVariants.{Alike}
+use Rattle.babel_route.specs.declared.routes.changes.Report.TheVariants.{Alike, Other}
 use Rattle.babel_route.specs.declared.routes.changes.SelectionChange.{SelectionChange}
-use Rattle.babel_route.specs.SelectionChanges.{selection_change}
+use Rattle.babel_route.specs.SelectionChanges.{are_alike, selection_change}
+use Rattle.babel_route.proofs.ChangeLemmas.{like_itself}
+use Rattle.babel_choice.specs.declared.entries.Selection.{Selection}
 use Rattle.babel_choice.specs.Routes.{RouteEntries}
 use Rattle.babel_route.specs.Selections.{selection_at}
 use Rattle.babel_state.specs.State.{State, PrefixSet, prefixes_in, nominal_cost, cost_at, selected_at, with_entries}
 use Rattle.babel_state.specs.declared.items.Item.{Item}
+use Rattle.babel_state.specs.declared.selected.Selected.{Selected}
+use Rattle.babel_state.specs.Calls.{reported_selected, selected_route}
 use Rattle.babel_state.specs.Reselection.{queue, select, reselect_each}
 use Rattle.babel_state.specs.Ticks.{forget_each, routes_ticked, requests_ticked, interfaces_ticked, sources_ticked}
 use Rattle.babel_state.specs.KeptRoutes.{KeepsRoutes}
@@ -48,6 +53,24 @@ pub advertised_routes : (prefix : PrefixValue) (s t u : State) (xs : List Item) 
     change ≡ selection_change (selected_at prefix s) (selected_at prefix t) → change.report ≡ Alike → u ≡ queue xs t → KeepsRoutes s u
 advertised_routes prefix s t u xs change selects changed alike queues =
     stored_routes prefix s.routes.entries s t u change selects changed alike (queue_kept_routes xs t u queues)
+
+-- The same is reported of both selections, so they are alike.
+alike_reports : (p : PrefixValue) (s t : State) (old new : Option Selection) → option_map (reported_selected p t) new ≡ option_map (reported_selected p s) old → are_alike old new ≡ true
+alike_reports p s t None None same = refl
+alike_reports p s t None (Some b) same = cc
+alike_reports p s t (Some a) None same = cc
+alike_reports p s t (Some a) (Some b) same =
+    let one : reported_selected p t b ≡ reported_selected p s a = same_Some _ _ same in
+    like_itself a b (ap (λ (r : Selected). r.peer) one) (ap (λ (r : Selected). r.router) one) (ap (λ (r : Selected). r.next_hop) one) (ap (λ (r : Selected). r.distance) one)
+
+-- The selected routes are reported as before, so the report of the prefix says so.
+pub reported_alike : (p : PrefixValue) (s t u : State) (xs : List Item) (change : SelectionChange) →
+    change ≡ selection_change (selected_at p s) (selected_at p t) → u ≡ queue xs t → KeepsRoutes s u → change.report ≡ Alike
+unfolding selected_route
+reported_alike p s t u xs change changed queues kept =
+    ap (λ (c : SelectionChange). c.report) changed
+    ∙ ap (λ b. if b then Alike else Other)
+    (alike_reports p s u (selected_at p s) (selected_at p t) (ap (λ o. option_map (reported_selected p u) o) (sym (ap (selected_at p) queues)) ∙ kept p))
 
 -- Neither the routes nor what their costs depend on changed before.
 pub same_before : (s t u : State) → t.routes ≡ s.routes → t.interfaces ≡ s.interfaces → t.neighbours ≡ s.neighbours → KeepsRoutes t u → KeepsRoutes s u

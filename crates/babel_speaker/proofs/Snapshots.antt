@@ -1,7 +1,7 @@
 -- What leaves the snapshot of a speaker as it is.
 use Rattle.std.specs.Prelude.{◌≡◌, ◌⊎◌, ℕ, Bool, true, false, List, [], ◌∷◌, slice_set, Option, Some, None, if◌then◌else◌}
 use Rattle.std.specs.Option.{option_map_or}
-use Rattle.std.proofs.Common.{refl, ◌∙◌, ap, inl, inr}
+use Rattle.std.proofs.Common.{refl, ◌∙◌, ap, arith, inl, inr}
 use Rattle.babel_value.specs.declared.keys.Peer.{Peer}
 use Rattle.babel_value.specs.Prefixes.{PrefixValue}
 use Rattle.babel_message.specs.declared.placements.Content.{Content}
@@ -13,6 +13,7 @@ use Rattle.babel_state.specs.Calls.{cost_set, announced_also, withdrawn}
 use Rattle.babel_state.specs.Messages.{Arrival, handle_message, handle_content, after_places, Receives}
 use Rattle.babel_state.specs.NextDatagram.{left_out_more}
 use Rattle.babel_state.specs.Restarts.{Snapshot, snapshot_of}
+use Rattle.babel_state.specs.SeqnoRequests.{raised}
 use Rattle.babel_state.specs.State.{State, interface_at, announces}
 use Rattle.babel_state.specs.StepLaws.{OwnValue, own_of, KeepsOwn, GrowsOnce}
 use Rattle.babel_state.proofs.Keeping.{message_own}
@@ -93,3 +94,17 @@ announced_snapshot prefix s t is = ap snapshot_of is ∙ if_snapshot (announces 
 pub withdrawn_snapshot : (prefix : PrefixValue) (s t : State) → t ≡ withdrawn prefix s → snapshot_of t ≡ snapshot_of s
 unfolding withdrawn snapshot_of
 withdrawn_snapshot prefix s t is = ap snapshot_of is
+
+-- ---- what the same snapshot says
+
+pub same_seqno : (s t : State) → snapshot_of t ≡ snapshot_of s → t.seqno ≡ s.seqno
+unfolding snapshot_of
+same_seqno s t same = ap (λ (x : Snapshot). x.seqno) same
+
+pub same_raises : (s t : State) → snapshot_of t ≡ snapshot_of s → t.raises ≡ s.raises
+unfolding snapshot_of
+same_raises s t same = ap (λ (x : Snapshot). x.raises) same
+
+-- A raise changes the snapshot.
+pub raised_snapshot : (s t : State) → t ≡ raised s → snapshot_of t ≡ snapshot_of s → ⊥
+raised_snapshot s t is same = omega (arith, ap (λ (u : State). u.seqno) is, same_seqno s t same)

@@ -1,6 +1,6 @@
 -- What is selected again after candidates were lost and none came (RFC 8966, section 3.6; profile).
 use Rattle.std.specs.Prelude.{◌≡◌, Bool, true, false, not, List, map, nat_lt, nat_le}
-use Rattle.std.specs.List.{filter}
+use Rattle.std.specs.List.{filter, list_any}
 use Rattle.babel_value.specs.Metrics.{infinity}
 use Rattle.babel_value.specs.Prefixes.{PrefixValue}
 use Rattle.babel_choice.specs.declared.entries.Selection.{Selection}
@@ -23,6 +23,10 @@ is_lost (Neighbour peer) s route = is_same_peer route.peer peer
 -- The prefixes whose selected route is lost.
 abbrev pub prefixes_lost : (Selection → Bool) → Selections → List PrefixValue
 prefixes_lost lost selections = map (λ s. s.0) (filter (λ s. lost s.1) selections)
+
+-- Whether the selected route of a prefix is lost.
+abbrev pub is_any_lost : (Selection → Bool) → Selections → Bool
+is_any_lost lost selections = list_any (λ s. lost s.1) selections
 
 -- The selection of each prefix is current, unless its route is lost.
 abbrev pub AreCurrentUnless : (Selection → Bool) → State → Type 0

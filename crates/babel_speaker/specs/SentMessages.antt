@@ -1,11 +1,14 @@
 -- The messages that a speaker sends, one by one (profile).
-use Rattle.std.specs.Prelude.{◌≡◌, Bool, true, false, [], Option, Some, None, drop}
+use Rattle.std.specs.Prelude.{◌≡◌, ◌<◌, Bool, true, false, [], length, Option, Some, None, IsSome, drop}
 use Rattle.std.specs.Option.{option_map_or}
+use Rattle.babel_value.specs.Addresses.{family_of}
 use Rattle.babel_value.specs.Prefixes.{PrefixValue}
 use Rattle.babel_message.specs.declared.messages.Message.{Message}
 use Rattle.babel_message.specs.declared.messages.Message.TheVariants as messages
 use Rattle.babel_route.specs.Currency.{is_current}
 use Rattle.babel_sources.specs.Distances.{improves_on}
+use Rattle.babel_sources.specs.Rooms.{most_sources}
+use Rattle.babel_state.specs.Addresses.{address_at}
 use Rattle.babel_state.specs.declared.items.Outgoing.{Outgoing}
 use Rattle.babel_state.specs.declared.items.Outgoing.TheVariants as outgoings
 use Rattle.babel_state.specs.declared.items.Target.{Target}
@@ -27,6 +30,11 @@ HasRoom s out = Unit {0}
 abbrev pub IsMessageTo : Target → Outgoing → Type 0
 IsMessageTo target (outgoings.Message to message) = to ≡ target
 IsMessageTo target out = ⊥
+
+-- An update is sent, whatever it says: its interface has an address of the prefix's family, and the source table has room.
+abbrev pub IsCertainlySent : Target → PrefixValue → State → Type 0
+IsCertainlySent target prefix s =
+    (length s.sources < most_sources) × IsSome (address_at target.iface (family_of prefix.addr) s)
 
 -- A message that is sent changes the pair of its source: it's an Update that is better than the pair (RFC 8966, section 3.7.3).
 abbrev pub changes_a_pair : Message → State → Bool

@@ -1,5 +1,5 @@
 -- How often what a speaker reports and keeps may have changed (profile).
-use Rattle.std.specs.Prelude.{◌≡◌, ◌≤◌, ◌<◌, ℕ}
+use Rattle.std.specs.Prelude.{◌≡◌, ◌+◌, ◌≤◌, ◌<◌, ℕ}
 use Rattle.babel_state.specs.KeptRoutes.{KeepsRoutes}
 use Rattle.babel_state.specs.Restarts.{snapshot_of}
 use Rattle.babel_state.specs.State.{State}
@@ -25,6 +25,16 @@ pub record CountsChanges (old new : SpeakerValue) : Type 0 where
   pub snapshot_grows : old.snapshot_version ≤ new.snapshot_version
   pub routes : new.routes_version ≡ old.routes_version → new.routes_version < greatest_version → KeepsRoutes old.state new.state
   pub snapshot : new.snapshot_version ≡ old.snapshot_version → new.snapshot_version < greatest_version → snapshot_of new.state ≡ snapshot_of old.state
+
+-- The count of routes stays if the same is reported of each prefix's selected route, and grows by at most one.
+pub record CountsRoutes (old new : SpeakerValue) : Type 0 where
+  pub kept : KeepsRoutes old.state new.state → new.routes_version ≡ old.routes_version
+  pub step : new.routes_version ≤ old.routes_version + 1
+
+-- The count of snapshots stays if the snapshot is the same, and grows by at most one.
+pub record CountsSnapshots (old new : SpeakerValue) : Type 0 where
+  pub kept : snapshot_of new.state ≡ snapshot_of old.state → new.snapshot_version ≡ old.snapshot_version
+  pub step : new.snapshot_version ≤ old.snapshot_version + 1
 
 -- Over two calls, one after the other, they count the changes of both.
 abbrev pub CountsAddUp : Type 0

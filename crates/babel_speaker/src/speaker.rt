@@ -29,7 +29,7 @@ ghost use Rattle.babel_snapshot.specs.SnapshotLaws.{IsRead};
 ghost use Rattle.babel_speaker.specs.Deadlines.{next_deadline};
 ghost use Rattle.babel_speaker.specs.Making.{IsMakingFault, IsRestoreFault, router_fault};
 ghost use Rattle.babel_speaker.specs.Sending.{IsBuiltFrom, MeansFrom, draft_at};
-ghost use Rattle.babel_speaker.specs.Versions.{CountsChanges};
+ghost use Rattle.babel_speaker.specs.Versions.{CountsChanges, CountsRoutes, CountsSnapshots};
 
 use crate::decoded::{Decoded, decoded_are_encodable, is_encodable_again};
 use crate::hints::Hints;
@@ -294,6 +294,7 @@ impl Speaker {
         ensures moves { OnOk result (MovesByDatagram (record { iface = iface; addr = source }) (meaning octets.now source) self.old.state self.new.state) }
         ensures current { OnOk result (KeepsCurrent self.old.state self.new.state) }
         ensures counted { CountsChanges self.old self.new }
+        ensures snapshots { CountsSnapshots self.old self.new }
     {
         calls_move();
         selections_stay_current();
@@ -326,6 +327,7 @@ impl Speaker {
         ensures moves { OnOk result (MovesByDatagram (record { iface = iface; addr = decoded.now.source }) (Ok decoded.now.placed) self.old.state self.new.state) }
         ensures current { OnOk result (KeepsCurrent self.old.state self.new.state) }
         ensures counted { CountsChanges self.old self.new }
+        ensures snapshots { CountsSnapshots self.old self.new }
     {
         calls_move();
         selections_stay_current();
@@ -361,6 +363,7 @@ impl Speaker {
         ensures moves { MovesAlone 0 (seen self.old.state).announces self.old.state self.new.state }
         ensures current { self.old.state.collects ≡ false → AreCurrent self.new.state }
         ensures counted { CountsChanges self.old self.new }
+        ensures snapshots { CountsSnapshots self.old self.new }
     {
         states_are_well_formed();
         calls_move();
@@ -397,6 +400,8 @@ impl Speaker {
         ensures moves { MovesAlone 1 (seen self.old.state).announces self.old.state self.new.state }
         ensures current { KeepsCurrent self.old.state self.new.state }
         ensures counted { CountsChanges self.old self.new }
+        ensures routes { CountsRoutes self.old self.new }
+        ensures snapshots { CountsSnapshots self.old self.new }
     {
         states_are_well_formed();
         calls_move();
@@ -415,6 +420,8 @@ impl Speaker {
         ensures moves { OnOk result (MovesAlone 0 (seen self.old.state).announces self.old.state self.new.state) }
         ensures current { OnOk result (KeepsCurrent self.old.state self.new.state) }
         ensures counted { CountsChanges self.old self.new }
+        ensures routes { CountsRoutes self.old self.new }
+        ensures snapshots { CountsSnapshots self.old self.new }
     {
         states_are_well_formed();
         calls_move();
@@ -432,6 +439,8 @@ impl Speaker {
         ensures moves { OnOk result (MovesAlone 0 (announcing_also prefix (seen self.old.state)) self.old.state self.new.state) }
         ensures current { OnOk result (KeepsCurrent self.old.state self.new.state) }
         ensures counted { CountsChanges self.old self.new }
+        ensures routes { CountsRoutes self.old self.new }
+        ensures snapshots { CountsSnapshots self.old self.new }
     {
         states_are_well_formed();
         calls_move();
@@ -453,6 +462,8 @@ impl Speaker {
         ensures moves { OnOk result (MovesAlone 0 (announcing_without prefix (seen self.old.state)) self.old.state self.new.state) }
         ensures current { OnOk result (KeepsCurrent self.old.state self.new.state) }
         ensures counted { CountsChanges self.old self.new }
+        ensures routes { CountsRoutes self.old self.new }
+        ensures snapshots { CountsSnapshots self.old self.new }
     {
         states_are_well_formed();
         calls_move();
@@ -486,6 +497,7 @@ impl Speaker {
         ensures kept { KeepsRoutes self.old.state self.new.state }
         ensures half { (first : ℕ) (prefix : PrefixValue) → AreInHalf first prefix self.old.state → IsCurrentAt prefix self.old.state → IsCurrentAt prefix self.new.state }
         ensures counted { CountsChanges self.old self.new }
+        ensures routes { CountsRoutes self.old self.new }
     {
         states_are_well_formed();
         datagrams_send();

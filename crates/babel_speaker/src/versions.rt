@@ -1,6 +1,6 @@
 //! Counts of what may have changed.
 
-ghost use Rattle.std.specs.Prelude.{◌≡◌, ◌≤◌, ◌<◌, IsFalse};
+ghost use Rattle.std.specs.Prelude.{◌≡◌, ◌+◌, ◌≤◌, ◌<◌, IsFalse};
 ghost use Rattle.babel_route.specs.declared.routes.changes.Report.{Report};
 ghost use Rattle.babel_speaker.specs.Versions.{greatest_version};
 
@@ -13,6 +13,8 @@ use babel_value::Seqno;
 pub(crate) fn counted(count: u64, changed: bool) -> u64
     ensures grows { count ≤ result }
     ensures counted { result ≡ count → result < greatest_version → IsFalse changed }
+    ensures kept { IsFalse changed → result ≡ count }
+    ensures step { result ≤ count + 1 }
 {
     if changed {
         count.saturating_add(1)
@@ -23,7 +25,8 @@ pub(crate) fn counted(count: u64, changed: bool) -> u64
 
 /// Whether a route is reported otherwise than before.
 pub(crate) fn is_other(report: Report) -> bool
-    ensures { IsFalse result → report ≡ Report.Alike }
+    ensures other { IsFalse result → report ≡ Report.Alike }
+    ensures alike { report ≡ Report.Alike → IsFalse result }
 {
     match report {
         Report::Alike => false,
@@ -43,6 +46,7 @@ pub(crate) fn own_seqno(core: &Core) -> (Seqno, u64)
 pub(crate) fn has_grown(core: &Core, seqno: Seqno, raises: u64) -> bool
     ensures seqno { IsFalse result → core.now.seqno ≡ seqno }
     ensures raises { IsFalse result → core.now.raises ≡ raises }
+    ensures same { core.now.seqno ≡ seqno → core.now.raises ≡ raises → IsFalse result }
 {
     let own = core.seqno;
     own.0 != seqno.0 || core.raises != raises

@@ -1,7 +1,7 @@
 //! How many places of a route table are taken: one for each entry, and one for each prefix that
 //! has a selection but no entry.
 
-ghost use Rattle.std.specs.Prelude.{◌≡◌, ◌+◌, ◌≤◌, false, not, length, slice_get};
+ghost use Rattle.std.specs.Prelude.{◌≡◌, ◌+◌, ◌<◌, ◌≤◌, false, not, length, slice_get};
 ghost use Rattle.std.specs.Option.{option_map_or};
 ghost use Rattle.babel_route.specs.Rooms.{most_routes};
 ghost use Rattle.babel_choice.specs.Choices.{has_entry};
@@ -12,8 +12,8 @@ use babel_choice::{Entry, PrefixRoutes, RouteKey, Selection};
 use babel_table::Table;
 use babel_value::Prefix;
 
-/// A number that is no less than the places taken, from an earlier one. If it is all places, all
-/// are taken. It counts only if the earlier one is all places and the entries alone don't take all.
+/// A number that is no less than the places taken, from an earlier one: that one if it is less than
+/// all places, and else what is taken. It counts only if the entries alone don't take all.
 pub(crate) fn places_within<E: Table<RouteKey, Entry>, S: Table<Prefix, Selection>>(
     entries: &E,
     selections: &S,
@@ -25,6 +25,8 @@ pub(crate) fn places_within<E: Table<RouteKey, Entry>, S: Table<Prefix, Selectio
     ensures within { length (E.entries entries.now) + orphans (E.entries entries.now) (S.entries selections.now) ≤ result }
     ensures most { result ≤ most_routes }
     ensures exact { most_routes ≤ result → result ≡ length (E.entries entries.now) + orphans (E.entries entries.now) (S.entries selections.now) }
+    ensures kept { most < most_routes → result ≡ most }
+    ensures counted { most_routes ≤ most → result ≡ length (E.entries entries.now) + orphans (E.entries entries.now) (S.entries selections.now) }
 {
     if most < ROUTE_PLACES || entries.len() >= ROUTE_PLACES {
         return most;

@@ -14,7 +14,7 @@ ghost use Rattle.babel_value.specs.declared.keys.Peer.{Peer};
 ghost use Rattle.babel_value.specs.Metrics.{infinity};
 ghost use Rattle.babel_speaker.specs.declared.input.losses.Loss.TheVariants.{Cost};
 ghost use Rattle.babel_route.specs.Rooms.{most_routes};
-ghost use Rattle.babel_speaker.specs.Losses.{is_finite_route, is_lost, is_loss, prefixes_lost, AreCurrentUnless};
+ghost use Rattle.babel_speaker.specs.Losses.{is_any_lost, is_finite_route, is_lost, is_loss, prefixes_lost, AreCurrentUnless};
 
 use crate::output::queueing::has_finite;
 use crate::state::Core;
@@ -162,10 +162,11 @@ impl Core {
         }
     }
 
-    /// Selects the routes again that are lost. If it returns `false`, none is, and nothing changed.
+    /// Selects the routes again that are lost. Returns whether one is: if not, nothing changed.
     fn reselect_each_lost(&mut self, now: u64, loss: &Loss) -> bool
         ensures state { self.new ≡ reselect_each now (prefixes_lost (is_lost loss.now self.old) self.old.routes.selections) self.old }
         ensures quiet { IsFalse result → self.new ≡ self.old }
+        ensures found { result ≡ is_any_lost (is_lost loss.now self.old) self.old.routes.selections }
     {
         let mut cursor = Cursor::new();
         let mut place = 0;
@@ -187,6 +188,7 @@ impl Core {
         ensures state { self.new ≡ reselect_all now self.old }
         ensures current { AreCurrent self.new }
         ensures quiet { IsFalse result → self.new ≡ self.old }
+        ensures found { result ≡ is_any_lost (is_lost loss.now self.old) self.old.routes.selections }
     {
         // The tables are in order.
         let _count = self.routes.len();

@@ -5,10 +5,11 @@ ghost use Rattle.std.specs.Prelude.{◌≡◌, ◌≤◌, Some, IfSome, if◌the
 ghost use Rattle.babel_state.specs.declared.items.Outgoing.TheVariants as outgoings;
 ghost use Rattle.babel_state.specs.Addresses.{address_of};
 ghost use Rattle.babel_value.specs.Addresses.{family_of};
+ghost use Rattle.babel_value.specs.Prefixes.{PrefixValue};
 ghost use Rattle.babel_state.specs.State.{interface_at, is_neighbour};
 ghost use Rattle.babel_state.specs.OutgoingMessages.{to_peer, outgoing_ihu, outgoing_finite, outgoing_update, outgoing, outgoing_over, is_source_too_many};
 ghost use Rattle.babel_state.specs.Limits.{longest_hello};
-ghost use Rattle.babel_speaker.specs.SentMessages.{HasRoom, HasRoomFor, IsMessageTo};
+ghost use Rattle.babel_speaker.specs.SentMessages.{HasRoom, HasRoomFor, IsCertainlySent, IsMessageTo};
 
 use crate::output::forms::{
     hello_message, ihu_message, retraction_message, to_peer, update_message,
@@ -127,11 +128,12 @@ fn outgoing_to_peer(core: &Core, peer: Peer, message: Message, out: &mut Outgoin
 }
 
 /// The target of an Update, or of a retraction, that is certainly sent: its interface has an
-/// address of the prefix's family, and the source table has room. `None` only means that this takes
-/// a search, or that the item is of another kind.
+/// address of the prefix's family, and the source table has room. `None` means that one of these
+/// isn't so, or that the item is of another kind.
 #[tactic(auto, using(crate::proofs::SentUpdates::certain_message))]
 pub fn certain_target(core: &Core, item: &Item) -> Option<Target>
-    ensures { IfSome result (λ target. IsMessageTo target (outgoing core.now item.now)) }
+    ensures message { IfSome result (λ target. IsMessageTo target (outgoing core.now item.now)) }
+    ensures found { (target : Target) (prefix : PrefixValue) → item.now ≡ Item.Update target prefix → IsCertainlySent target prefix core.now → result ≡ Some target }
 {
     let Item::Update { target, prefix } = *item else {
         return None;

@@ -52,6 +52,7 @@ fn select_and_advertise(
     requires { is_own origin ≡ announces prefix.now core.old }
     ensures state { core.new ≡ select_and_advertise prefix.now core.old }
     ensures kept { result ≡ Report.Alike → KeepsRoutes core.old core.new }
+    ensures exact { KeepsRoutes core.old core.new → result ≡ Report.Alike }
 {
     let change = core.select_with(prefix, origin, cursor);
     core.queue_updates_to_all(prefix);
@@ -70,6 +71,7 @@ pub fn announce(
     ensures ok { OnOk result (core.new ≡ announced_also prefix.now core.old) }
     ensures err { OnErr result (core.new ≡ core.old) }
     ensures kept { IfOk result (λ report. report ≡ Report.Alike → KeepsRoutes core.old core.new) }
+    ensures exact { IfOk result (λ report. KeepsRoutes core.old core.new → report ≡ Report.Alike) }
 {
     let Ok(is_new) = core.announced.insert_near(*prefix, &mut cursor.announced) else {
         return Err(TooManyPrefixes);
@@ -93,6 +95,7 @@ pub fn withdraw(
     ensures ok { OnOk result (core.new ≡ withdrawn prefix.now core.old) }
     ensures err { OnErr result (core.new ≡ core.old) }
     ensures kept { IfOk result (λ report. report ≡ Report.Alike → KeepsRoutes core.old core.new) }
+    ensures exact { IfOk result (λ report. KeepsRoutes core.old core.new → report ≡ Report.Alike) }
 {
     if !core.announced.remove_near(prefix, &mut cursor.announced) {
         return Err(NotAnnounced);

@@ -1,14 +1,14 @@
 //! What time brings (RFC 8966, sections 3.4, 3.5.4, 3.7.1 and 3.8.2.1): the deadlines of each
 //! table.
 
-ghost use Rattle.std.specs.Prelude.{◌≡◌, [], IsTrue, IsFalse};
+ghost use Rattle.std.specs.Prelude.{◌≡◌, ◌<◌, [], length, IsTrue, IsFalse};
 ghost use Rattle.babel_link.specs.declared.changes.CostChanges.TheVariants.{Nothing};
 ghost use Rattle.babel_state.specs.CurrentSelections.{AreCurrent, AreRoutesInOrder};
 ghost use Rattle.babel_state.specs.SettledLaws.{AreSelectionsInOrder};
 ghost use Rattle.babel_state.specs.KeptRoutes.{KeepsRoutes};
 ghost use Rattle.babel_state.specs.Restarts.{snapshot_of};
-ghost use Rattle.babel_speaker.specs.declared.input.losses.Loss.TheVariants.{Cost};
-ghost use Rattle.babel_speaker.specs.Losses.{is_lost, AreCurrentUnless};
+ghost use Rattle.babel_speaker.specs.declared.input.losses.Loss.TheVariants.{Cost, Deadline};
+ghost use Rattle.babel_speaker.specs.Losses.{is_any_lost, is_lost, AreCurrentUnless};
 ghost use Rattle.babel_speaker.specs.TickItems.{all_timers_of};
 ghost use Rattle.babel_state.specs.Reselection.{reselect_all};
 ghost use Rattle.babel_state.specs.State.{prefixes_in};
@@ -92,14 +92,15 @@ impl Core {
     }
 
     /// Takes the deadlines of routes, and selects the routes again that are lost by that. All other
-    /// selections stay current, so this leaves what a reselection of all leaves. If it returns
-    /// `false`, no selected route was due, and the selected routes are reported as before.
-    #[tactic(auto, using(crate::proofs::Losses::none_expired, crate::proofs::Losses::expired_unless))]
+    /// selections stay current, so this leaves what a reselection of all leaves. Returns whether a
+    /// selected route was due: if not, the selected routes are reported as before.
+    #[tactic(auto, using(crate::proofs::Losses::none_expired, crate::proofs::Losses::expired_unless, crate::proofs::Losses::none_lost))]
     fn expire_routes(&mut self, now: u64) -> bool
         requires current { AreCurrent self.old }
         ensures state { self.new ≡ reselect_all now (routes_ticked now self.old) }
         ensures current { AreCurrent self.new }
         ensures kept { IsFalse result → KeepsRoutes self.old self.new }
+        ensures found { result ≡ is_any_lost (is_lost (Deadline now) self.old) self.old.routes.selections }
     {
         if !self.tick_routes(now) {
             return false;
@@ -108,11 +109,12 @@ impl Core {
     }
 
     /// Collects the entries of the source table whose time has come, if the speaker does so (RFC
-    /// 8966, section 3.2.5). If it returns `false`, none was due, and nothing changed.
+    /// 8966, section 3.2.5). Returns whether there was one: if not, nothing changed.
     #[tactic(auto, unfolding(babel_state::specs::Ticks::sources_ticked))]
     pub(crate) fn tick_sources(&mut self, now: u64) -> bool
         ensures state { self.new ≡ sources_ticked now self.old }
         ensures quiet { IsFalse result → self.new ≡ self.old }
+        ensures removed { IsTrue result → length self.new.sources < length self.old.sources }
     {
         if !self.collects {
             return false;
@@ -215,6 +217,7 @@ impl Core {
         ensures current { IsTrue hints.new.settled → AreCurrent self.new }
         ensures kept { IsFalse hints.new.changed → KeepsRoutes self.old self.new }
         ensures saved { IsTrue hints.new.settled → snapshot_of self.new ≡ snapshot_of self.old }
+        ensures exact { snapshot_of self.new ≡ snapshot_of self.old → IsTrue hints.new.settled }
     {
         hints.changed = self.tick_selections(now, hints);
         self.tick_requests(now);

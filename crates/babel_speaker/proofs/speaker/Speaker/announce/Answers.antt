@@ -1,13 +1,13 @@
 -- A selected route may have changed by it, and the snapshot has not.
 use Rattle.std.specs.Prelude.{false}
-use Rattle.std.proofs.Common.{sym, subst}
+use Rattle.std.proofs.Common.{refl, sym, subst, arith}
 use Rattle.babel_state.specs.Invariants.{IsWellFormed}
 use Rattle.babel_state.specs.Seen.{seen, announcing_also}
 use Rattle.babel_state.specs.SeenLaws.{MovesAlone}
 use Rattle.babel_state.specs.CurrentSelections.{AreCurrent, KeepsCurrent}
 use Rattle.babel_speaker.specs.Versions.{SpeakerValue}
 use Rattle.babel_speaker.proofs.CallLaws.{through, false_if_ok}
-use Rattle.babel_speaker.proofs.Counting.{counts, counts_from, not_counted, state_of}
+use Rattle.babel_speaker.proofs.Counting.{counts, counts_from, counts_routes, counts_snapshots, not_counted, state_of}
 use Rattle.babel_speaker.proofs.Snapshots.{announced_snapshot}
 use Rattle.babel_speaker.proofs.speaker.Speaker.announce.Goals as goal
 
@@ -35,4 +35,16 @@ returns-in-Ok-clause-counted c =
     let after : SpeakerValue = record { state = c.announce.new.core; routes_version = c.counted-self-inside.result; snapshot_version = c.self.inside.snapshot } in
     counts_from before c.args.self.now after c.self.view_is
     (counts before after c.is_other.result false (record { grows = c.counted-self-inside.ensures.grows; counted = c.counted-self-inside.ensures.counted }) (not_counted c.self.inside.snapshot)
-    (λ same. c.in-Ok.ensures.kept (c.is_other.ensures same)) (λ _. announced_snapshot c.args.prefix c.self.inside.core c.announce.new.core c.in-Ok.ensures.ok))
+    (λ same. c.in-Ok.ensures.kept (c.is_other.ensures.other same)) (λ _. announced_snapshot c.args.prefix c.self.inside.core c.announce.new.core c.in-Ok.ensures.ok))
+
+pub returns-in-Ok-clause-routes : goal.returns-in-Ok-clause-routes
+returns-in-Ok-clause-routes c =
+    let before : SpeakerValue = record { state = c.self.inside.core; routes_version = c.self.inside.routes; snapshot_version = c.self.inside.snapshot } in
+    let after : SpeakerValue = record { state = c.announce.new.core; routes_version = c.counted-self-inside.result; snapshot_version = c.self.inside.snapshot } in
+    counts_routes before c.args.self.now after c.self.view_is (λ same. c.counted-self-inside.ensures.kept (c.is_other.ensures.alike (c.in-Ok.ensures.exact same))) c.counted-self-inside.ensures.step
+
+pub returns-in-Ok-clause-snapshots : goal.returns-in-Ok-clause-snapshots
+returns-in-Ok-clause-snapshots c =
+    let before : SpeakerValue = record { state = c.self.inside.core; routes_version = c.self.inside.routes; snapshot_version = c.self.inside.snapshot } in
+    let after : SpeakerValue = record { state = c.announce.new.core; routes_version = c.counted-self-inside.result; snapshot_version = c.self.inside.snapshot } in
+    counts_snapshots before c.args.self.now after c.self.view_is (λ _. refl) (omega arith)

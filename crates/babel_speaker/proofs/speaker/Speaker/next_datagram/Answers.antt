@@ -1,13 +1,13 @@
 -- What is seen of the speaker is its core, and the counts show what may have changed.
 use Rattle.std.specs.Prelude.{false}
-use Rattle.std.proofs.Common.{refl, sym, subst, ◌∙◌}
+use Rattle.std.proofs.Common.{refl, sym, subst, ◌∙◌, arith}
 use Rattle.babel_state.specs.CurrentSelections.{KeepsSelections}
 use Rattle.babel_state.specs.KeptRoutes.{KeepsRoutes}
 use Rattle.babel_state.proofs.SendingLaws.{sending_known}
 use Rattle.babel_state.proofs.DatagramsSent.{selected_kept}
 use Rattle.babel_speaker.specs.Versions.{SpeakerValue}
 use Rattle.babel_speaker.proofs.CallLaws.{through, sent_if, unseen_if, means_if, none_through, half_through}
-use Rattle.babel_speaker.proofs.Counting.{counts, counts_from, counts_nothing, not_counted, state_of}
+use Rattle.babel_speaker.proofs.Counting.{counts, counts_from, counts_nothing, counts_routes, not_counted, state_of}
 use Rattle.babel_speaker.proofs.NoDatagrams.{kept_state, no_target, silent}
 use Rattle.babel_speaker.proofs.speaker.Speaker.next_datagram.Goals as goal
 
@@ -80,3 +80,14 @@ returns-then-pending-eq0-clause-half c = λ first prefix half current. current
 
 pub returns-then-pending-eq0-clause-counted : goal.returns-then-pending-eq0-clause-counted
 returns-then-pending-eq0-clause-counted c = counts_nothing c.args.self.now c.args.self.now refl
+
+pub returns-then-pending-eq0-clause-routes : goal.returns-then-pending-eq0-clause-routes
+returns-then-pending-eq0-clause-routes c = record { kept = λ _. refl; step = omega arith }
+
+-- ---- the count of routes
+
+pub returns-clause-routes : goal.returns-clause-routes
+returns-clause-routes c =
+    let before : SpeakerValue = record { state = c.self.inside.core; routes_version = c.self.inside.routes; snapshot_version = c.self.inside.snapshot } in
+    let after : SpeakerValue = record { state = c.next_datagram-target.new.core; routes_version = c.self.inside.routes; snapshot_version = c.counted-self-inside.result } in
+    counts_routes before c.args.self.now after c.self.view_is (λ _. refl) (omega arith)

@@ -4,8 +4,8 @@ use Rattle.babel_state.specs.Invariants.{IsWellFormed}
 use Rattle.babel_state.specs.Messages.{arrival_of}
 use Rattle.babel_speaker.proofs.CallLaws.{received_moves, received_current}
 use Rattle.babel_speaker.specs.Versions.{SpeakerValue}
-use Rattle.babel_speaker.proofs.Counting.{counts, counts_from, state_of}
-use Rattle.babel_speaker.proofs.Snapshots.{received_snapshot}
+use Rattle.babel_speaker.proofs.Counting.{counts, counts_from, counts_snapshots, state_of}
+use Rattle.babel_speaker.proofs.Snapshots.{received_snapshot, same_seqno, same_raises}
 use Rattle.babel_speaker.proofs.speaker.Speaker.receive.Goals as goal
 
 pub invariant_of-self : goal.invariant_of-self
@@ -29,3 +29,13 @@ returns-clause-counted c =
     (counts before after c.receive.new.hints.changed c.has_grown.result (record { grows = c.counted-self-inside.ensures.grows; counted = c.counted-self-inside.ensures.counted })
     (record { grows = c.counted-self-inside-2.ensures.grows; counted = c.counted-self-inside-2.ensures.counted }) c.receive.ensures.kept
     (λ same. received_snapshot (arrival_of c.args.now (record { iface = c.args.iface; addr = c.args.source }) c.args.octets.now) c.self.inside.core c.receive.new.core _ c.in-Ok.ensures.ok (c.has_grown.ensures.seqno same ∙ c.own_seqno-seqno.ensures.seqno) (c.has_grown.ensures.raises same ∙ c.own_seqno-seqno.ensures.raises)))
+
+pub returns-clause-snapshots : goal.returns-clause-snapshots
+returns-clause-snapshots c =
+    let before : SpeakerValue = record { state = c.self.inside.core; routes_version = c.self.inside.routes; snapshot_version = c.self.inside.snapshot } in
+    let after : SpeakerValue = record { state = c.receive.new.core; routes_version = c.counted-self-inside.result; snapshot_version = c.counted-self-inside-2.result } in
+    counts_snapshots before c.args.self.now after c.self.view_is
+    (λ same. c.counted-self-inside-2.ensures.kept (c.has_grown.ensures.same
+    (same_seqno c.self.inside.core c.receive.new.core same ∙ sym c.own_seqno-seqno.ensures.seqno)
+    (same_raises c.self.inside.core c.receive.new.core same ∙ sym c.own_seqno-seqno.ensures.raises)))
+    c.counted-self-inside-2.ensures.step

@@ -1,11 +1,12 @@
 -- A selected route may have changed by it, and the snapshot has not.
 use Rattle.std.specs.Prelude.{false}
+use Rattle.std.proofs.Common.{refl, arith}
 use Rattle.babel_state.specs.Seen.{seen, announcing_without}
 use Rattle.babel_state.specs.SeenLaws.{MovesAlone}
 use Rattle.babel_state.specs.CurrentSelections.{KeepsCurrent}
 use Rattle.babel_speaker.specs.Versions.{SpeakerValue}
 use Rattle.babel_speaker.proofs.CallLaws.{through}
-use Rattle.babel_speaker.proofs.Counting.{counts, counts_from, not_counted, state_of}
+use Rattle.babel_speaker.proofs.Counting.{counts, counts_from, counts_routes, counts_snapshots, not_counted, state_of}
 use Rattle.babel_speaker.proofs.Snapshots.{withdrawn_snapshot}
 use Rattle.babel_speaker.proofs.speaker.Speaker.withdraw.Goals as goal
 
@@ -25,4 +26,16 @@ returns-in-Ok-clause-counted c =
     let after : SpeakerValue = record { state = c.withdraw.new.core; routes_version = c.counted-self-inside.result; snapshot_version = c.self.inside.snapshot } in
     counts_from before c.args.self.now after c.self.view_is
     (counts before after c.is_other.result false (record { grows = c.counted-self-inside.ensures.grows; counted = c.counted-self-inside.ensures.counted }) (not_counted c.self.inside.snapshot)
-    (λ same. c.in-Ok.ensures.kept (c.is_other.ensures same)) (λ _. withdrawn_snapshot c.args.prefix c.self.inside.core c.withdraw.new.core c.in-Ok.ensures.ok))
+    (λ same. c.in-Ok.ensures.kept (c.is_other.ensures.other same)) (λ _. withdrawn_snapshot c.args.prefix c.self.inside.core c.withdraw.new.core c.in-Ok.ensures.ok))
+
+pub returns-in-Ok-clause-routes : goal.returns-in-Ok-clause-routes
+returns-in-Ok-clause-routes c =
+    let before : SpeakerValue = record { state = c.self.inside.core; routes_version = c.self.inside.routes; snapshot_version = c.self.inside.snapshot } in
+    let after : SpeakerValue = record { state = c.withdraw.new.core; routes_version = c.counted-self-inside.result; snapshot_version = c.self.inside.snapshot } in
+    counts_routes before c.args.self.now after c.self.view_is (λ same. c.counted-self-inside.ensures.kept (c.is_other.ensures.alike (c.in-Ok.ensures.exact same))) c.counted-self-inside.ensures.step
+
+pub returns-in-Ok-clause-snapshots : goal.returns-in-Ok-clause-snapshots
+returns-in-Ok-clause-snapshots c =
+    let before : SpeakerValue = record { state = c.self.inside.core; routes_version = c.self.inside.routes; snapshot_version = c.self.inside.snapshot } in
+    let after : SpeakerValue = record { state = c.withdraw.new.core; routes_version = c.counted-self-inside.result; snapshot_version = c.self.inside.snapshot } in
+    counts_snapshots before c.args.self.now after c.self.view_is (λ _. refl) (omega arith)

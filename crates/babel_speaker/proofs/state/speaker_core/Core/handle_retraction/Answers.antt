@@ -15,4 +15,4 @@ pub returns-then-store_retraction-clause-kept : goal.returns-then-store_retracti
 returns-then-store_retraction-clause-kept c same =
     routes_through _ _ _
     (parts_routes c.args.self.now c.store_retraction.new.self (λ prefix. ap (λ (s : State). selected_at prefix s) c.store_retraction.ensures.state) (ap cost_at c.store_retraction.ensures.state))
-    (c.reselect_retracted-report.ensures.kept (c.is_other-hints.ensures same))
+    (c.reselect_retracted-report.ensures.kept (c.is_other-hints.ensures.other same))

@@ -1,12 +1,13 @@
 -- A selection that is lost, or one that stays.
-use Rattle.std.proofs.Common.{◌+◌, slice_get, refl, sym, ap, ◌∙◌, true≢false}
+use Rattle.std.proofs.Common.{◌+◌, ◌||◌, slice_get, refl, sym, ap, ◌∙◌, true≢false}
+use Rattle.std.proofs.Math.Bool.{or-true, or-false}
 use Rattle.std.proofs.lemmas.List.{drop_all}
 use Rattle.babel_table.proofs.PlaceLemmas.{past_end}
 use Rattle.babel_choice.specs.Choices.{Selections}
 use Rattle.babel_state.specs.Reselection.{reselect_each}
 use Rattle.babel_state.specs.State.{State}
-use Rattle.babel_speaker.specs.Losses.{is_lost, prefixes_lost}
-use Rattle.babel_speaker.proofs.Losses.{one_passed, one_reselected, same_lost, fewer_left}
+use Rattle.babel_speaker.specs.Losses.{is_any_lost, is_lost, prefixes_lost}
+use Rattle.babel_speaker.proofs.Losses.{one_passed, one_reselected, same_lost, fewer_left, this_lost, this_stays}
 use Rattle.babel_speaker.proofs.state.speaker_core.Core.reselect_each_lost.Goals as goal
 
 pub reselect_at-place-requires-clause-at : goal.reselect_at-place-requires-clause-at
@@ -29,6 +30,7 @@ loop-selected-preserved-then-is_lost c =
           c.reselect_at-place.ensures.state c.reselect_at-place.ensures.next kept.done;
       lost = λ route. same_lost loss c.args.now c.in-Some.selected.0 route c.loop-selected.self c.reselect_at-place.new.self c.reselect_at-place.ensures.state ∙ kept.lost route;
       same = λ none. absurd (true≢false none);
+      seen = sym (ap (λ b. c.loop-selected.found || b) (this_lost (is_lost loss c.args.self.now) c.loop-selected.place c.in-Some.selected c.loop-selected.self.routes.selections at gone) ∙ or-true c.loop-selected.found) ∙ kept.seen;
     }
 
 pub loop-selected-smaller : goal.loop-selected-smaller
@@ -45,6 +47,7 @@ loop-selected-preserved c =
       done = one_passed (is_lost c.args.loss.now c.args.self.now) c.args.now c.loop-selected.place c.in-Some.selected c.loop-selected.self _ at stays kept.done;
       lost = kept.lost;
       same = kept.same;
+      seen = ap (λ b. c.loop-selected.found || b) (sym (this_stays (is_lost c.args.loss.now c.args.self.now) c.loop-selected.place c.in-Some.selected c.loop-selected.self.routes.selections at stays)) ∙ kept.seen;
     }
 
 pub returns-clause-state : goal.returns-clause-state
@@ -53,3 +56,10 @@ returns-clause-state c =
     let none = sym (sym c.in_default.is ∙ c.selection_at.ensures.selection ∙ ap (λ (s : State). slice_get s.routes.selections c.loop-selected.place) c.self.view_is) in
     let ended = drop_all c.loop-selected.place ss (past_end ss c.loop-selected.place none) in
     sym (ap (λ (rest : Selections). reselect_each c.args.now (prefixes_lost (is_lost c.args.loss.now c.args.self.now) rest) c.loop-selected.self) ended) ∙ c.loop-selected.invariant.done
+
+pub returns-clause-found : goal.returns-clause-found
+returns-clause-found c =
+    let ss = c.loop-selected.self.routes.selections in
+    let none = sym (sym c.in_default.is ∙ c.selection_at.ensures.selection ∙ ap (λ (s : State). slice_get s.routes.selections c.loop-selected.place) c.self.view_is) in
+    let ended = drop_all c.loop-selected.place ss (past_end ss c.loop-selected.place none) in
+    sym (or-false c.loop-selected.found) ∙ ap (λ (rest : Selections). c.loop-selected.found || is_any_lost (is_lost c.args.loss.now c.args.self.now) rest) (sym ended) ∙ c.loop-selected.invariant.seen

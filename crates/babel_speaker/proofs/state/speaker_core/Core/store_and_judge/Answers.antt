@@ -13,7 +13,7 @@ returns-then-not-is_feasible-clause-kept c same =
     let t = c.store_and_select.new.self in
     let old = selected_at prefix c.args.self.now in
     let new = selected_at prefix t in
-    stored_routes prefix _ c.args.self.now t c.follow_up.new.self c.in-Some.change (c.in-Some.ensures.state refl) c.in-Some.ensures.change (c.is_other-hints.ensures same)
+    stored_routes prefix _ c.args.self.now t c.follow_up.new.self c.in-Some.change (c.in-Some.ensures.state refl) c.in-Some.ensures.change (c.is_other-hints.ensures.other same)
     (follows_routes c.args.now (Some (record { peer = c.args.update.now.peer; router = c.args.update.now.source.router })) prefix old new t c.follow_up.new.self (c.follow_up.ensures old new c.in-Some.ensures.change))
 
 pub returns-clause-kept : goal.returns-clause-kept
@@ -23,7 +23,7 @@ returns-clause-kept c same =
     let old = selected_at prefix c.args.self.now in
     let new = selected_at prefix t in
     let followed = follows_routes c.args.now None prefix old new t c.follow_up-2.new.self (c.follow_up-2.ensures old new c.in-Some.ensures.change) in
-    stored_routes prefix _ c.args.self.now t c.satisfy_request.new.self c.in-Some.change (c.in-Some.ensures.state refl) c.in-Some.ensures.change (c.is_other-hints.ensures same)
+    stored_routes prefix _ c.args.self.now t c.satisfy_request.new.self c.in-Some.change (c.in-Some.ensures.state refl) c.in-Some.ensures.change (c.is_other-hints.ensures.other same)
     (routes_through t c.follow_up-2.new.self c.satisfy_request.new.self followed (satisfies_routes _ _ c.follow_up-2.new.self c.satisfy_request.new.self c.satisfy_request.ensures))
 
 pub returns-then-not-is_feasible-clause-state : goal.returns-then-not-is_feasible-clause-state
