@@ -25,6 +25,13 @@ pub enum DeviceFault {
     Socket,
 }
 
+impl DeviceFault {
+    /// Whether it may pass while the speaker runs: the device comes up, or is created.
+    pub(crate) fn may_pass(self) -> bool {
+        matches!(self, DeviceFault::NoAddress | DeviceFault::Tentative)
+    }
+}
+
 /// Why the command `run` refuses, or ends early.
 #[derive(Clone, Copy, Debug, Error)]
 pub enum RunFault {

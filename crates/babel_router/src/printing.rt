@@ -19,6 +19,8 @@ use std::io::{self, Write};
 pub(crate) enum Note {
     /// It can't be used any more.
     Lost(DeviceFault),
+    /// Its sockets were opened for the first time, after the start.
+    Used,
     /// Its sockets were opened again.
     Opened,
     /// One of its addresses is another one.
@@ -29,6 +31,7 @@ impl fmt::Display for Note {
     fn fmt<W: fmt::Write>(&self, f: &mut fmt::Formatter<W>) -> fmt::Result {
         f.write_str(match *self {
             Note::Lost(fault) => return fault.fmt(f),
+            Note::Used => "is used",
             Note::Opened => "is used again",
             Note::Moved => "has another address: the speaker starts again from its snapshot",
         })
@@ -125,11 +128,11 @@ impl<'s, 'a, W: Write, E: Write> Printer<'s, 'a, W, E> {
         }
     }
 
-    /// Says what became of the device of this number. If it was opened again, `ip` lists the
-    /// devices, and the kernel is given the routes over it again.
+    /// Says what became of the device of this number. If it was opened, `ip` lists the devices, and
+    /// the kernel is given the routes over it again.
     pub(crate) fn note_device(&mut self, number: usize, name: &str, note: Note) {
         self.note(name, note);
-        if let Note::Opened = note {
+        if let Note::Used | Note::Opened = note {
             self.list_devices();
             self.doubt(number);
         }

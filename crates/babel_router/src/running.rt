@@ -72,11 +72,14 @@ pub struct RunOptions<'a> {
 /// standard error once. For a short time after datagrams were sent a turn only takes in what comes,
 /// unless something is due.
 ///
+/// A device that has no address yet is used as soon as it has one, if another one can be used.
+///
 /// # Errors
 ///
-/// W6, W3, W4 or W5 for the first device that can't be used, C1 to C7, K10, K8, K9, K1 to K7, W2
-/// and W7, before anything is sent. Then K9, L7 and L8, and C1 to C7 if a device gets another
-/// address.
+/// W6, W5 for the first device that isn't a member of the group, W3 or W4 for the first one
+/// without an address if none has one or if the router-id is to be that of the first, C1 to C7,
+/// K10, K8, K9, K1 to K7, W2 and W7, before anything is sent. Then K9, L7 and L8, and C1 to C7 if a
+/// device gets another address.
 pub fn run<R: AllocGlobal + Net + Clock + Files, I: Read + AsRawFd, W: Write, E: Write>(
     rt: &R,
     options: RunOptions<'_>,
@@ -88,6 +91,9 @@ where
     R::File: LockFile,
 {
     let mut devices = find_devices(rt.alloc(), rt, options.devices)?;
+    if let Some(fault) = start_fault(&devices, options.settings.router_id) {
+        return Err(fault);
+    }
     // It stays if the device's address changes later.
     let router_id = Some(options.settings.router_id_on(&devices));
     let settings = Settings {
@@ -198,7 +204,7 @@ fn open_control<R: AllocGlobal + Net + Clock + Files, I: Read + AsRawFd>(
     Ok(())
 }
 
-/// Opens the sockets of each device.
+/// Opens the sockets of each device that can be used.
 fn open_links<R: Clock + Net, I: Read + AsRawFd>(
     wire: &mut LinkWire<'_, R, I>,
     devices: &[Tracked<'_>],
@@ -210,6 +216,7 @@ fn open_links<R: Clock + Net, I: Read + AsRawFd>(
             }
         }
     }
+    wire.note_look();
     Ok(())
 }
 
@@ -240,14 +247,22 @@ fn find_devices<'a, R: Clock + Files>(
     named: &[DeviceSettings<'a>],
 ) -> Result<Vec<Tracked<'a>>, RunFault> {
     for _ in 0..MAX_TENTATIVE {
-        match devices_now(alloc, rt, named) {
-            Err(RunFault::Device(_, DeviceFault::Tentative)) => {
-                rt.sleep(Duration::from_millis(100));
-            }
-            found => return found,
+        let devices = devices_now(alloc, rt, named)?;
+        if !is_one_tentative(&devices) {
+            return Ok(devices);
         }
+        rt.sleep(Duration::from_millis(100));
     }
     devices_now(alloc, rt, named)
+}
+
+fn is_one_tentative(devices: &[Tracked<'_>]) -> bool {
+    for device in devices {
+        if device.fault() == Some(DeviceFault::Tentative) {
+            return true;
+        }
+    }
+    false
 }
 
 fn devices_now<'a, R: Files>(
@@ -256,7 +271,7 @@ fn devices_now<'a, R: Files>(
     named: &[DeviceSettings<'a>],
 ) -> Result<Vec<Tracked<'a>>, RunFault> {
     match Lists::read(alloc, rt) {
-        Ok(lists) => listed(alloc, &lists, named),
+        Ok(lists) => Ok(listed(alloc, &lists, named)?),
         Err(_) => Err(RunFault::System),
     }
 }
@@ -265,15 +280,35 @@ fn listed<'a>(
     alloc: Global,
     lists: &Lists,
     named: &[DeviceSettings<'a>],
-) -> Result<Vec<Tracked<'a>>, RunFault> {
+) -> Result<Vec<Tracked<'a>>, AllocError> {
     let mut devices = Vec::new(alloc);
-    for (number, settings) in named.iter().enumerate() {
-        match lists.device(settings.name, None) {
-            Ok(device) => devices
-                .push(Tracked::of(*settings, device))
-                .map_err(AllocError::from)?,
-            Err(fault) => return Err(RunFault::Device(number, fault)),
-        }
+    for settings in named {
+        devices.push(Tracked::of(*settings, lists.device(settings.name, None)))?;
     }
     Ok(devices)
+}
+
+/// Why a speaker can't begin on these devices: one has a fault that doesn't pass, none can be used,
+/// or the first one is to give the router-id and can't be used.
+fn start_fault(devices: &[Tracked<'_>], router_id: Option<[u8; 8]>) -> Option<RunFault> {
+    let mut first = None;
+    let mut is_one_used = false;
+    for (number, device) in devices.iter().enumerate() {
+        let Some(fault) = device.fault() else {
+            is_one_used = true;
+            continue;
+        };
+        if !fault.may_pass() {
+            return Some(RunFault::Device(number, fault));
+        }
+        if first.is_none() {
+            first = Some((number, fault));
+        }
+    }
+    match first {
+        Some((number, fault)) if !is_one_used || number == 0 && router_id.is_none() => {
+            Some(RunFault::Device(number, fault))
+        }
+        _ => None,
+    }
 }

@@ -9,6 +9,10 @@ use babel_value::Addr;
 /// An IPv4 address, and the length of its network's prefix.
 pub(crate) type Ipv4Network = ([u8; 4], u8);
 
+/// The address that the speaker's configuration has for a device that has none yet, fe80::. No
+/// device has it: it stands for any router of the link (RFC 4291, section 2.6.1).
+const NO_ADDRESS: [u8; 16] = [0xfe, 0x80, 0, 0, 0, 0, 0, 0, 0, 0, 0, 0, 0, 0, 0, 0];
+
 /// A device of the run.
 #[derive(Clone, Copy)]
 pub(crate) struct Tracked<'a> {
@@ -49,13 +53,19 @@ enum Change {
 }
 
 impl<'a> Tracked<'a> {
-    /// A device that can be used.
-    pub(crate) fn of(settings: DeviceSettings<'a>, device: Device) -> Tracked<'a> {
-        let address = device.address;
+    /// A device as it is at the start. One that can't be used yet has no address of its own.
+    pub(crate) fn of(
+        settings: DeviceSettings<'a>,
+        state: Result<Device, DeviceFault>,
+    ) -> Tracked<'a> {
+        let address = match state {
+            Ok(device) => device.address,
+            Err(_) => NO_ADDRESS,
+        };
         Tracked {
             settings,
             address,
-            state: Ok(device),
+            state,
             was_down: false,
             has_failed: false,
             ipv4: settings.ipv4,
@@ -73,6 +83,16 @@ impl<'a> Tracked<'a> {
     /// The device, if it could be used when it was seen last.
     pub(crate) fn device(&self) -> Option<Device> {
         self.state.ok()
+    }
+
+    /// Why it couldn't be used when it was seen last.
+    pub(crate) fn fault(&self) -> Option<DeviceFault> {
+        self.state.err()
+    }
+
+    /// Whether it could not be used at the start, nor since.
+    pub(crate) fn is_new(&self) -> bool {
+        self.address == NO_ADDRESS
     }
 
     /// Looks at the device again.

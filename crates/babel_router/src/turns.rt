@@ -93,6 +93,9 @@ impl Router<'_, '_> {
             }
             self.counts.add(counted);
             printer.note_keeping(self.last_turn);
+            if number == 0 {
+                note_unused(self.devices, printer);
+            }
             if let Wish::Stop = self.serve_control(wire, printer) {
                 break;
             }
@@ -249,6 +252,15 @@ fn place_of(number: u64, turns: u64) -> Place {
     }
 }
 
+/// Says which devices can't be used yet.
+fn note_unused<W: Write, E: Write>(devices: &[Tracked<'_>], printer: &mut Printer<'_, '_, W, E>) {
+    for device in devices {
+        if let Some(fault) = device.fault() {
+            printer.note(device.settings.name, Note::Lost(fault));
+        }
+    }
+}
+
 /// Looks at each device.
 fn look_at_each<R: Clock + Net, I: Read + AsRawFd, W: Write, E: Write>(
     devices: &mut [Tracked<'_>],
@@ -283,7 +295,11 @@ fn take_device_step<R: Clock + Net, I: Read + AsRawFd>(
         Step::Open(opened) => match wire.open_link(number, opened) {
             Ok(()) => {
                 device.note_opened();
-                Some(Note::Opened)
+                Some(if device.is_new() {
+                    Note::Used
+                } else {
+                    Note::Opened
+                })
             }
             Err(_) if device.fail() => Some(Note::Lost(DeviceFault::Socket)),
             Err(_) => None,

@@ -98,8 +98,9 @@ port of ::1 if PLACE is a number, as babeld does (docs/CONTROL.md). `babel ask`
 asks it.
 
 A device that goes down and comes back, or is created again, is opened again. If
-it gets another address, the speaker starts again from its snapshot. Each change
-is a line on standard error.
+it gets another address, the speaker starts again from its snapshot. So it does
+if a device that had no address at the start gets one. Each change is a line on
+standard error.
 
 At the end it prints, on one line
   turns <n> received <n> sent <n> refused <n> faults <n>
@@ -118,9 +119,9 @@ Exit status:
 Codes, in the order of test: F1 to F5 of the file of --config, F3 for an argument
 that can't be read, then
   W6  the system's lists of devices can't be read
-  W3  a device without a link-local IPv6 address
-  W4  a link-local address that is still tentative after five seconds
   W5  a device on which nobody joined the group ff02::1:6
+  W3  no device has a link-local IPv6 address (without --router-id: the first)
+  W4  such an address is still tentative after five seconds
   C1 to C7  as in babel check --help
   K10  another process keeps its snapshot in FILE
   K8  FILE can't be read, or has more than 15384 octets
