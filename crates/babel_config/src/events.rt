@@ -28,6 +28,8 @@ const WITHDRAW: &[u8] = b"withdraw";
 
 const RESTART: &[u8] = b"restart";
 
+const REQUEST: &[u8] = b"request";
+
 /// The number of a node or of a datagram.
 pub(crate) fn parse_usize(text: &str) -> Option<usize>
     ensures { Reads (IsNumberText 64) text.now result }
@@ -165,6 +167,10 @@ pub(crate) fn parse_event(text: &str, word: &[u8], fields: &[u8]) -> Option<Even
     if word == RESTART {
         let (node, now) = parse_node_and_moment(fields)?;
         return Some(Event::Restart { node, now });
+    }
+    if word == REQUEST {
+        let (node, now) = parse_node_and_moment(fields)?;
+        return Some(Event::RequestSeqnos { node, now });
     }
     None
 }

@@ -1,8 +1,9 @@
--- Turns and intakes at a node, as events, and crashes among them.
+-- Turns, intakes and requests at a node, as events, and crashes among them.
 use Rattle.std.proofs.Common.{◌≡◌, ◌⊎◌, ℕ, zero, suc, List, [], ◌∷◌, take, Contains, Some, refl, sym, ap, subst, inl, inr}
 use Rattle.std.proofs.lemmas.List.Elements.{All-contains, Contains-append_cases}
 use Rattle.std.proofs.lemmas.Option.{same_Some}
 use Rattle.babel_state.specs.declared.configs.Config.{Config}
+use Rattle.babel_state.specs.Requesting.{seqnos_requested}
 use Rattle.babel_state.specs.Restarts.{snapshot_of, restored, restarted}
 use Rattle.babel_state.specs.State.{State}
 use Rattle.babel_state.specs.Ticks.{ticked}
@@ -11,7 +12,7 @@ use Rattle.babel_wire.specs.Calls.{Receipt, Sending}
 use Rattle.babel_wire.proofs.Members.{AreIn, none_in, not_in_none, first_in, later_in, joined_in}
 use Rattle.babel_wire.specs.Keeping.{AreOctetsOf}
 use Rattle.babel_wire.specs.Cuts.{File, sent_in}
-use Rattle.babel_wire.specs.Intakes.{DurableStep, Turning, TakingIn, Intake, IsIntake, AreSteps, receipts_in, taken_by, IsCoveredBySteps, WhatIsKeptCoversWithIntakes}
+use Rattle.babel_wire.specs.Intakes.{DurableStep, Turning, TakingIn, Requesting, Intake, IsIntake, AreSteps, receipts_in, taken_by, IsCoveredBySteps, WhatIsKeptCoversWithIntakes}
 use Rattle.babel_machine.specs.declared.events.Event.TheVariants as events
 use Rattle.babel_machine.specs.NetworkLaws.{SoundHasNoLoop, SoundHasNoLoopWithOneOrigin}
 use Rattle.babel_net.specs.Invariants.{IsNetwork}
@@ -20,7 +21,7 @@ use Rattle.babel_net.specs.Networks.{NetworkState, SentOctets, with_speaker_stat
 use Rattle.babel_net.proofs.Chains.{network_after}
 use Rattle.babel_crashes.specs.NodeSteps.{IsAt, IsFrom, IsRecorded, IsRestart}
 use Rattle.babel_crashes.specs.IntakeLaws.{AreReceiptsFrom, AreStepEvents, StepsAreEvents, CrashesWithIntakesAreRestartEvents}
-use Rattle.babel_crashes.proofs.Events.{Settings, leads_on, leads_nowhere, tick_leads, restart_made, restart_accepted, at_restarted}
+use Rattle.babel_crashes.proofs.Events.{Settings, leads_on, leads_nowhere, tick_leads, request_leads, restart_made, restart_accepted, at_restarted}
 use Rattle.babel_crashes.proofs.NodeTurns.{Comes, AllSent, receives, still_from, still_recorded, turn_made}
 
 still_receipts : (old new : List SentOctets) (rs : List Receipt) → ((d : SentOctets) → Contains old d → Contains new d) → AreReceiptsFrom old rs → AreReceiptsFrom new rs
@@ -50,6 +51,16 @@ steps_are_events laws n node config old new (TakingIn i ∷ steps) is (mid, inta
     record {
       new = later.new;
       leads = leads_on node config mid new n first.new later.new first.leads later.leads;
+      records = later.records;
+    }
+steps_are_events laws n node config old new (Requesting now ∷ steps) is rest from =
+    let requested : State = seqnos_requested now old in
+    let first = request_leads laws n node now config old is in
+    let later : AreStepEvents node config steps new (with_speaker_state n node requested) =
+    steps_are_events laws (with_speaker_state n node requested) node config requested new steps first.is_at rest from in
+    record {
+      new = later.new;
+      leads = leads_on node config requested new n (with_speaker_state n node requested) later.new first later.leads;
       records = later.records;
     }
 steps_are_events laws n node config old new (Turning t ∷ steps) is (mid, turn, rest) from =
@@ -82,6 +93,7 @@ first_receipts zero steps = none_in (receipts_in steps)
 first_receipts (suc count) [] = none_in []
 first_receipts (suc count) (Turning t ∷ steps) =
     joined_in (t.turn.receipt ∷ []) (receipts_in (take count steps)) (t.turn.receipt ∷ []) (receipts_in steps) (λ r h. h) (first_receipts count steps)
+first_receipts (suc count) (Requesting now ∷ steps) = first_receipts count steps
 first_receipts (suc count) (TakingIn i ∷ steps) =
     joined_in (i.receipt ∷ []) (receipts_in (take count steps)) (i.receipt ∷ []) (receipts_in steps) (λ r h. h) (first_receipts count steps)
 

@@ -1,4 +1,4 @@
--- Turns and intakes of a speaker at a node of a network (profile).
+-- Turns, intakes and requests of a speaker at a node of a network (profile).
 use Rattle.std.specs.Prelude.{List, Contains, ℕ, Option, Some}
 use Rattle.babel_state.specs.declared.configs.Config.{Config}
 use Rattle.babel_state.specs.Restarts.{Snapshot, snapshot_of, restored}
@@ -21,13 +21,13 @@ pub record AreStepEvents (node : ℕ) (config : Config) (steps : List DurableSte
   pub leads : LeadsTo node config s old new
   pub records : (x : Sending) → Contains (taken_by steps) x → IsRecorded node config new.sent x
 
--- Turns and intakes of a speaker at a node are events of the network.
+-- Turns, intakes and requests of a speaker at a node are events of the network.
 abbrev pub StepsAreEvents : Type 0
 StepsAreEvents =
     (n : NetworkState) (node : ℕ) (config : Config) (old new : State) (steps : List DurableStep) →
     IsAt n node config old → AreSteps old steps new → AreReceiptsFrom n.sent (receipts_in steps) → AreStepEvents node config steps new n
 
--- As CrashesAreRestartEvents, with intakes between the turns.
+-- As CrashesAreRestartEvents, with intakes and requests between the turns.
 abbrev pub CrashesWithIntakesAreRestartEvents : Type 0
 CrashesWithIntakesAreRestartEvents =
     (n : NetworkState) (node now : ℕ) (config : Config) (old new : State) (last later : Option Snapshot) (steps : List DurableStep) (files : List File)

@@ -29,14 +29,16 @@ pub fn crashes_are_restart_events()
     sound_networks_have_no_loop();
 }
 
-/// Turns of a speaker, and datagrams that it takes in between them, are events of the network too.
+/// Turns of a speaker, and datagrams that it takes in and requests that it makes between them, are
+/// events of the network too.
 pub fn steps_are_events()
     ensures { StepsAreEvents }
 {
     settings_stay();
 }
 
-/// A crash of a node that takes in datagrams between its turns is the event Restart too.
+/// A crash of a node that takes in datagrams or makes requests between its turns is the event
+/// Restart too.
 pub fn crashes_with_intakes_are_restart_events()
     ensures { CrashesWithIntakesAreRestartEvents }
 {

@@ -1,10 +1,13 @@
 -- Routes that become unfeasible, and routes in the edge case of the seqno order (examples; profile).
-use Rattle.std.specs.Prelude.{ℕ, ◌+◌, [], Option}
+use Rattle.std.specs.Prelude.{ℕ, ◌+◌, [], ◌∷◌, Option}
 use Rattle.std.specs.Option.{option_map}
 use Rattle.babel_value.specs.declared.keys.Peer.{Peer}
 use Rattle.babel_message.specs.declared.messages.Message.TheVariants as messages
 use Rattle.babel_choice.specs.declared.entries.Selection.{Selection}
+use Rattle.babel_choice.specs.Routes.{Route, RouteEntries, key_of}
 use Rattle.babel_route.specs.Selections.{choice_at}
+use Rattle.babel_state.specs.declared.requests.Resend.TheVariants.{Unfeasible}
+use Rattle.babel_state.specs.PendingRequests.{PendingRequests}
 use Rattle.babel_state.specs.State.{State, announces, cost_at, selected_at}
 use Rattle.babel_state.specs.declared.items.Item.{Item}
 use Rattle.babel_state.specs.declared.items.Item.TheVariants as items
@@ -56,6 +59,25 @@ repeated_thrice = requests_ticked 1420 repeated_twice
 
 abbrev pub given_up : State
 given_up = requests_ticked 3020 repeated_thrice
+
+-- A route of neighbour n to 10.0.0.0/8 that is no better than what was sent: (5, 96).
+abbrev pub unfeasible : ℕ → Route
+unfeasible n = (key_of ten (peer n), (route_of n 5 96 20).entry)
+
+-- With these routes, none of them selected, and nothing pending.
+abbrev pub starved : RouteEntries → State
+starved es = record meshed {
+  sources = (ten_of 1, record { distance = pair 5 96; due = 18000 }) ∷ [];
+  routes = record { entries = es; selections = [] };
+}
+
+-- Neighbour 3's route is selected.
+abbrev pub with_selected : State
+with_selected = record (starved (unfeasible 1 ∷ [])) { routes = record { entries = unfeasible 1 ∷ []; selections = (ten, route_of 3 5 50 20) ∷ [] } }
+
+-- The request for them that is made at this moment.
+abbrev pub new_request_of_6 : ℕ → PendingRequests
+new_request_of_6 now = (ten_of 1, record { seqno = 6; resend = Unfeasible; wait = 200; due = now + 200 }) ∷ []
 
 -- It is repeated to neighbour 1 with a whole hop count.
 abbrev pub request_of_6 : Item

@@ -218,6 +218,7 @@ fn node_of(event: &Event) -> usize {
         | Event::Deliver { node, .. }
         | Event::SetCost { node, .. }
         | Event::Raise { node }
+        | Event::RequestSeqnos { node, .. }
         | Event::Announce { node, .. }
         | Event::Withdraw { node, .. }
         | Event::Restart { node, .. } => *node,

@@ -61,6 +61,8 @@ Happens configs (events.Emit node now) old new = Emits node old new ⊎ StepsAlo
 Happens configs (events.Deliver number node iface now) old new = Receives number node iface old new ⊎ (new ≡ old)
 Happens configs (events.SetCost node iface cost) old new = StepsAlone node 0 (speaker_at old node).announces old new
 Happens configs (events.Raise node) old new = StepsAlone node 1 (speaker_at old node).announces old new
+-- what is requested isn't seen before it is sent
+Happens configs (events.RequestSeqnos node now) old new = StepsAlone node 0 (speaker_at old node).announces old new
 Happens configs (events.Announce node prefix) old new =
     Lists configs node prefix × StepsAlone node 0 (announcing_also prefix (speaker_at old node)) old new
 Happens configs (events.Withdraw node prefix) old new =

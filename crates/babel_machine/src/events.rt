@@ -32,6 +32,12 @@ pub enum Event {
     Raise {
         node: usize,
     },
+    /// The node requests a greater seqno wherever a prefix has no route but unfeasible ones (RFC
+    /// 8966, section 3.8.2.2).
+    RequestSeqnos {
+        node: usize,
+        now: u64,
+    },
     /// The node announces a prefix of its configuration.
     Announce {
         node: usize,

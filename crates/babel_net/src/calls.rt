@@ -38,6 +38,7 @@ pub fn node_of(event: &Event) -> usize
         Event::Deliver { node, .. } => node,
         Event::SetCost { node, .. } => node,
         Event::Raise { node } => node,
+        Event::RequestSeqnos { node, .. } => node,
         Event::Announce { node, .. } => node,
         Event::Withdraw { node, .. } => node,
         Event::Restart { node, .. } => node,
@@ -64,6 +65,10 @@ pub(crate) fn call(
         Event::SetCost { iface, cost, .. } => set_cost(speaker, iface, cost),
         Event::Raise { .. } => {
             speaker.raise();
+            Ok(())
+        }
+        Event::RequestSeqnos { now, .. } => {
+            speaker.request_seqnos(now);
             Ok(())
         }
         Event::Announce { prefix, .. } => announce(speaker, config, prefix),

@@ -5,9 +5,11 @@
 
 ghost use Rattle.std.specs.Prelude.{◌≡◌, ◌↔◌, None, length, slice_get, is_some, option_map, IfOk, IfErr, IfSome, IsOk, IsNone, OnOk, OnErr};
 ghost use Rattle.std.specs.BTreeMap.{get};
+ghost use Rattle.std.specs.List.{list_any};
 ghost use Rattle.std.specs.Option.{option_and_then};
 ghost use Rattle.babel_value.specs.Orders.{addr_cmp};
 ghost use Rattle.babel_state.specs.declared.selected.Selected.{Selected};
+ghost use Rattle.babel_state.specs.Requesting.{is_wanted};
 ghost use Rattle.babel_state.specs.State.{State};
 ghost use Rattle.babel_machine.specs.Acceptance.{net_fault};
 ghost use Rattle.babel_machine.specs.Worlds.{next_hop_in, router_in};
@@ -211,6 +213,15 @@ impl Network {
         ensures { result ≡ option_map (λ (s : State). s.raises) (slice_get self.now.speakers node) }
     {
         self.nodes.raises(node)
+    }
+
+    /// Whether the node has a prefix with no route but unfeasible ones, one of which it would take
+    /// if that were feasible (RFC 8966, section 3.8.2.2). If not, the event
+    /// [`Event::RequestSeqnos`] changes nothing there. `None` if there is no such node.
+    pub fn wants_seqnos(&self, node: usize) -> Option<bool>
+        ensures { result ≡ option_map (λ (s : State). list_any (is_wanted s) s.routes.entries) (slice_get self.now.speakers node) }
+    {
+        self.nodes.wants_seqnos(node)
     }
 
     /// A count of the node's speaker, which grows whenever a selected route of the node may be

@@ -1,12 +1,14 @@
 //! The speaker of a node, of which a network sees the state.
 
 ghost use Rattle.std.specs.Prelude.{◌≡◌, ◌≢◌, ◌<◌, ◌↔◌, ℕ, [], true, false, Some, slice_get, is_some, IsOk, IsErr, IsNone, IfOk, IfErr, IfSome, OnOk, OnErr};
+ghost use Rattle.std.specs.List.{list_any};
 ghost use Rattle.babel_state.specs.Addresses.{transport_at};
 ghost use Rattle.babel_state.specs.Calls.{set_cost_fault, cost_set, first_state, is_prefix_too_many, announced_also, withdrawn, selected_route};
 ghost use Rattle.babel_state.specs.Configs.{config_fault};
 ghost use Rattle.babel_state.specs.CurrentSelections.{AreCurrent};
 ghost use Rattle.babel_state.specs.Messages.{arrival_of, Receives, IsRecvFault};
 ghost use Rattle.babel_state.specs.Restarts.{restarted};
+ghost use Rattle.babel_state.specs.Requesting.{is_wanted, seqnos_requested};
 ghost use Rattle.babel_state.specs.SeqnoRequests.{raised};
 ghost use Rattle.babel_state.specs.State.{announces, interface_at};
 ghost use Rattle.babel_state.specs.Ticks.{ticked};
@@ -87,6 +89,12 @@ impl NodeSpeaker {
         self.speaker.raise();
     }
 
+    pub(crate) fn request_seqnos(&mut self, now: u64)
+        ensures { self.new ≡ seqnos_requested now self.old }
+    {
+        self.speaker.request_seqnos(now);
+    }
+
     pub(crate) fn set_cost(&mut self, iface: u8, cost: u16) -> Result<(), SetCostFault>
         ensures refused { IsOk result ↔ IsNone (set_cost_fault iface cost self.old) }
         ensures cause { IfErr result (λ fault. set_cost_fault iface cost self.old ≡ Some fault) }
@@ -153,6 +161,12 @@ impl NodeSpeaker {
         ensures { result ≡ self.now.raises }
     {
         self.speaker.raises()
+    }
+
+    pub(crate) fn wants_seqnos(&self) -> bool
+        ensures { result ≡ list_any (is_wanted self.now) self.now.routes.entries }
+    {
+        self.speaker.wants_seqnos()
     }
 
     pub(crate) fn next_due(&self) -> u64

@@ -1,9 +1,11 @@
 //! The nodes of a network: their speakers, and the datagrams that they sent.
 
 ghost use Rattle.std.specs.Prelude.{◌≡◌, ◌<◌, ◌≤◌, All, None, length, slice_get, map, is_some, option_map, vec_len, vec_capacity, IfOk, IfErr, IfSome, IsOk, IsNone, OnOk, OnErr};
+ghost use Rattle.std.specs.List.{list_any};
 ghost use Rattle.std.specs.Option.{option_and_then};
 ghost use Rattle.babel_value.specs.Seqnos.{seqno_modulus};
 ghost use Rattle.babel_state.specs.declared.configs.Config.{Config};
+ghost use Rattle.babel_state.specs.Requesting.{is_wanted};
 ghost use Rattle.babel_state.specs.State.{State};
 ghost use Rattle.babel_state.specs.Calls.{first_state, selected_route};
 ghost use Rattle.babel_machine.specs.Acceptance.{first_bad_from, net_fault};
@@ -279,6 +281,17 @@ impl Nodes {
     {
         match self.speakers.get(node) {
             Some(speaker) => Some(speaker.raises()),
+            None => None,
+        }
+    }
+
+    /// Whether the node has a prefix with no route but unfeasible ones, one of which it would take
+    /// if that were feasible; `None` if there is no such node.
+    pub fn wants_seqnos(&self, node: usize) -> Option<bool>
+        ensures { result ≡ option_map (λ (s : State). list_any (is_wanted s) s.routes.entries) (slice_get self.now.speakers node) }
+    {
+        match self.speakers.get(node) {
+            Some(speaker) => Some(speaker.wants_seqnos()),
             None => None,
         }
     }

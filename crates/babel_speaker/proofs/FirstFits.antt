@@ -1,9 +1,8 @@
 -- The first message of a datagram fits.
-use Rattle.std.specs.Prelude.{◌≡◌, ◌+◌, ◌≤◌, true, false, [], length, IsSome, Option, Some, None}
+use Rattle.std.specs.Prelude.{◌≡◌, ◌+◌, ◌≤◌, true, [], length, IsSome, Option, Some, None}
 use Rattle.std.proofs.Common.{arith}
 use Rattle.std.proofs.lemmas.Bool.{false≢true, le-leb}
 use Rattle.babel_value.specs.declared.addresses.Addr.{Addr}
-use Rattle.babel_message.specs.declared.messages.Message.TheVariants as messages
 use Rattle.babel_packet.specs.BodyMeanings.{state_after}
 use Rattle.babel_packet.specs.Compressed.{compressed}
 use Rattle.babel_packet.proofs.CompressedSizes.{compressed_size}

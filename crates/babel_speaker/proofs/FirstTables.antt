@@ -1,5 +1,5 @@
 -- What a configuration without a fault has room for.
-use Rattle.std.specs.Prelude.{◌≡◌, ◌≤◌, true, false, ◌&&◌, not, nat_le, nat_lt, List, [], ◌∷◌, map, length, None}
+use Rattle.std.specs.Prelude.{◌≡◌, ◌≤◌, true, false, ◌&&◌, nat_le, nat_lt, List, [], ◌∷◌, map, length, None}
 use Rattle.std.specs.List.{list_any}
 use Rattle.std.proofs.Common.{refl, sym, ap, subst, ◌∙◌}
 use Rattle.std.proofs.lemmas.Bool.{and_parts, or_parts, ltb-false, not-false}

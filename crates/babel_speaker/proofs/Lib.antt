@@ -7,6 +7,7 @@ pub mod FirstFits
 pub mod SettledSends
 pub mod TakenItems
 pub mod RequestsKept
+pub mod Requesting
 pub mod Snapshots
 pub mod Counting
 pub mod Networks

@@ -26,7 +26,6 @@ use Rattle.babel_sources.specs.Sources.{Sources, pair_of, lowered}
 use Rattle.babel_sources.proofs.PairLemmas.{pair_lowered}
 use Rattle.babel_route.proofs.CurrencyLemmas.{same_selection}
 use Rattle.babel_state.specs.declared.interfaces.InterfaceEntry.{InterfaceEntry}
-use Rattle.babel_state.specs.declared.items.Outgoing.TheVariants as outgoings
 use Rattle.babel_state.specs.declared.items.Target.{Target}
 use Rattle.babel_state.specs.State.{State, interface_at, announces, cost_at, with_interface}
 use Rattle.babel_state.specs.NextDatagram.{next_hello, after_message}

@@ -1,7 +1,8 @@
 //! The speaker: its calls, from moments and octets to octets. Each call's meaning is its definition
 //! in `babel_state`.
 
-ghost use Rattle.std.specs.Prelude.{◌≡◌, ◌≢◌, ◌≤◌, ◌<◌, ◌↔◌, ℕ, [], true, false, Ok, Some, length, slice_get, IsOk, IsErr, IsNone, IfOk, IfErr, IfSome, OnOk, OnErr, Option, option_map};
+ghost use Rattle.std.specs.Prelude.{◌≡◌, ◌≢◌, ◌≤◌, ◌<◌, ◌↔◌, ℕ, [], true, false, Ok, Some, length, slice_get, IsFalse, IsOk, IsErr, IsNone, IfOk, IfErr, IfSome, OnOk, OnErr, Option, option_map};
+ghost use Rattle.std.specs.List.{list_any};
 ghost use Rattle.babel_packet.specs.Meaning.{meaning};
 ghost use Rattle.babel_route.specs.Selections.{prefix_after};
 ghost use Rattle.babel_state.specs.Addresses.{transport_at};
@@ -15,6 +16,7 @@ ghost use Rattle.babel_state.specs.KeptRoutes.{KeepsRoutes};
 ghost use Rattle.babel_state.specs.Messages.{arrival_of, Receives, IsRecvFault};
 ghost use Rattle.babel_state.specs.CurrentSelections.{AreCurrent, AreInHalf, IsCurrentAt, KeepsCurrent, KeepsSelections};
 ghost use Rattle.babel_state.specs.QueueLaws.{is_silent};
+ghost use Rattle.babel_state.specs.Requesting.{is_wanted, seqnos_requested};
 ghost use Rattle.babel_state.specs.Seen.{seen, updates_among, announcing_also, announcing_without, IsNew, IsSelecting, Sends};
 ghost use Rattle.babel_state.specs.SeenLaws.{MovesAlone, MovesByDatagram};
 ghost use Rattle.babel_state.specs.SeqnoRequests.{raised};
@@ -408,6 +410,36 @@ impl Speaker {
         selections_stay_current();
         self.core.raise();
         self.snapshot = counted(self.snapshot, true);
+    }
+
+    /// Requests a greater seqno for each prefix that has no route but unfeasible ones (RFC 8966,
+    /// section 3.8.2.2): of the source of each, from the neighbours of all. None is requested that
+    /// is pending already. Each is repeated as that of a lost route is, and then made by this call
+    /// again.
+    ///
+    /// A lost route is requested at once, without this call. What needs it is a way that comes up
+    /// later, or a request that was given up. A caller may make it once a Hello interval.
+    pub fn request_seqnos(&mut self, now: u64)
+        ensures state { self.new.state ≡ seqnos_requested now self.old.state }
+        ensures moves { MovesAlone 0 (seen self.old.state).announces self.old.state self.new.state }
+        ensures current { KeepsCurrent self.old.state self.new.state }
+        ensures kept { KeepsRoutes self.old.state self.new.state }
+        ensures counts { (self.new.routes_version ≡ self.old.routes_version) × (self.new.snapshot_version ≡ self.old.snapshot_version) }
+        ensures counted { CountsChanges self.old self.new }
+    {
+        states_are_well_formed();
+        calls_move();
+        selections_stay_current();
+        self.core.request_seqnos(now);
+    }
+
+    /// Whether a prefix has no route but unfeasible ones, one of which would be taken if it were
+    /// feasible. If not, [`request_seqnos`](Speaker::request_seqnos) changes nothing.
+    pub fn wants_seqnos(&self) -> bool
+        ensures wants { result ≡ list_any (is_wanted self.now.state) self.now.state.routes.entries }
+        ensures none { IsFalse result → (now : ℕ) → seqnos_requested now self.now.state ≡ self.now.state }
+    {
+        self.core.wants_seqnos()
     }
 
     /// Sets the nominal cost of an interface (RFC 8966, appendix A.2.1): E1 or E2 is the first

@@ -3,4 +3,5 @@
 
 pub mod deadlines;
 pub mod due_items;
+pub mod requesting;
 pub mod ticking;

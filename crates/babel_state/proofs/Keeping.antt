@@ -77,16 +77,16 @@ fired_settings now (i ∷ is) = ap (λ xs. settings_of i ∷ xs) (fired_settings
 
 -- ---- reselection
 
-from_kept : (s t : State) → kept_of t ≡ kept_of s → own_of t ≡ own_of s
+pub kept_own : (s t : State) → kept_of t ≡ kept_of s → own_of t ≡ own_of s
 unfolding kept_of own_of
-from_kept s t same = ap own_of same
+kept_own s t same = ap own_of same
 
 from_base : (s t : State) → base_of t ≡ base_of s → own_of t ≡ own_of s
 unfolding base_of own_of
 from_base s t same = ap own_of same
 
 asks_own : (now : ℕ) (source : Source) (seqno : ℕ) (resend : Resend) (hops : ℕ) (peers : List Peer) (s : State) → own_of (request_seqno now source seqno resend hops peers s) ≡ own_of s
-asks_own now source seqno resend hops peers s = from_kept s _ (asks_kept now source seqno resend hops peers s)
+asks_own now source seqno resend hops peers s = kept_own s _ (asks_kept now source seqno resend hops peers s)
 
 reselects_own : (now : ℕ) (cause : Option UnfeasibleUpdate) (prefix : PrefixValue) (s : State) → own_of (reselect now cause prefix s) ≡ own_of s
 reselects_own now cause prefix s = from_base s _ (reselects_base now cause prefix s)

@@ -16,6 +16,7 @@ pub mod NewState
 pub mod WellFormed
 pub mod OwnRouters
 pub mod Moving
+pub mod Requesting
 pub mod DatagramsSent
 pub mod Meanings
 pub mod SettledLemmas

@@ -71,15 +71,15 @@ address_kept s t same iface family = at_kept (address_of family) (address_settle
 
 -- ---- what is the speaker's own
 
-record IsOwnMove (growths : ℕ) (announced : PrefixValue → Bool) (old new : State) : Type 0 where
-  router : new.router ≡ old.router
-  collects : new.collects ≡ old.collects
-  transports : (iface : ℕ) → transport_at iface new ≡ transport_at iface old
-  addresses : (iface : ℕ) (family : Family) → address_at iface family new ≡ address_at iface family old
-  seqno : new.seqno ≡ (old.seqno + growths) % 65536
-  raises : new.raises ≡ counted old.raises growths
-  announces : (prefix : PrefixValue) → announces prefix new ≡ announced prefix
-  sources : old.collects ≡ false → (prefix : PrefixValue) (router : List ℕ) → pair_at prefix router new ≡ pair_at prefix router old
+pub record IsOwnMove (growths : ℕ) (announced : PrefixValue → Bool) (old new : State) : Type 0 where
+  pub router : new.router ≡ old.router
+  pub collects : new.collects ≡ old.collects
+  pub transports : (iface : ℕ) → transport_at iface new ≡ transport_at iface old
+  pub addresses : (iface : ℕ) (family : Family) → address_at iface family new ≡ address_at iface family old
+  pub seqno : new.seqno ≡ (old.seqno + growths) % 65536
+  pub raises : new.raises ≡ counted old.raises growths
+  pub announces : (prefix : PrefixValue) → announces prefix new ≡ announced prefix
+  pub sources : old.collects ≡ false → (prefix : PrefixValue) (router : List ℕ) → pair_at prefix router new ≡ pair_at prefix router old
 
 moves_from : (peer : Peer) (updates : List UpdateValue) (growths : ℕ) (announced : PrefixValue → Bool) (old new : State) → IsOwnMove growths announced old new →
     ((prefix : PrefixValue) (from : Peer) (h : HeardValue) → heard_at prefix from new ≡ Some h → (heard_at prefix from old ≡ Some h) ⊎ IsHeardFrom peer updates prefix from h) →
@@ -100,7 +100,7 @@ moves_from peer updates growths announced old new own entries others selecting =
 }
 
 -- with nothing heard
-moves_alone : (peer : Peer) (growths : ℕ) (announced : PrefixValue → Bool) (old new : State) → IsOwnMove growths announced old new →
+pub moves_alone : (peer : Peer) (growths : ℕ) (announced : PrefixValue → Bool) (old new : State) → IsOwnMove growths announced old new →
     ((prefix : PrefixValue) (from : Peer) (h : HeardValue) → heard_at prefix from new ≡ Some h → (heard_at prefix from old ≡ Some h) ⊎ IsHeardFrom peer [] prefix from h) →
     IsSelecting (seen new) → Moves peer [] growths announced (seen old) (seen new)
 moves_alone peer growths announced old new own entries selecting =
@@ -139,7 +139,7 @@ no_growth n small = omega (arith, small)
 no_count : (n : ℕ) → n < 2 ^ 64 → n ≡ counted n 0
 no_count n small = omega (arith, small)
 
-kept_move : (old new : State) → IsWellFormed old → KeepsOwn old new → IsOwnMove 0 (λ prefix. announces prefix old) old new
+pub kept_move : (old new : State) → IsWellFormed old → KeepsOwn old new → IsOwnMove 0 (λ prefix. announces prefix old) old new
 unfolding own_of
 kept_move old new well same =
     own_move 0 old new old.seqno old.raises old.announced (λ prefix. announces prefix old) same (no_growth old.seqno well.tables.seqno) (no_count old.raises well.tables.raises) (λ prefix. refl)
@@ -151,7 +151,7 @@ grown_move old new same =
 
 -- ---- messages
 
-abbrev announced_in : State → PrefixValue → Bool
+abbrev pub announced_in : State → PrefixValue → Bool
 announced_in s prefix = announces prefix s
 
 abbrev MovesBy : Peer → List UpdateValue → State → State → Type 0

@@ -52,7 +52,7 @@ use Rattle.babel_state.specs.Invariants.{AreInterfaces, AreNeighbours, AreAnnoun
 use Rattle.babel_state.proofs.Cutting.{queueing-cuts}
 use Rattle.babel_state.proofs.Tables.{each_put, each_find, each_revised, few_put, few_revised, few_without}
 
-if_tables : (b : Bool) (x y : State) → AreTables x → AreTables y → AreTables (if b then x else y)
+pub if_tables : (b : Bool) (x y : State) → AreTables x → AreTables y → AreTables (if b then x else y)
 if_tables true x y p q = p
 if_tables false x y p q = q
 
@@ -231,7 +231,7 @@ recorded_is now source seqno resend requests r = by (has_no_room source requests
       in_order = sorted_put source_cmp source_total source made requests r.in_order;
     }
 
-asks_tables : (now : ℕ) (source : Source) (seqno : ℕ) (resend : Resend) (hops : ℕ) (peers : List Peer) (s : State) → 1 ≤ hops → AreTables s → AreTables (request_seqno now source seqno resend hops peers s)
+pub asks_tables : (now : ℕ) (source : Source) (seqno : ℕ) (resend : Resend) (hops : ℕ) (peers : List Peer) (s : State) → 1 ≤ hops → AreTables s → AreTables (request_seqno now source seqno resend hops peers s)
 unfolding request_seqno
 asks_tables now source seqno resend hops peers s some t =
     if_tables (is_redundant source seqno s.requests) s _ t

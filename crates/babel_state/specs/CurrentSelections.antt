@@ -18,6 +18,7 @@ use Rattle.babel_route.specs.Selections.{IsCurrent}
 use Rattle.babel_state.specs.declared.configs.Config.{Config}
 use Rattle.babel_state.specs.Reselection.{reselect_all}
 use Rattle.babel_state.specs.Ticks.{ticked}
+use Rattle.babel_state.specs.Requesting.{seqnos_requested}
 use Rattle.babel_state.specs.SeqnoRequests.{raised}
 use Rattle.babel_state.specs.Messages.{handle_message, after_places}
 use Rattle.babel_state.specs.Calls.{first_state, announced_also, withdrawn}
@@ -99,3 +100,6 @@ WithdrawingKeepsCurrent = (prefix : PrefixValue) (s : State) → AreRoutesInOrde
 
 abbrev pub RaisingKeepsCurrent : Type 0
 RaisingKeepsCurrent = (s : State) → KeepsCurrent s (raised s)
+
+abbrev pub RequestingKeepsCurrent : Type 0
+RequestingKeepsCurrent = (now : ℕ) (s : State) → KeepsCurrent s (seqnos_requested now s)

@@ -31,6 +31,7 @@ use Rattle.babel_state.specs.Addresses.{transport_of}
 use Rattle.babel_state.specs.Messages.{handle_message}
 use Rattle.babel_state.specs.Ticks.{ticked}
 use Rattle.babel_state.specs.NextDatagram.{Fits, next_datagram}
+use Rattle.babel_state.specs.Requesting.{seqnos_requested}
 use Rattle.babel_state.specs.SeqnoRequests.{raised}
 use Rattle.babel_state.specs.Calls.{first_state, set_cost_fault, cost_set, is_prefix_too_many, announced_also, withdrawn}
 use Rattle.babel_state.specs.CurrentSelections.{is_selection_candidate, IsCurrentAt, KeepsCurrent, KeepsSelections, AreInHalf}
@@ -152,6 +153,9 @@ WithdrawingKeepsWellFormed = (prefix : PrefixValue) (s : State) → IsWellFormed
 
 abbrev pub RaisingKeepsWellFormed : Type 0
 RaisingKeepsWellFormed = (s : State) → IsWellFormed s → IsWellFormed (raised s)
+
+abbrev pub RequestingKeepsWellFormed : Type 0
+RequestingKeepsWellFormed = (now : ℕ) (s : State) → IsWellFormed s → IsWellFormed (seqnos_requested now s)
 
 -- A change of a nominal cost changes no link's cost, so that what is current stays current.
 abbrev pub CostsKeepCurrent : Type 0

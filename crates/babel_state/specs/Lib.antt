@@ -10,6 +10,7 @@ pub mod Reselection
 pub mod Hellos
 pub mod Updates
 pub mod SeqnoRequests
+pub mod Requesting
 pub mod Messages
 pub mod Ticks
 pub mod OutgoingMessages

@@ -10,6 +10,7 @@ use Rattle.babel_packet.specs.Meaning.{messages_of}
 use Rattle.babel_state.specs.declared.configs.Config.{Config}
 use Rattle.babel_state.specs.declared.items.Target.{Target}
 use Rattle.babel_state.specs.State.{State, cost_at}
+use Rattle.babel_state.specs.Requesting.{seqnos_requested}
 use Rattle.babel_state.specs.SeqnoRequests.{raised}
 use Rattle.babel_state.specs.Messages.{handle_message, after_places}
 use Rattle.babel_state.specs.Ticks.{ticked}
@@ -90,6 +91,9 @@ WithdrawingMoves = (prefix : PrefixValue) (s : State) → IsWellFormed s → Mov
 
 abbrev pub RaisingMoves : Type 0
 RaisingMoves = (s : State) → IsWellFormed s → MovesAlone 1 (seen s).announces s (raised s)
+
+abbrev pub RequestingMoves : Type 0
+RequestingMoves = (now : ℕ) (s : State) → IsWellFormed s → MovesAlone 0 (seen s).announces s (seqnos_requested now s)
 
 -- The next datagram sends its updates over its target's interface.
 abbrev pub DatagramsSend : Type 0

@@ -18,6 +18,7 @@ use Rattle.babel_state.specs.Calls.{cost_set, announced_also, withdrawn}
 use Rattle.babel_state.specs.Messages.{handle_message}
 use Rattle.babel_state.specs.Ticks.{ticked}
 use Rattle.babel_state.specs.NextDatagram.{Fits, next_datagram}
+use Rattle.babel_state.specs.Requesting.{seqnos_requested}
 use Rattle.babel_state.specs.SeqnoRequests.{raised}
 use Rattle.babel_state.specs.Seen.{updates_among, is_of_source, all_lowered}
 
@@ -132,6 +133,10 @@ ReselectionKeepsBase =
 abbrev pub ReselectionOfAllKeepsBase : Type 0
 ReselectionOfAllKeepsBase = (now : ℕ) (s : State) → base_of (reselect_all now s) ≡ base_of s
 
+-- Requests for a greater seqno keep the selections too.
+abbrev pub RequestingKeepsTheRest : Type 0
+RequestingKeepsTheRest = (now : ℕ) (s : State) → kept_of (seqnos_requested now s) ≡ kept_of s
+
 -- ---- the interfaces
 
 -- No step but `set_cost` changes an interface's addresses, cost or Hello interval.
@@ -155,6 +160,9 @@ WithdrawingKeepsSettings = (prefix : PrefixValue) (s : State) → KeepsSettings 
 
 abbrev pub RaisingKeepsSettings : Type 0
 RaisingKeepsSettings = (s : State) → KeepsSettings s (raised s)
+
+abbrev pub RequestingKeepsSettings : Type 0
+RequestingKeepsSettings = (now : ℕ) (s : State) → KeepsSettings s (seqnos_requested now s)
 
 -- And `set_cost` changes the cost of its interface alone.
 abbrev pub with_cost_at : ℕ → ℕ → List InterfaceEntry → List InterfaceEntry

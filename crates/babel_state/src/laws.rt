@@ -3,14 +3,14 @@
 ghost use Rattle.std.specs.Prelude.{◌≡◌, ◌<◌, ◌≤◌, ◌^◌, List, length};
 ghost use Rattle.babel_state.specs.declared.items.Item.{Item};
 ghost use Rattle.babel_state.specs.Limits.{most_pending};
-ghost use Rattle.babel_state.specs.Invariants.{CostsKeepCurrent, CostsKeepRoutes, SendingKeepsSelected, SendingKeepsSelections, SendingKeepsCurrentInHalf, NewSpeakersAreWellFormed, MessagesKeepWellFormed, TicksKeepWellFormed, SendingKeepsWellFormed, CostsKeepWellFormed, AnnouncingKeepsWellFormed, WithdrawingKeepsWellFormed, RaisingKeepsWellFormed};
+ghost use Rattle.babel_state.specs.Invariants.{CostsKeepCurrent, CostsKeepRoutes, SendingKeepsSelected, SendingKeepsSelections, SendingKeepsCurrentInHalf, NewSpeakersAreWellFormed, MessagesKeepWellFormed, TicksKeepWellFormed, SendingKeepsWellFormed, CostsKeepWellFormed, AnnouncingKeepsWellFormed, WithdrawingKeepsWellFormed, RaisingKeepsWellFormed, RequestingKeepsWellFormed};
 ghost use Rattle.babel_state.specs.Queueing.{Pending, queued, queued_at_once};
 ghost use Rattle.babel_state.specs.QueueLaws.{QueueingAppends, NothingIsSkipped, NoneIfNothingPending, ItemsAreEncodable, DatagramsAreEncodable, ItemsHaveInterfaces};
 ghost use Rattle.babel_state.specs.Restarts.{SnapshotsAreSeen, RestartsAreSeen, SnapshotsAreWhole, RestoredAreWellFormed, RestartsAreWellFormed, RestoredAreCurrent};
 ghost use Rattle.babel_state.specs.SettledLaws.{SettledReselectsNothing, HellosKeepCurrent, IhusKeepCurrent, TimersKeepCurrent};
-ghost use Rattle.babel_state.specs.SeenLaws.{DatagramsSend, NoDatagramChangesNothing, PlacesMove, TicksMove, CostsMove, AnnouncingMoves, WithdrawingMoves, RaisingMoves, MessagesAreHeard, NewSpeakersAreNew, CurrentIsSelecting, TicksHearNothing};
-ghost use Rattle.babel_state.specs.CurrentSelections.{MessagesKeepCurrent, PlacesKeepCurrent, AnnouncingKeepsCurrent, WithdrawingKeepsCurrent, RaisingKeepsCurrent, NewSpeakersAreCurrent, ReselectionsMakeCurrent, TicksMakeCurrent};
-ghost use Rattle.babel_state.specs.StepLaws.{ReselectionKeepsBase, ReselectionOfAllKeepsBase, MessagesKeepOwn, TicksKeepOwn, SendingKeepsKnown, SendingLowersSources, MessagesKeepSettings, TicksKeepSettings, SendingKeepsSettings, AnnouncingKeepsSettings, WithdrawingKeepsSettings, RaisingKeepsSettings, CostsSetOneCost};
+ghost use Rattle.babel_state.specs.SeenLaws.{DatagramsSend, NoDatagramChangesNothing, PlacesMove, TicksMove, CostsMove, AnnouncingMoves, WithdrawingMoves, RaisingMoves, RequestingMoves, MessagesAreHeard, NewSpeakersAreNew, CurrentIsSelecting, TicksHearNothing};
+ghost use Rattle.babel_state.specs.CurrentSelections.{MessagesKeepCurrent, PlacesKeepCurrent, AnnouncingKeepsCurrent, WithdrawingKeepsCurrent, RaisingKeepsCurrent, RequestingKeepsCurrent, NewSpeakersAreCurrent, ReselectionsMakeCurrent, TicksMakeCurrent};
+ghost use Rattle.babel_state.specs.StepLaws.{ReselectionKeepsBase, ReselectionOfAllKeepsBase, RequestingKeepsTheRest, MessagesKeepOwn, TicksKeepOwn, SendingKeepsKnown, SendingLowersSources, MessagesKeepSettings, TicksKeepSettings, SendingKeepsSettings, AnnouncingKeepsSettings, WithdrawingKeepsSettings, RaisingKeepsSettings, RequestingKeepsSettings, CostsSetOneCost};
 
 /// Items that are queued one after the other leave what they leave all at once: the last 4,096 of
 /// the old items followed by the new ones, and a count of what was cut.
@@ -38,9 +38,11 @@ pub fn sending_lowers_sources()
 {}
 
 /// A reselection, and that of all, leave all but selections, requests and pending items as it was.
+/// Requests for a greater seqno leave the selections as they were, too.
 pub fn reselections_keep_the_rest()
     ensures one { ReselectionKeepsBase }
     ensures all { ReselectionOfAllKeepsBase }
+    ensures request_seqnos { RequestingKeepsTheRest }
 {}
 
 /// In a new speaker, after a reselection of all, and after a tick with collection off, the
@@ -80,6 +82,7 @@ pub fn states_are_well_formed()
     ensures announce { AnnouncingKeepsWellFormed }
     ensures withdraw { WithdrawingKeepsWellFormed }
     ensures raise { RaisingKeepsWellFormed }
+    ensures request_seqnos { RequestingKeepsWellFormed }
 {}
 
 /// What a network sees of each call but `next_datagram`: the updates that were heard, how often the
@@ -92,6 +95,7 @@ pub fn calls_move()
     ensures announce { AnnouncingMoves }
     ensures withdraw { WithdrawingMoves }
     ensures raise { RaisingMoves }
+    ensures request_seqnos { RequestingMoves }
 {}
 
 /// What a network sees of the next datagram: what its updates advertise, the own address that each
@@ -103,8 +107,8 @@ pub fn datagrams_send()
     ensures none { NoDatagramChangesNothing }
 {}
 
-/// Messages, new nominal costs, own prefixes and raises keep each selection that is current. A new
-/// nominal cost changes nothing that is reported of a selected route: a link that is up costs what
+/// Messages, new nominal costs, own prefixes, raises and requests for a seqno keep each selection
+/// that is current. A new nominal cost changes nothing that is reported of a selected route: a link that is up costs what
 /// its neighbour reports (RFC 8966, appendix A.2.1). The next datagram changes no selection, and
 /// leaves each selected route a candidate. It keeps a current selection, unless an unfeasible route
 /// of the prefix becomes feasible. That can't be while the seqnos of the prefix lie in one half of
@@ -118,6 +122,7 @@ pub fn selections_stay_current()
     ensures announce { AnnouncingKeepsCurrent }
     ensures withdraw { WithdrawingKeepsCurrent }
     ensures raise { RaisingKeepsCurrent }
+    ensures request_seqnos { RequestingKeepsCurrent }
     ensures next_datagram { SendingKeepsSelected }
     ensures sending { SendingKeepsSelections }
     ensures half { SendingKeepsCurrentInHalf }
@@ -144,6 +149,7 @@ pub fn settings_stay()
     ensures announce { AnnouncingKeepsSettings }
     ensures withdraw { WithdrawingKeepsSettings }
     ensures raise { RaisingKeepsSettings }
+    ensures request_seqnos { RequestingKeepsSettings }
     ensures set_cost { CostsSetOneCost }
 {}
 

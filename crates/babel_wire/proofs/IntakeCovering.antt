@@ -2,12 +2,13 @@
 use Rattle.std.proofs.Common.{◌≡◌, ◌⊎◌, ℕ, suc, List, [], ◌∷◌, ◌++◌, take, Contains, Option, Some, refl, sym, ap, ◌∙◌, subst, inl, inr, append_assoc}
 use Rattle.std.proofs.lemmas.List.{append-nil}
 use Rattle.std.proofs.lemmas.List.Elements.{Contains-append_left}
+use Rattle.babel_state.specs.Requesting.{seqnos_requested}
 use Rattle.babel_state.specs.Restarts.{Snapshot, snapshot_of, restored}
 use Rattle.babel_state.specs.State.{State}
 use Rattle.babel_wire.specs.Calls.{Call, Now, Sending}
 use Rattle.babel_wire.specs.Keeping.{DurableTurn, AreOctetsOf, IsDurableTurn, last_kept, given_in, calls_of_turn}
 use Rattle.babel_wire.specs.Cuts.{File, IsCutOf, on_disk, sent_in}
-use Rattle.babel_wire.specs.Intakes.{DurableStep, Turning, TakingIn, calls_of_intake, calls_of_steps, AreDurableSteps, taken_by, IsCoveredBySteps, TurnsAreSteps, StepsGoOn, WhatIsKeptCoversWithIntakes, CrashesWithIntakesAreRestarts}
+use Rattle.babel_wire.specs.Intakes.{DurableStep, Turning, TakingIn, Requesting, calls_of_intake, calls_of_steps, AreDurableSteps, taken_by, IsCoveredBySteps, TurnsAreSteps, StepsGoOn, WhatIsKeptCoversWithIntakes, CrashesWithIntakesAreRestarts}
 use Rattle.babel_wire.proofs.Covering.{After, cut_in, whole_cut, sent_joined, Same, after_recv, after_now, IsOf, turn_cut, disk_after_keeping, sent_given}
 use Rattle.babel_wire.proofs.Files.{disk_joined}
 use Rattle.babel_wire.proofs.Members.{AreIn, none_in, joined_in}
@@ -27,12 +28,15 @@ joined last mid later old state new (Turning t ∷ ss) rest (next, turn, first) 
     (next, turn, joined (last_kept last (snapshot_of next) t.keeping) mid later next state new ss rest first after)
 joined last mid later old state new (TakingIn i ∷ ss) rest (next, intake, first) after =
     (next, intake, joined last mid later next state new ss rest first after)
+joined last mid later old state new (Requesting now ∷ ss) rest first after =
+    joined last mid later (seqnos_requested now old) state new ss rest first after
 
 calls_joined : (first rest : List DurableStep) → calls_of_steps (first ++ rest) ≡ calls_of_steps first ++ calls_of_steps rest
 calls_joined [] rest = refl
 calls_joined (Turning t ∷ ss) rest =
     ap (λ cs. calls_of_turn t ++ cs) (calls_joined ss rest) ∙ sym (append_assoc (calls_of_turn t) (calls_of_steps ss) (calls_of_steps rest))
 calls_joined (TakingIn i ∷ ss) rest = ap (λ cs. calls_of_intake i ++ cs) (calls_joined ss rest)
+calls_joined (Requesting now ∷ ss) rest = ap (λ cs. Now now ∷ cs) (calls_joined ss rest)
 
 pub steps_go_on : StepsGoOn
 steps_go_on last mid later old state new first rest one other =
@@ -85,6 +89,24 @@ steps_cover last later old new (TakingIn i ∷ ss) files cut file (mid, intake, 
         count = suc more.count;
         state = more.state;
         reached = (mid, intake, more.reached);
+        octets_of = more.octets_of;
+        covers = subst (λ xs. AreIn xs (taken_by (take more.count ss))) (sym same) more.covers;
+      },
+    )
+steps_cover last later old new (Requesting now ∷ ss) files cut file rest disk is_cut at =
+    let one : Same (calls_of_steps ss) cut = after_now now (calls_of_steps ss) cut is_cut in
+    later_on one.0 one.3
+    (steps_cover last later (seqnos_requested now old) new ss files one.0 file rest disk one.1 (subst (λ fs. Contains fs file) (one.2 files) at))
+  where
+    later_on : (after : List Call) → sent_in cut ≡ sent_in after → Covers (seqnos_requested now old) ss files after file → Covers old (Requesting now ∷ ss) files cut file
+    later_on after same (inl (old_file, none)) = inl (old_file, same ∙ none)
+    later_on after same (inr (octets, is, more)) = inr (
+      octets,
+      is,
+      record {
+        count = suc more.count;
+        state = more.state;
+        reached = more.reached;
         octets_of = more.octets_of;
         covers = subst (λ xs. AreIn xs (taken_by (take more.count ss))) (sym same) more.covers;
       },

@@ -6,10 +6,12 @@ mod intake;
 mod keeper;
 mod outbox;
 mod report;
+mod requesting;
 mod store;
 
 pub use driving::{DurableDriver, Observer, drive_durable};
 pub use intake::take_in;
 pub use keeper::Keeper;
 pub use report::DurableReport;
+pub use requesting::request_seqnos;
 pub use store::{DurableWire, StoreFault};

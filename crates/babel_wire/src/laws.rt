@@ -44,9 +44,9 @@ pub fn keepers_fit_on()
     ensures { KeepersFitOn }
 {}
 
-/// Datagrams may be taken in between turns ([`crate::take_in`]), while nothing is sent. What is
-/// kept covers what was sent then too, and a crash is a restart after some whole steps: turns and
-/// intakes.
+/// Datagrams may be taken in between turns ([`crate::take_in`]), and requests for a seqno made
+/// ([`crate::request_seqnos`]), while nothing is sent. What is kept covers what was sent then too,
+/// and a crash is a restart after some whole steps: turns, intakes and requests.
 pub fn intakes_are_covered()
     ensures covers { WhatIsKeptCoversWithIntakes }
     ensures restarts { CrashesWithIntakesAreRestarts }

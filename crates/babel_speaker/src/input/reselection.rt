@@ -133,7 +133,7 @@ impl Core {
     /// lost one if it has no pair (RFC 8966, section 3.8.2.1). Returns whether a route is
     /// unfeasible; if not, nothing changed. The searches begin at the cursor.
     #[tactic(auto, unfolding(babel_state::specs::Reselection::request_seqno, babel_state::specs::Reselection::unfeasible_peers))]
-    fn request_for_lost(
+    pub(crate) fn request_for_lost(
         &mut self,
         now: u64,
         source: Source,

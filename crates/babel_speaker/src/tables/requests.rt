@@ -6,7 +6,7 @@ ghost use Rattle.std.specs.FinMap.{find, put};
 ghost use Rattle.babel_value.specs.Orders.{source_cmp};
 ghost use Rattle.babel_table.specs.Entries.{without, revised_entries};
 ghost use Rattle.babel_state.specs.Limits.{most_requests};
-ghost use Rattle.babel_state.specs.PendingRequests.{is_redundant, recorded};
+ghost use Rattle.babel_state.specs.PendingRequests.{is_redundant, has_no_room, recorded};
 ghost use Rattle.babel_state.specs.Ticks.{is_due_request};
 
 use babel_state::{MAX_REQUESTS, PendingRequest, REQUEST_WAIT, Resend};
@@ -105,6 +105,13 @@ impl RequestTable {
             Some(request) => !request.seqno.less(seqno),
             None => false,
         }
+    }
+
+    /// Whether a request for the source can't be recorded: it is new, and 64 others are pending.
+    pub fn has_no_room(&self, source: &Source) -> bool
+        ensures { result ≡ has_no_room source.now self.now }
+    {
+        self.table.len() == MAX_REQUESTS && self.get(source).is_none()
     }
 
     /// Records a new request in place of the pending one for its source. A request for a new source

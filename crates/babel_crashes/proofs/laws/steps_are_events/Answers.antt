@@ -6,4 +6,5 @@ returns c = steps_are_events (record {
   messages = c.settings_stay.ensures.messages;
   tick = c.settings_stay.ensures.tick;
   sending = c.settings_stay.ensures.next_datagram;
+  requesting = c.settings_stay.ensures.request_seqnos;
 })

@@ -1,4 +1,5 @@
 use Rattle.babel_state.proofs.Moving.{places_move, tick_moves, cost_moves, announced_moves, withdrawn_moves, raised_moves}
+use Rattle.babel_state.proofs.Requesting.{requested_moves}
 use Rattle.babel_state.proofs.laws.calls_move.Goals as goal
 
 pub returns-clause-datagrams : goal.returns-clause-datagrams
@@ -18,3 +19,6 @@ returns-clause-withdraw c = withdrawn_moves
 
 pub returns-clause-raise : goal.returns-clause-raise
 returns-clause-raise c = raised_moves
+
+pub returns-clause-request_seqnos : goal.returns-clause-request_seqnos
+returns-clause-request_seqnos c = requested_moves

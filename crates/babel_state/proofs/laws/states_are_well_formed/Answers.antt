@@ -1,4 +1,5 @@
 use Rattle.babel_state.proofs.NewState.{new_well}
+use Rattle.babel_state.proofs.Requesting.{requested_well}
 use Rattle.babel_state.proofs.SendingTables.{sending_well}
 use Rattle.babel_state.proofs.WellFormed.{message_well, tick_well, cost_well, announced_well, withdrawn_well, raised_well}
 use Rattle.babel_state.proofs.laws.states_are_well_formed.Goals as goal
@@ -26,3 +27,6 @@ returns-clause-withdraw c = withdrawn_well
 
 pub returns-clause-raise : goal.returns-clause-raise
 returns-clause-raise c = raised_well
+
+pub returns-clause-request_seqnos : goal.returns-clause-request_seqnos
+returns-clause-request_seqnos c = requested_well
