@@ -16,10 +16,11 @@ use babel_control::ControlPlace;
 use babel_snapshot_file::{Kept, LockFile, SnapshotStore};
 use babel_speaker::Speaker;
 use babel_state::Config;
+use babel_text::LineFault;
 use babel_wire::{DurableDriver, DurableReport};
 use std::alloc::{AllocError, Global};
 use std::fs::Files;
-use std::io::{Read, Write};
+use std::io::{LineWriter, Read, Write};
 use std::net::Net;
 use std::os::fd::AsRawFd;
 use std::time::{Clock, Duration};
@@ -104,7 +105,12 @@ where
         settings,
         ..options
     };
-    match Printer::new(rt.alloc(), printed_of(options), out, err) {
+    // Each line goes out whole: others may write to the same terminal.
+    let mut err = match LineWriter::new(rt.alloc(), err) {
+        Ok(err) => err,
+        Err(error) => return Err(RunFault::Output(LineFault::of_writing(error))),
+    };
+    match Printer::new(rt.alloc(), printed_of(options), out, &mut err) {
         Ok(mut printer) => run_on(rt, options, &mut devices, input, &mut printer),
         Err(error) => Err(RunFault::from(error)),
     }
@@ -178,6 +184,7 @@ where
         pace: Pace::default(),
         counts: Counts::default(),
         last_turn: DurableReport::default(),
+        next_request: 0,
     };
     let ended = router.take_turns(options.turns, wire, printer);
     remove_socket(system, options.control);

@@ -15,8 +15,11 @@ use crate::{DeviceFault, RunFault};
 use babel_control::{DeviceView, Wish};
 use babel_snapshot_file::{LockFile, SnapshotFileFault};
 use babel_speaker::Speaker;
+use babel_state::MAX_HELLO_INTERVAL;
 use babel_text::LineFault;
-use babel_wire::{DurableDriver, DurableReport, Keeper, Wire, drive_durable, take_in};
+use babel_wire::{
+    DurableDriver, DurableReport, Keeper, Wire, drive_durable, request_seqnos, take_in,
+};
 use std::alloc::{AllocError, Global};
 use std::fs::Files;
 use std::io::{Read, Write};
@@ -44,6 +47,8 @@ pub(crate) struct Router<'d, 'a> {
     pub(crate) counts: Counts,
     /// What was counted in the last turn. Steps that only take in what waits are none.
     pub(crate) last_turn: DurableReport,
+    /// From when on seqnos may be requested again, in centiseconds.
+    pub(crate) next_request: u64,
 }
 
 impl Router<'_, '_> {
@@ -93,6 +98,7 @@ impl Router<'_, '_> {
             }
             self.counts.add(counted);
             printer.note_keeping(self.last_turn);
+            self.request_seqnos(wire);
             if number == 0 {
                 note_unused(self.devices, printer);
             }
@@ -141,6 +147,24 @@ impl Router<'_, '_> {
                 })
             }
         }
+    }
+
+    /// Requests a greater seqno wherever a prefix has no route but unfeasible ones, once a Hello
+    /// interval: a longer way that comes up is taken once its source has replied (RFC 8966, section
+    /// 3.8.2.2). The next turn sends it.
+    fn request_seqnos<'r, R: Net + Clock + Files, I: Read + AsRawFd>(
+        &mut self,
+        wire: &mut KeptWire<'r, LinkWire<'r, R, I>, R>,
+    )
+    where
+        R::File: LockFile,
+    {
+        let moment = wire.wire.moment;
+        if moment < self.next_request {
+            return;
+        }
+        self.next_request = moment.saturating_add(least_hello(self.devices));
+        request_seqnos(self.speaker, wire);
     }
 
     /// A run that ends leaves nothing pending.
@@ -241,6 +265,15 @@ impl Router<'_, '_> {
             Err(fault) => Err(RunFault::Restore(fault)),
         }
     }
+}
+
+/// The least Hello interval of the devices, in centiseconds.
+fn least_hello(devices: &[Tracked<'_>]) -> u64 {
+    let mut least = u64::from(MAX_HELLO_INTERVAL);
+    for device in devices {
+        least = least.min(u64::from(device.settings.hello));
+    }
+    least
 }
 
 /// Whether one of so many turns is the last.

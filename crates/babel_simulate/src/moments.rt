@@ -17,6 +17,8 @@ pub(crate) struct NodeState {
     pub(crate) condition: Condition,
     /// When it is due.
     pub(crate) wake: u64,
+    /// From when on it may request seqnos again.
+    pub(crate) next_request: u64,
     /// The count of the changes of its routes when its next hops were looked at.
     pub(crate) version: Option<u64>,
     /// What happened at it.

@@ -128,6 +128,7 @@ impl<'a> Simulation<'a> {
             speaker: number,
             condition: Condition::Down,
             wake,
+            next_request: 0,
             version: None,
             counts: Counts::default(),
         })?;

@@ -77,6 +77,7 @@ impl Simulation<'_> {
         let speaker = self.speaker_of(node);
         if self.due_at(speaker) <= now {
             self.make(Event::Tick { node: speaker, now })?;
+            self.request_seqnos(node, speaker)?;
             self.send_all(node, speaker)?;
         }
         self.see_hops(node, speaker)?;
@@ -88,6 +89,24 @@ impl Simulation<'_> {
             }
         }
         Ok(())
+    }
+
+    /// Once a Hello interval the node requests greater seqnos, if a prefix has no route but
+    /// unfeasible ones, as `babel run` does.
+    fn request_seqnos(&mut self, node: usize, speaker: usize) -> Result<(), SimulationFault> {
+        let now = self.now;
+        let hello = match self.topology.nodes.get(node) {
+            Some(node) => u64::from(node.hello),
+            None => 0,
+        };
+        let Some(state) = self.moment.nodes.get_mut(node) else {
+            return Ok(());
+        };
+        if now < state.next_request || self.network.wants_seqnos(speaker) != Some(true) {
+            return Ok(());
+        }
+        state.next_request = now.saturating_add(hello);
+        self.make(Event::RequestSeqnos { node: speaker, now })
     }
 
     /// When the speaker is due.
