@@ -102,11 +102,14 @@ impl Simulation<'_> {
         let Some(state) = self.moment.nodes.get_mut(node) else {
             return Ok(());
         };
-        if now < state.next_request || self.network.wants_seqnos(speaker) != Some(true) {
+        if now < state.next_request {
             return Ok(());
         }
         state.next_request = now.saturating_add(hello);
-        self.make(Event::RequestSeqnos { node: speaker, now })
+        match self.network.wants_seqnos(speaker) {
+            Some(true) => self.make(Event::RequestSeqnos { node: speaker, now }),
+            _ => Ok(()),
+        }
     }
 
     /// When the speaker is due.
