@@ -5,8 +5,8 @@
 //! - `fields`: the fields of a reply's line. `columns`: which of them are shown, and `cells` what
 //!   of them.
 //! - `tables`: aligned tables for people, and `objects`: a JSON object a line, for scripts.
-//! - `reasons`: a sentence for each route of a prefix. `replies` shows a whole reply, and `logs` a
-//!   line of the log.
+//! - `reasons`: a sentence for each route of a prefix, and `requests` for each pending request.
+//!   `replies` shows a whole reply, and `logs` a line of the log.
 #![tactic(auto)]
 
 mod cells;
@@ -17,6 +17,7 @@ mod objects;
 mod questions;
 mod reasons;
 mod replies;
+mod requests;
 mod tables;
 
 pub use logs::show_log_line;

@@ -3,6 +3,7 @@
 use crate::cells::Cell;
 use crate::fields::{field, interface_name, is_of, word};
 use crate::objects::{ShortAddress, Value, write_members};
+use crate::requests::{request_of, write_request, write_request_object};
 use babel_text::parse_prefix;
 use std::io::{self, Write};
 
@@ -48,8 +49,9 @@ fn sent_in(line: &str) -> &str {
     }
 }
 
-/// Writes a sentence for each route of the prefix, and for each neighbour without one whose Updates
-/// of it were ignored, unless this router announces it. If there is none of these, writes that.
+/// Writes a sentence for each route of the prefix, for each pending request, and for each neighbour
+/// without a route whose Updates of it were ignored, unless this router announces it. If there is
+/// neither a route nor such a neighbour, writes that.
 pub(crate) fn write_reasons<W: Write>(answer: &str, prefix: &str, out: &mut W) -> io::Result<()> {
     let is_own = is_announced(answer, prefix);
     let mut is_known = false;
@@ -62,6 +64,8 @@ pub(crate) fn write_reasons<W: Write>(answer: &str, prefix: &str, out: &mut W) -
                 is_known = true;
                 write_ignored(&ignored, out)?;
             }
+        } else if let Some(request) = request_of(answer, line) {
+            write_request(&request, out)?;
         }
     }
     if is_known {
@@ -256,8 +260,8 @@ fn reason_texts<'l>(route: &Route<'l>) -> [&'l str; 7] {
     }
 }
 
-/// Writes an object for each route of the prefix, for each neighbour whose Updates of it were
-/// ignored, and if this router announces it.
+/// Writes an object for each route of the prefix, for each pending request, for each neighbour whose
+/// Updates of it were ignored, and if this router announces it.
 pub(crate) fn write_reason_objects<W: Write>(
     answer: &str,
     prefix: &str,
@@ -273,10 +277,14 @@ pub(crate) fn write_reason_objects<W: Write>(
     Ok(())
 }
 
-/// Writes the object of a line: that of a route, or of what was ignored. Other lines have none.
+/// Writes the object of a line: that of a route, of a request, or of what was ignored. Other lines
+/// have none.
 fn write_line_object<W: Write>(answer: &str, line: &str, out: &mut W) -> io::Result<()> {
     if let Some(route) = route_of(answer, line) {
         return write_members(&members_of(&route), out);
+    }
+    if let Some(request) = request_of(answer, line) {
+        return write_request_object(&request, out);
     }
     match ignored_of(answer, line) {
         Some(ignored) => write_ignored_object(&ignored, out),

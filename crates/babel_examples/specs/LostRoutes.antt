@@ -75,6 +75,18 @@ starved es = record meshed {
 abbrev pub with_selected : State
 with_selected = record (starved (unfeasible 1 ∷ [])) { routes = record { entries = unfeasible 1 ∷ []; selections = (ten, route_of 3 5 50 20) ∷ [] } }
 
+-- Neighbour 3's route of router 4, which advertises this metric, is selected.
+abbrev pub gateway : ℕ → Selection
+gateway metric = record {
+  peer = peer 3;
+  entry = record { router = router 4; distance = pair 0 metric; next_hop = addr 3; interval = 1600; deadline = 5620 };
+}
+
+abbrev pub with_gateway : ℕ → State
+with_gateway metric = record (starved []) {
+  routes = record { entries = unfeasible 1 ∷ (key_of ten (peer 3), (gateway metric).entry) ∷ []; selections = (ten, gateway metric) ∷ [] };
+}
+
 -- The request for them that is made at this moment.
 abbrev pub new_request_of_6 : ℕ → PendingRequests
 new_request_of_6 now = (ten_of 1, record { seqno = 6; resend = Unfeasible; wait = 200; due = now + 200 }) ∷ []

@@ -32,8 +32,8 @@ pub enum Event {
     Raise {
         node: usize,
     },
-    /// The node requests a greater seqno wherever a prefix has no route but unfeasible ones (RFC
-    /// 8966, section 3.8.2.2).
+    /// The node requests a greater seqno for each route that it would select if that were feasible
+    /// (RFC 8966, section 3.8.2.2).
     RequestSeqnos {
         node: usize,
         now: u64,

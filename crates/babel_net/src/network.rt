@@ -215,9 +215,9 @@ impl Network {
         self.nodes.raises(node)
     }
 
-    /// Whether the node has a prefix with no route but unfeasible ones, one of which it would take
-    /// if that were feasible (RFC 8966, section 3.8.2.2). If not, the event
-    /// [`Event::RequestSeqnos`] changes nothing there. `None` if there is no such node.
+    /// Whether the node has a route that it would select if that were feasible (RFC 8966, section
+    /// 3.8.2.2). If not, the event [`Event::RequestSeqnos`] changes nothing there. `None` if there
+    /// is no such node.
     pub fn wants_seqnos(&self, node: usize) -> Option<bool>
         ensures { result ≡ option_map (λ (s : State). list_any (is_wanted s) s.routes.entries) (slice_get self.now.speakers node) }
     {

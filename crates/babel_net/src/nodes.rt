@@ -285,8 +285,8 @@ impl Nodes {
         }
     }
 
-    /// Whether the node has a prefix with no route but unfeasible ones, one of which it would take
-    /// if that were feasible; `None` if there is no such node.
+    /// Whether the node has a route that it would select if that were feasible; `None` if there is
+    /// no such node.
     pub fn wants_seqnos(&self, node: usize) -> Option<bool>
         ensures { result ≡ option_map (λ (s : State). list_any (is_wanted s) s.routes.entries) (slice_get self.now.speakers node) }
     {

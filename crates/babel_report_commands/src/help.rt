@@ -316,8 +316,8 @@ Events:
   deliver K N I T   node N receives the recorded datagram K over its interface I
   cost N I C        the nominal cost of interface I of node N becomes C
   raise N           the seqno of node N grows by 1
-  request N T       node N requests greater seqnos for prefixes that have no
-                    route but unfeasible ones
+  request N T       node N requests greater seqnos for routes that it would
+                    select if they were feasible
   announce N P      node N announces the prefix P, which its configuration lists
   withdraw N P      node N announces the prefix P no longer
   restart N T       node N is saved, and restored at the moment T

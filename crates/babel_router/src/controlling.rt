@@ -1,13 +1,15 @@
 //! The control socket of a speaker that runs, and what it shows.
 //!
 //! - `tables`: the speaker's neighbours, prefixes and routes.
-//! - `reasons`: why each route of a prefix is used or not.
+//! - `reasons`: why each route of a prefix is used or not, and `requests` which newer seqnos are
+//!   requested.
 //! - `log`: what becomes of each datagram.
 //! - `ignored`: the Updates that were not stored, whose prefixes `retractions` reads.
 
 mod ignored;
 mod log;
 mod reasons;
+mod requests;
 mod retractions;
 mod tables;
 

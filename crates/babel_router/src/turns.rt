@@ -149,9 +149,9 @@ impl Router<'_, '_> {
         }
     }
 
-    /// Requests a greater seqno wherever a prefix has no route but unfeasible ones, once a Hello
-    /// interval: a longer way that comes up is taken once its source has replied (RFC 8966, section
-    /// 3.8.2.2). The next turn sends it.
+    /// Requests a greater seqno for each route that would be selected if it were feasible, once a
+    /// Hello interval: such a way is taken once its source has replied (RFC 8966, section 3.8.2.2).
+    /// The next turn sends it.
     fn request_seqnos<'r, R: Net + Clock + Files, I: Read + AsRawFd>(
         &mut self,
         wire: &mut KeptWire<'r, LinkWire<'r, R, I>, R>,

@@ -141,7 +141,8 @@ here. The questions are
   routes        each route, its metric, the one that was advertised, and when it
                 is too old
   why PREFIX    a sentence for each route of the prefix: whether it is used, or
-                why not; or why its Updates were ignored
+                why not, and which newer seqno is requested; or why its Updates
+                were ignored
   log           what becomes of each message, as `babel replay` prints it, until
                 the speaker ends
   counts        what was counted since the speaker started

@@ -91,8 +91,8 @@ impl Simulation<'_> {
         Ok(())
     }
 
-    /// Once a Hello interval the node requests greater seqnos, if a prefix has no route but
-    /// unfeasible ones, as `babel run` does.
+    /// Once a Hello interval the node requests greater seqnos, if it has a route that it would
+    /// select if that were feasible, as `babel run` does.
     fn request_seqnos(&mut self, node: usize, speaker: usize) -> Result<(), SimulationFault> {
         let now = self.now;
         let hello = match self.topology.nodes.get(node) {

@@ -1,5 +1,5 @@
 -- Requests for a greater seqno: what is found of a wanted route, and what stays.
-use Rattle.std.proofs.Common.{◌≡◌, ◌&&◌, ◌||◌, ◌+◌, ◌≤◌, not, ℕ, zero, suc, Bool, true, false, [], ◌∷◌, cond, nat_lt, drop, length, Option, Some, None, option_map, slice_get, IsTrue, if◌then◌else◌, refl, sym, ap, ◌∙◌, subst, arith}
+use Rattle.std.proofs.Common.{◌≡◌, ◌&&◌, ◌||◌, ◌+◌, ◌≤◌, not, ℕ, zero, suc, Bool, true, false, [], ◌∷◌, cond, nat_lt, drop, length, Option, Some, None, option_map, slice_get, if◌then◌else◌, refl, sym, ap, ◌∙◌, subst, arith}
 use Rattle.std.specs.List.{list_any}
 use Rattle.std.specs.Cmp.{tied_itself}
 use Rattle.std.specs.Ordering.{is_eq}
@@ -8,7 +8,6 @@ use Rattle.std.proofs.lemmas.Bool.{and_parts}
 use Rattle.std.proofs.lemmas.List.{drop_all}
 use Rattle.std.proofs.lemmas.Option.{none-some, same_Some}
 use Rattle.babel_value.specs.declared.keys.Peer.{Peer}
-use Rattle.babel_value.specs.Metrics.{infinity}
 use Rattle.babel_value.specs.Prefixes.{PrefixValue}
 use Rattle.babel_value.proofs.OrderLaws.{prefix_total}
 use Rattle.babel_table.proofs.PlaceLemmas.{past_end}
@@ -19,10 +18,10 @@ use Rattle.babel_choice.proofs.RunLemmas.{drop_at}
 use Rattle.babel_sources.specs.Sources.{Sources}
 use Rattle.babel_state.specs.KeptRoutes.{KeepsRoutes}
 use Rattle.babel_state.specs.PendingRequests.{has_no_room}
-use Rattle.babel_state.specs.Requesting.{has_no_route, is_wanted, request_for_wanted, request_for_each, seqnos_requested}
-use Rattle.babel_state.specs.Reselection.{is_unfeasible, request_for_lost}
+use Rattle.babel_state.specs.Requesting.{selected_metric, is_wanted, request_for_route, request_for_wanted, request_for_each, seqnos_requested}
+use Rattle.babel_state.specs.Reselection.{is_unfeasible}
 use Rattle.babel_state.specs.Restarts.{snapshot_of}
-use Rattle.babel_state.specs.State.{State, cost_at}
+use Rattle.babel_state.specs.State.{State, announces, cost_at}
 use Rattle.babel_state.specs.StepLaws.{kept_of}
 use Rattle.babel_state.proofs.KeptRoutes.{kept_routes}
 use Rattle.babel_state.proofs.Requesting.{wanted_kept, requests_kept_rest}
@@ -50,9 +49,9 @@ requested_entries now route s t is = kept_entries s t (ap kept_of is ∙ wanted_
 
 wanted_unfeasible : (s : State) (route : Route) → is_wanted s route ≡ true → is_unfeasible s.sources route ≡ true
 wanted_unfeasible s route is =
-    let none : Bool = has_no_route route.0.prefix s in
     let unfeasible : Bool = is_unfeasible s.sources route in
-    (and_parts none unfeasible (and_parts (none && unfeasible) (nat_lt (route_metric (cost_at s) route) infinity) is).0).1
+    let foreign : Bool = not (announces route.0.prefix s) in
+    (and_parts unfeasible foreign (and_parts (unfeasible && foreign) (nat_lt (route_metric (cost_at s) route) (selected_metric route.0.prefix s)) is).0).0
 
 -- An unfeasible route of the table is among those of its prefix.
 any_unfeasible : (sources : Sources) (route : Route) (es : RouteEntries) (k : ℕ) → slice_get es k ≡ Some route → is_unfeasible sources route ≡ true →
@@ -72,26 +71,23 @@ any_unfeasible sources route (e ∷ es) (suc k) at bad = by (is_of route.0.prefi
     by true rest = ap (λ x. is_unfeasible sources e || x) rest ∙ or-true (is_unfeasible sources e)
     by false rest = rest
 
+pub any_wanted : (s : State) (route : Route) (k : ℕ) → slice_get s.routes.entries k ≡ Some route → is_wanted s route ≡ true →
+    list_any (is_unfeasible s.sources) (routes_of route.0.prefix s.routes.entries) ≡ true
+any_wanted s route k at is = any_unfeasible s.sources route s.routes.entries k at (wanted_unfeasible s route is)
+
 -- What is requested of it.
-pub wanted_requested : (now : ℕ) (route : Route) (k : ℕ) (s t : State) (found : Bool) → slice_get s.routes.entries k ≡ Some route → is_wanted s route ≡ true →
-    has_no_room (source_of route) s.requests ≡ false → found ≡ list_any (is_unfeasible s.sources) (routes_of route.0.prefix s.routes.entries) →
-    (IsTrue found → t ≡ request_for_lost now route.0.prefix (record { peer = route.0.peer; entry = route.1 }) s) → t ≡ request_for_wanted now route s
-wanted_requested now route k s t found at wanted room is requested =
-    requested (is ∙ any_unfeasible s.sources route s.routes.entries k at (wanted_unfeasible s route wanted))
+pub wanted_requested : (now : ℕ) (route : Route) (s t : State) → is_wanted s route ≡ true → has_no_room (source_of route) s.requests ≡ false →
+    t ≡ request_for_route now route s → t ≡ request_for_wanted now route s
+wanted_requested now route s t wanted room requested =
+    requested
     ∙ sym (
-    ap (λ b. if b && not (has_no_room (source_of route) s.requests) then asked else s) wanted
-    ∙ ap (λ b. if not b then asked else s) room
+    ap (λ b. if b && not (has_no_room (source_of route) s.requests) then request_for_route now route s else s) wanted
+    ∙ ap (λ b. if not b then request_for_route now route s else s) room
     )
-  where
-    asked : State
-    asked = request_for_lost now route.0.prefix (record { peer = route.0.peer; entry = route.1 }) s
 
 -- Of others nothing is requested.
 pub unwanted : (now : ℕ) (route : Route) (s : State) → is_wanted s route ≡ false → request_for_wanted now route s ≡ s
-unwanted now route s is =
-    ap
-    (λ b. if b && not (has_no_room (source_of route) s.requests) then request_for_lost now route.0.prefix (record { peer = route.0.peer; entry = route.1 }) s else s)
-    is
+unwanted now route s is = ap (λ b. if b && not (has_no_room (source_of route) s.requests) then request_for_route now route s else s) is
 
 -- ---- route after route
 

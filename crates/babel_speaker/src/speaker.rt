@@ -412,13 +412,15 @@ impl Speaker {
         self.snapshot = counted(self.snapshot, true);
     }
 
-    /// Requests a greater seqno for each prefix that has no route but unfeasible ones (RFC 8966,
-    /// section 3.8.2.2): of the source of each, from the neighbours of all. None is requested that
-    /// is pending already. Each is repeated as that of a lost route is, and then made by this call
-    /// again.
+    /// Requests a greater seqno for each route that would be selected if it were feasible (RFC
+    /// 8966, section 3.8.2.2): its prefix has no route, or a worse one. The neighbour of the better
+    /// route is asked, and where none is selected the neighbours of all unfeasible ones. None is
+    /// requested that is pending already. Each is repeated as that of a lost route is, and then
+    /// made by this call again.
     ///
     /// A lost route is requested at once, without this call. What needs it is a way that comes up
-    /// later, or a request that was given up. A caller may make it once a Hello interval.
+    /// later, one that is better than what is left, or a request that was given up. A caller may
+    /// make it once a Hello interval.
     pub fn request_seqnos(&mut self, now: u64)
         ensures state { self.new.state ≡ seqnos_requested now self.old.state }
         ensures moves { MovesAlone 0 (seen self.old.state).announces self.old.state self.new.state }
@@ -433,8 +435,8 @@ impl Speaker {
         self.core.request_seqnos(now);
     }
 
-    /// Whether a prefix has no route but unfeasible ones, one of which would be taken if it were
-    /// feasible. If not, [`request_seqnos`](Speaker::request_seqnos) changes nothing.
+    /// Whether a route would be selected if it were feasible. If not,
+    /// [`request_seqnos`](Speaker::request_seqnos) changes nothing.
     pub fn wants_seqnos(&self) -> bool
         ensures wants { result ≡ list_any (is_wanted self.now.state) self.now.state.routes.entries }
         ensures none { IsFalse result → (now : ℕ) → seqnos_requested now self.now.state ≡ self.now.state }

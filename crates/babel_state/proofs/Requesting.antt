@@ -12,14 +12,15 @@ use Rattle.babel_state.specs.SeenLaws.{RequestingMoves}
 use Rattle.babel_state.specs.StepLaws.{settings_in, kept_of, RequestingKeepsTheRest, RequestingKeepsSettings}
 use Rattle.babel_state.proofs.Keeping.{kept_own}
 use Rattle.babel_state.proofs.Moving.{announced_in, kept_move, moves_alone}
-use Rattle.babel_state.proofs.Reselecting.{if_kept, asks_kept}
+use Rattle.babel_state.proofs.Reselecting.{if_kept, asks_kept, update_kept}
 use Rattle.babel_state.proofs.SeeingLaws.{well_selecting}
-use Rattle.babel_state.proofs.TableLaws.{if_tables, asks_tables}
+use Rattle.babel_state.proofs.TableLaws.{if_tables, asks_tables, for_update_tables}
 
 -- ---- what stays
 
 pub wanted_kept : (now : ℕ) (route : Route) (s : State) → kept_of (request_for_wanted now route s) ≡ kept_of s
-wanted_kept now route s = if_kept _ _ _ _ (asks_kept _ _ _ _ _ _ s) refl
+wanted_kept now route s =
+    if_kept _ _ _ _ (if_kept _ _ _ _ (asks_kept _ _ _ _ _ _ s) (update_kept now route.0.prefix (record { peer = route.0.peer; router = route.1.router }) s)) refl
 
 each_kept : (now : ℕ) (routes : RouteEntries) (s : State) → kept_of (request_for_each now routes s) ≡ kept_of s
 each_kept now [] s = refl
@@ -32,7 +33,9 @@ requests_kept_rest now s = each_kept now s.routes.entries s
 -- ---- the tables
 
 wanted_tables : (now : ℕ) (route : Route) (s : State) → AreTables s → AreTables (request_for_wanted now route s)
-wanted_tables now route s t = if_tables _ _ s (asks_tables _ _ _ _ 64 _ s (omega arith) t) t
+wanted_tables now route s t =
+    if_tables _ _ s
+    (if_tables _ _ _ (asks_tables _ _ _ _ 64 _ s (omega arith) t) (for_update_tables now route.0.prefix (record { peer = route.0.peer; router = route.1.router }) s t)) t
 
 each_tables : (now : ℕ) (routes : RouteEntries) (s : State) → AreTables s → AreTables (request_for_each now routes s)
 each_tables now [] s t = t

@@ -36,7 +36,7 @@ asks_kept now source seqno resend hops peers s = if_kept _ _ _ _ refl (queue_kep
 advertise_kept : (prefix : PrefixValue) (old new : Option Selection) (s : State) → kept_of (advertise_change prefix old new s) ≡ kept_of s
 advertise_kept prefix old new s = if_kept _ _ _ _ refl (queue_kept _ s)
 
-update_kept : (now : ℕ) (prefix : PrefixValue) (update : UnfeasibleUpdate) (s : State) → kept_of (request_for_update now prefix update s) ≡ kept_of s
+pub update_kept : (now : ℕ) (prefix : PrefixValue) (update : UnfeasibleUpdate) (s : State) → kept_of (request_for_update now prefix update s) ≡ kept_of s
 update_kept now prefix update s = option_kept _ (pair_at prefix update.router s) s _ (λ pair. asks_kept _ _ _ _ _ _ s) refl
 
 sender_kept : (now : ℕ) (cause : Option UnfeasibleUpdate) (prefix : PrefixValue) (old : Option Selection) (s : State) → kept_of (request_from_sender now cause prefix old s) ≡ kept_of s

@@ -243,7 +243,7 @@ asks_tables now source seqno resend hops peers s some t =
 advertise_tables : (prefix : PrefixValue) (old new : Option Selection) (s : State) → AreTables s → AreTables (advertise_change prefix old new s)
 advertise_tables prefix old new s t = if_tables _ s _ t (queue_tables (updates_to_all prefix s) s (to_all_hops prefix s) t)
 
-for_update_tables : (now : ℕ) (prefix : PrefixValue) (update : UnfeasibleUpdate) (s : State) → AreTables s → AreTables (request_for_update now prefix update s)
+pub for_update_tables : (now : ℕ) (prefix : PrefixValue) (update : UnfeasibleUpdate) (s : State) → AreTables s → AreTables (request_for_update now prefix update s)
 for_update_tables now prefix update s t =
     option_tables _ (pair_at prefix update.router s) s (λ pair. asks_tables _ _ _ _ 64 _ s (omega arith) t) t
 

@@ -9,7 +9,8 @@ pub enum Resend {
     /// The route was lost: all neighbours are asked again that have a finite and unfeasible route
     /// to the prefix.
     Unfeasible,
-    /// The neighbour sent an unfeasible update of the selected route: it is asked again.
+    /// The neighbour sent an unfeasible update of the selected route, or of a better one: it is
+    /// asked again.
     Neighbour(Peer),
     /// The request was forwarded for another router, which repeats it by itself.
     Never,

@@ -5,8 +5,8 @@
 //! - `Config` and `Interface` are the configuration, `read_config` reads it from TOML;
 //! - `Speaker` is the speaker: datagrams and moments in, datagrams and selected routes out;
 //! - `drive` gives it its turns over a `Wire`, and `drive_durable` keeps its snapshot as well;
-//!   `take_in` takes in a datagram between turns, and `request_seqnos` asks for routes that are
-//!   not to be had without a greater seqno;
+//!   `take_in` takes in a datagram between turns, and `request_seqnos` asks for better routes that
+//!   are not to be had without a greater seqno;
 //! - `UdpWire` is a wire over UDP sockets;
 //! - `Addr`, `Prefix`, `Metric` and the others are the values that the calls take and return.
 //!

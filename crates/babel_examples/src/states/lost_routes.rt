@@ -12,7 +12,7 @@ ghost use Rattle.babel_state.specs.CurrentSelections.{has_revived_route};
 ghost use Rattle.babel_state.specs.Ticks.{requests_ticked, ticked};
 ghost use Rattle.babel_examples.specs.ExampleStates.{peer, ten, ten_of, pair, to_all, to_one, router, update, after, verdict, with_pending, queued_items, datagram};
 ghost use Rattle.babel_examples.specs.FullTables.{full_of_requests};
-ghost use Rattle.babel_examples.specs.LostRoutes.{selected_peer, best_route, route_of, updated_5, with_other, changed, lost, both_lost, tied, other_router, waiting, repeated_once, repeated_twice, repeated_thrice, given_up, unfeasible, starved, with_selected, new_request_of_6, request_of_6, updated_0, with_60000, with_30000, updated_30000};
+ghost use Rattle.babel_examples.specs.LostRoutes.{selected_peer, best_route, route_of, updated_5, with_other, changed, lost, both_lost, tied, other_router, waiting, repeated_once, repeated_twice, repeated_thrice, given_up, unfeasible, starved, with_selected, with_gateway, new_request_of_6, request_of_6, updated_0, with_60000, with_30000, updated_30000};
 
 /// The selected route becomes unfeasible, and another one is there: that one is selected, and the
 /// neighbour is asked for a greater seqno.
@@ -77,8 +77,8 @@ pub fn nobody_to_ask()
     ensures pending { (requests_ticked 220 (after 30 1 (messages.Retraction ten 1600) waiting)).requests ≡ (ten_of 1, record { seqno = 6; resend = Unfeasible; wait = 400; due = 620 }) ∷ [] }
 {}
 
-/// A request that was given up is made again while the prefix has no route but unfeasible ones, and
-/// one that is pending isn't.
+/// A request that was given up is made again while the prefix has no route but unfeasible ones. One
+/// that is pending isn't.
 pub fn requested_again()
     ensures given_up { given_up.routes ≡ (starved (unfeasible 1 ∷ [])).routes }
     ensures queued { queued_items (seqnos_requested 3100 (starved (unfeasible 1 ∷ []))) ≡ request_of_6 ∷ [] }
@@ -94,8 +94,17 @@ pub fn requested_of_a_late_way()
     ensures both { queued_items (seqnos_requested 3100 (starved (unfeasible 1 ∷ unfeasible 3 ∷ []))) ≡ request_of_6 ∷ items.Request (peer 3) (ten_of 1) 6 64 ∷ [] }
 {}
 
-/// None is made of a prefix that has a route or is announced here, of a route over a link that is
-/// down, or without room for it.
+/// The neighbour of a route that is better than the selected one is asked, and that one stays
+/// selected meanwhile. Of a route that is as good nothing is requested.
+pub fn requested_of_a_better_way()
+    ensures queued { queued_items (seqnos_requested 3100 (with_gateway 200)) ≡ request_of_6 ∷ [] }
+    ensures recorded { (seqnos_requested 3100 (with_gateway 200)).requests ≡ (ten_of 1, record { seqno = 6; resend = Neighbour (peer 1); wait = 200; due = 3300 }) ∷ [] }
+    ensures nothing_else { record (with_pending [] (seqnos_requested 3100 (with_gateway 200))) { requests = [] } ≡ with_gateway 200 }
+    ensures as_good { seqnos_requested 3100 (with_gateway 96) ≡ with_gateway 96 }
+{}
+
+/// None is made of a route that is no better than the selected one, of a prefix that is announced
+/// here, of a route over a link that is down, or without room for it.
 pub fn nothing_to_request()
     ensures selected { seqnos_requested 3100 with_selected ≡ with_selected }
     ensures announced { seqnos_requested 3100 (record (starved (unfeasible 1 ∷ [])) { announced = (ten, tt) ∷ [] }) ≡ record (starved (unfeasible 1 ∷ [])) { announced = (ten, tt) ∷ [] } }

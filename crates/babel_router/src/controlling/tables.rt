@@ -2,6 +2,7 @@
 
 use crate::controlling::IgnoredUpdates;
 use crate::controlling::reasons::push_routes;
+use crate::controlling::requests::push_requests;
 use babel_control::{Expiries, Installed, NeighbourRow, RouteRow, Rows, Tables};
 use babel_link::History;
 use babel_speaker::{Neighbour, Speaker};
@@ -46,6 +47,7 @@ impl Tables for SpeakerTables<'_> {
 
     fn push_why(&self, prefix: &Prefix, out: &mut String) -> Result<(), AllocError> {
         push_routes(self.speaker, prefix, out)?;
+        push_requests(self.speaker, prefix, self.now, out)?;
         self.ignored.push_to(prefix, self.now, out)
     }
 }

@@ -10,12 +10,13 @@ use babel_control::{ControlPlace, DeviceView, Wish};
 use babel_snapshot_file::{Kept, LockFile, SnapshotFileFault};
 use babel_speaker::Speaker;
 use babel_state::Config;
+use babel_text::LineFault;
 use babel_wire::{DurableDriver, DurableReport, Wire, drive_durable};
 use mio::Poll;
 use raibenku::{Links, SpeakFault, UdpWire};
 use std::alloc::{AllocError, Global};
 use std::fs::Files;
-use std::io::Write;
+use std::io::{LineWriter, Write};
 use std::net::Net;
 use std::time::Clock;
 
@@ -129,7 +130,12 @@ where
         commands: None,
         routes,
     };
-    match Printer::new(rt.alloc(), printed, out, err) {
+    // Each line goes out whole, as those of `run`.
+    let mut err = match LineWriter::new(rt.alloc(), err) {
+        Ok(err) => err,
+        Err(error) => return Err(SpeakFault::Output(LineFault::of_writing(error))),
+    };
+    match Printer::new(rt.alloc(), printed, out, &mut err) {
         Ok(mut printer) => print_over(rt, options, started, &mut printer),
         Err(error) => Err(SpeakFault::from(error)),
     }

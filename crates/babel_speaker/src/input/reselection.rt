@@ -164,7 +164,12 @@ impl Core {
 
     /// Requests a greater seqno from the sender of an unfeasible update (RFC 8966, section
     /// 3.8.2.2).
-    fn request_for_update(&mut self, now: u64, prefix: &Prefix, update: &UnfeasibleUpdate)
+    pub(crate) fn request_for_update(
+        &mut self,
+        now: u64,
+        prefix: &Prefix,
+        update: &UnfeasibleUpdate,
+    )
         ensures { self.new ≡ request_for_update now prefix.now update.now self.old }
     {
         let source = Source {

@@ -41,7 +41,7 @@ pub fn is_unfeasible(route: &(RouteKey, Entry), sources: &Sources) -> bool
 
 /// The same. The search for the source begins near an index.
 #[inline(always)]
-fn is_unfeasible_near(route: &(RouteKey, Entry), sources: &Sources, near: &mut usize) -> bool
+pub fn is_unfeasible_near(route: &(RouteKey, Entry), sources: &Sources, near: &mut usize) -> bool
     ensures { result ≡ is_unfeasible sources.now route.now }
 {
     let source = Source {

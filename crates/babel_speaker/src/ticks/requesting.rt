@@ -1,48 +1,84 @@
-//! Requests for a greater seqno while a prefix has no route but unfeasible ones (RFC 8966, section
-//! 3.8.2.2).
+//! Requests for a greater seqno while a route would be selected if it were feasible (RFC 8966,
+//! section 3.8.2.2).
 
-ghost use Rattle.std.specs.Prelude.{◌≡◌, Some, slice_get};
+ghost use Rattle.std.specs.Prelude.{◌≡◌, true, Some, slice_get};
 ghost use Rattle.std.specs.List.{list_any};
-ghost use Rattle.babel_state.specs.PendingRequests.{has_no_room};
-ghost use Rattle.babel_state.specs.Requesting.{has_no_route, is_wanted, request_for_wanted, seqnos_requested};
+ghost use Rattle.babel_choice.specs.Choices.{routes_of};
+ghost use Rattle.babel_state.specs.Requesting.{selected_metric, is_wanted, request_for_route, request_for_wanted, seqnos_requested};
+ghost use Rattle.babel_state.specs.Reselection.{is_unfeasible};
 
-use crate::output::queueing::is_unfeasible;
+use crate::input::causes::UnfeasibleUpdate;
+use crate::output::queueing::is_unfeasible_near;
 use crate::state::Core;
 use babel_choice::{Cursor, Entry, RouteKey};
-use babel_value::{Prefix, Source};
+use babel_value::{Metric, Prefix, Source};
 
 impl Core {
-    /// Whether the prefix has no route: it isn't announced here, and none is selected. The search
-    /// begins near the index of a selection.
-    fn has_no_route(&self, prefix: &Prefix, near: &mut usize) -> bool
-        ensures { result ≡ has_no_route prefix.now self.now }
+    /// The metric of the prefix's selection by the link's present cost, or infinity where none is
+    /// selected. The search begins near the index of a selection.
+    fn selected_metric(&self, prefix: &Prefix, near: &mut usize) -> Metric
+        ensures { result ≡ selected_metric prefix.now self.now }
     {
-        self.selected_near(prefix, near).is_none() && !self.announces(prefix)
+        match self.selected_near(prefix, near) {
+            Some(selection) => {
+                let advertised = selection.entry.distance.metric;
+                advertised.add(self.cost(&selection.peer))
+            }
+            None => Metric::INFINITE,
+        }
     }
 
-    /// Whether the route would be taken if it were feasible: its prefix has no other, and its
-    /// metric by the link's present cost is finite.
-    fn is_wanted(&self, route: &(RouteKey, Entry), near: &mut usize) -> bool
+    /// Whether the route would be selected if it were feasible: its prefix isn't announced here,
+    /// and its metric by the link's present cost is less than that of the selection. The searches
+    /// begin at the cursor.
+    fn is_wanted(&self, route: &(RouteKey, Entry), cursor: &mut Cursor) -> bool
         ensures { result ≡ is_wanted self.now route.now }
     {
-        if !self.has_no_route(&route.0.prefix, near) || !is_unfeasible(route, &self.sources) {
+        let prefix = &route.0.prefix;
+        if !is_unfeasible_near(route, &self.sources, &mut cursor.source) || self.announces(prefix) {
             return false;
         }
-        let cost = self.cost(&route.0.peer);
-        route.1.distance.metric.add(cost).is_finite()
+        let metric = route.1.distance.metric.add(self.cost(&route.0.peer));
+        metric.0 < self.selected_metric(prefix, &mut cursor.selection).0
     }
 
     /// Whether a route is wanted.
     pub(crate) fn wants_seqnos(&self) -> bool
         ensures { result ≡ list_any (is_wanted self.now) self.now.routes.entries }
     {
-        let mut near = 0;
+        let mut cursor = Cursor::new();
         for route in self.routes.routes() {
-            if self.is_wanted(&route, &mut near) {
+            if self.is_wanted(&route, &mut cursor) {
                 return true;
             }
         }
         false
+    }
+
+    /// Requests a greater seqno of the source of an unfeasible route: of the neighbours of all
+    /// unfeasible ones where none is selected, and else of its own. The searches begin at the
+    /// cursor.
+    fn request_for_route(&mut self, now: u64, route: &(RouteKey, Entry), cursor: &mut Cursor)
+        requires unfeasible { list_any (is_unfeasible self.old.sources) (routes_of route.now.0.prefix self.old.routes.entries) ≡ true }
+        ensures { self.new ≡ request_for_route now route.now self.old }
+    {
+        let router = route.1.router;
+        if self
+            .selected_near(&route.0.prefix, &mut cursor.selection)
+            .is_some()
+        {
+            let update = UnfeasibleUpdate {
+                peer: route.0.peer,
+                router,
+            };
+            self.request_for_update(now, &route.0.prefix, &update);
+        } else {
+            let source = Source {
+                prefix: route.0.prefix,
+                router,
+            };
+            self.request_for_lost(now, source, route.1.distance.seqno, cursor);
+        }
     }
 
     /// Requests a greater seqno of the source of the route at the place, if that is wanted, unless
@@ -59,11 +95,10 @@ impl Core {
         let mut cursor = Cursor::new();
         cursor.entry = place;
         cursor.selection = place;
-        let near = &mut cursor.selection;
-        if !self.is_wanted(route, near) || self.requests.has_no_room(&source) {
+        if !self.is_wanted(route, &mut cursor) || self.requests.has_no_room(&source) {
             return;
         }
-        self.request_for_lost(now, source, route.1.distance.seqno, &mut cursor);
+        self.request_for_route(now, route, &mut cursor);
     }
 
     /// Requests a greater seqno of the source of each wanted route.

@@ -7,12 +7,12 @@ ghost use Rattle.babel_wire.specs.Intakes.{IsOneRequest};
 use crate::Wire;
 use babel_speaker::Speaker;
 
-/// Requests a greater seqno wherever a prefix has no route but unfeasible ones (RFC 8966, section
-/// 3.8.2.2), at the moment of the wire: [`Speaker::request_seqnos`]. Nothing is sent before the next
-/// turn, so nothing has to be kept.
+/// Requests a greater seqno for each route that would be selected if it were feasible (RFC 8966,
+/// section 3.8.2.2), at the moment of the wire: [`Speaker::request_seqnos`]. Nothing is sent before
+/// the next turn, so nothing has to be kept.
 ///
-/// A caller makes it once a Hello interval, so that a router that lost its only route takes a
-/// longer way when one comes up.
+/// A caller makes it once a Hello interval, so that a router whose best way got lost or worse takes
+/// the best of those that are left.
 pub fn request_seqnos<W: Wire>(speaker: &mut Speaker, wire: &mut W)
     ensures request { IsOneRequest speaker.old.state (W.history wire.old) speaker.new.state (W.history wire.new) }
     ensures counted { CountsChanges speaker.old speaker.new }
