@@ -9,7 +9,7 @@ ghost use Rattle.babel_link.specs.declared.links.Link.{Link};
 ghost use Rattle.babel_value.specs.Hellos.{is_unicast};
 ghost use Rattle.babel_value.specs.Metrics.{infinity};
 ghost use Rattle.babel_value.specs.Orders.{peer_cmp};
-ghost use Rattle.babel_link.specs.Neighbours.{max_neighbours, link_of, hello_of, hello_verdict, ihu_of, tick_of, gone_of, cost_changes_of, rxcost_of, cost_of, has_finite_link, are_ascending, comes_before, peers_of, AreQuietUntil, KeepsOtherCosts, CostsOnlyGrow, AreLost};
+ghost use Rattle.babel_link.specs.Neighbours.{max_neighbours, hello_of, hello_verdict, ihu_of, tick_of, gone_of, cost_changes_of, rxcost_of, cost_of, has_finite_link, are_ascending, comes_before, peers_of, AreQuietUntil, KeepsOtherCosts, CostsOnlyGrow, AreLost};
 ghost use Rattle.babel_link.specs.declared.changes.CostChanges.TheVariants.{Nothing, One, Several};
 ghost use Rattle.babel_link.specs.declared.changes.LinkCost.TheVariants.{Kept, Changed};
 ghost use Rattle.babel_link.specs.Places.{IsPlaceOf, IsGapFor};

@@ -1,6 +1,6 @@
 //! Prefixes in a payload (RFC 8966, sections 4.1.5 and 4.6.9).
 
-ghost use Rattle.std.specs.Prelude.{◌≡◌, ◌≤◌, ◌<◌, ◌+◌, ◌-◌, ◌*◌, ◌/◌, ◌%◌, ◌^◌, ◌++◌, ℕ, length, map, take, drop, slice_index, replicate, IsTrue};
+ghost use Rattle.std.specs.Prelude.{◌≡◌, ◌≤◌, ◌<◌, ◌+◌, ◌-◌, ◌*◌, ◌/◌, ◌%◌, ◌++◌, ℕ, length, map, take, drop, slice_index, replicate, IsTrue};
 ghost use Rattle.std.specs.Int.{from_be_bytes, w64};
 ghost use Rattle.std.specs.List.{range_with_len};
 ghost use Rattle.babel_value.specs.Prefixes.{cleared};

@@ -1,6 +1,6 @@
 //! Route Request and Seqno Request (RFC 8966, sections 4.6.10 and 4.6.11).
 
-ghost use Rattle.std.specs.Prelude.{◌≡◌, ◌≤◌, ◌<◌, ◌+◌, ◌*◌, length, vec_len, vec_capacity};
+ghost use Rattle.std.specs.Prelude.{◌≡◌, ◌≤◌, ◌<◌, ◌+◌, length, vec_len, vec_capacity};
 ghost use Rattle.babel_value.specs.declared.addresses.Addr.TheVariants.{V4, V6};
 ghost use Rattle.babel_packet.specs.Numbers.{octet};
 ghost use Rattle.babel_message.specs.Layout as layout;

@@ -1,6 +1,6 @@
 //! A revision of all entries of a table, in one pass.
 
-ghost use Rattle.std.specs.Prelude.{◌≡◌, ℕ, ◌-◌, ◌^◌, ◌≤◌, ◌<◌, ◌++◌, Option, None, IsTrue, length, take, drop, vec_len, vec_capacity};
+ghost use Rattle.std.specs.Prelude.{◌≡◌, ◌-◌, ◌^◌, ◌≤◌, ◌<◌, ◌++◌, Option, None, IsTrue, length, take, drop, vec_len, vec_capacity};
 ghost use Rattle.babel_table.specs.Dues.{AreDueFrom, IsLastQuiet};
 ghost use Rattle.babel_table.specs.Entries.{revised_entries};
 ghost use Rattle.babel_table.specs.Revisions.{revised_value};

@@ -1,9 +1,9 @@
 //! A table as a sequence in the order of the keys.
 
-ghost use Rattle.std.specs.Prelude.{◌≡◌, ◌+◌, ◌≤◌, ◌<◌, ◌↔◌, true, take, IsTrue, IsErr, IsNone, length, IfOk, IfErr, OnOk, OnErr};
+ghost use Rattle.std.specs.Prelude.{◌≡◌, ◌+◌, ◌≤◌, ◌<◌, ◌↔◌, IsTrue, IsErr, IsNone, length, IfOk, IfErr, OnOk, OnErr};
 ghost use Rattle.std.specs.FinMap.{find, put, is_sorted};
 ghost use Rattle.babel_table.specs.Digits.{binary_digits};
-ghost use Rattle.babel_table.specs.Places.{IsAt, IsGap, are_lesser};
+ghost use Rattle.babel_table.specs.Places.{IsAt, IsGap};
 
 use crate::gap::GapVec;
 use crate::near::order_of;

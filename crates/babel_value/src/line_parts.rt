@@ -2,7 +2,7 @@
 //! `len` octets, and the number of octets with it is returned: so a processor has that number in a
 //! register while a line is put together, and need not read it back from memory after each octet.
 
-ghost use Rattle.std.specs.Prelude.{if◌then◌else◌, ◌≡◌, ◌+◌, ◌*◌, ◌/◌, ◌%◌, ◌<◌, ◌≤◌, [], ◌∷◌, ◌++◌, false, codes, length, nat_lt, slice_index, take};
+ghost use Rattle.std.specs.Prelude.{if◌then◌else◌, ◌≡◌, ◌+◌, ◌*◌, ◌/◌, ◌%◌, ◌<◌, ◌≤◌, [], ◌∷◌, ◌++◌, false, codes, length, nat_lt, take};
 ghost use Rattle.std.specs.Fmt.{decimal, digits, digit_glyph};
 ghost use Rattle.hex.specs.Hex.{encode_lower};
 ghost use Rattle.babel_value.specs.Texts.{addr_text, ipv4_text, ipv6_text, prefix_text, router_text};
