@@ -1,6 +1,6 @@
 //! The fields of TLVs, as they are written (RFC 8966, sections 4.1 and 4.6).
 
-ghost use Rattle.std.specs.Prelude.{◌≡◌, ◌≤◌, take, drop, length};
+ghost use Rattle.std.specs.Prelude.{◌≡◌, ◌≤◌, take, length};
 ghost use Rattle.babel_value.specs.Addresses.{width_of};
 ghost use Rattle.babel_message.specs.Layout.{ipv6_len};
 ghost use Rattle.babel_packet.specs.Prefixes.{octets_of as octets_taken};

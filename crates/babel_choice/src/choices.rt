@@ -9,7 +9,7 @@ ghost use Rattle.babel_value.specs.Metrics.{infinity};
 ghost use Rattle.babel_choice.specs.declared.choices.Candidate.{Candidate};
 ghost use Rattle.babel_choice.specs.PrefixBounds.{is_before};
 ghost use Rattle.babel_choice.specs.Origins.{is_own};
-ghost use Rattle.babel_choice.specs.Choices.{is_of, others_of, rank_at, is_lesser_rank, routes_of, has_entry, choice, peer_before, is_candidate, is_change, is_feasible_route, route_metric, rank_of, rank_cmp, preference, selection_of, selection_metric, overtakes, candidates};
+ghost use Rattle.babel_choice.specs.Choices.{is_of, others_of, rank_at, is_lesser_rank, routes_of, has_entry, choice, peer_before, is_candidate, is_change, is_feasible_route, route_metric, preference, selection_of, selection_metric, overtakes, candidates};
 
 use crate::walks::is_of;
 use crate::{Before, ChoiceInputs, Costs, Cursor, Entry, Origin, RouteKey, Selection};

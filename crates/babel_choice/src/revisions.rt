@@ -1,7 +1,7 @@
 //! Changes of all entries at once: by retractions, by the flush of a neighbour and by time.
 
 ghost use Rattle.std.specs.Prelude.{◌≡◌};
-ghost use Rattle.babel_choice.specs.Routes.{is_from, retracted_entry, retracted_from, kept_without, kept_without_each, is_from_any, expired_entry};
+ghost use Rattle.babel_choice.specs.Routes.{retracted_entry, retracted_from, kept_without, kept_without_each, is_from_any, expired_entry};
 
 use crate::{Entry, RouteKey};
 use babel_table::{Revised, Revision};

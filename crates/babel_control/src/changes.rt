@@ -1,6 +1,6 @@
 //! What changed of a speaker since it was looked at last.
 
-ghost use Rattle.std.specs.Prelude.{ℕ, List, ◌≡◌, ◌++◌, [], length, flat_map, OnOk};
+ghost use Rattle.std.specs.Prelude.{◌≡◌, ◌++◌, [], length, flat_map, OnOk};
 ghost use Rattle.std.specs.String.{string_bytes};
 ghost use Rattle.babel_control.specs.Changes.{dump_lines};
 ghost use Rattle.babel_control.specs.Lines.{interface_line, xroute_line};

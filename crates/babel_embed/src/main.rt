@@ -2,8 +2,6 @@
 //! and without a clock. docs/LIBRARY.md explains it.
 #![tactic(auto)]
 
-ghost use Rattle.std.specs.Prelude.{◌≡◌};
-
 mod memory_wire;
 
 use memory_wire::MemoryWire;

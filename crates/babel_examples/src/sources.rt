@@ -1,7 +1,7 @@
 //! Examples of the source table, on which the check computes the definitions. Each is the contract
 //! of a function that does nothing.
 
-ghost use Rattle.std.specs.Prelude.{◌≡◌, true, false, Some, None, [], ◌∷◌, length};
+ghost use Rattle.std.specs.Prelude.{◌≡◌, true, false, Some, None, [], length};
 ghost use Rattle.babel_sources.specs.Distances.{is_feasible};
 ghost use Rattle.babel_table.specs.Entries.{lesser_keys};
 ghost use Rattle.babel_examples.specs.SourceExamples.{pair, source, one_sent, sent_again, two_sent, wrapped};

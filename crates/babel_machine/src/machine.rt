@@ -2,7 +2,7 @@
 //! everything they ever sent themselves, and pass on what they picked under a greater metric.
 //! After any calls, for no source do the picks form a cycle.
 
-ghost use Rattle.std.specs.Prelude.{◌≡◌, ◌<◌, List, map, All, IfOk, IfErr, OnOk, OnErr};
+ghost use Rattle.std.specs.Prelude.{◌≡◌, ◌<◌, List, All, IfOk, IfErr, OnOk, OnErr};
 ghost use Rattle.babel_machine.specs.Machine.{first_states};
 
 use self::pair::Pair;

@@ -7,7 +7,7 @@ ghost use Rattle.babel_value.specs.Orders.{prefix_cmp};
 ghost use Rattle.babel_route.specs.Rooms.{most_routes};
 ghost use Rattle.babel_choice.specs.RouteKeys.{route_cmp};
 ghost use Rattle.babel_choice.specs.Routes.{is_from, key_of, updated, retracted, retracted_all, has_routes_from, forgotten, all_forgotten, expired};
-ghost use Rattle.babel_choice.specs.Choices.{routes_of, choice};
+ghost use Rattle.babel_choice.specs.Choices.{routes_of};
 ghost use Rattle.babel_choice.specs.Origins.{is_own};
 ghost use Rattle.babel_choice.specs.PrefixBounds.{is_beyond};
 ghost use Rattle.babel_route.specs.Selections.{choice_at, reselected, selection_at, SelectsTheFirst, places_taken, prefix_after};

@@ -1,8 +1,6 @@
 //! A wire with the file in which the speaker's snapshot is kept, and the speaker that begins with
 //! it.
 
-ghost use Rattle.std.specs.Prelude.{◌≡◌};
-
 use crate::RunFault;
 use babel_control::Keeping;
 use babel_snapshot_file::{Kept, LockFile, SnapshotFileFault, SnapshotStore};

@@ -1,7 +1,5 @@
 //! The turns of a speaker on real links, and what becomes of its devices meanwhile.
 
-ghost use Rattle.std.specs.Prelude.{◌≡◌};
-
 use crate::controlling::{Service, counts_of, device_view};
 use crate::counting::Counts;
 use crate::devices::Lists;

@@ -1,6 +1,6 @@
 //! What is random.
 
-ghost use Rattle.std.specs.Prelude.{◌≡◌, ◌<◌, ◌≤◌, ℕ, false, IsTrue};
+ghost use Rattle.std.specs.Prelude.{◌≡◌, ◌<◌, ◌≤◌, false, IsTrue};
 
 use rand_core::utils::NextWord;
 use rand_pcg::Pcg32;

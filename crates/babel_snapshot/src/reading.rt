@@ -3,7 +3,7 @@
 ghost use Rattle.std.specs.Prelude.{◌≡◌, ◌↔◌, ◌+◌, ◌*◌, ◌^◌, ◌≤◌, ◌<◌, length, slice_get, Some, None, IsOk, IsNone, IfOk, IfErr};
 ghost use Rattle.babel_state.specs.Restarts.{IsSnapshot};
 ghost use Rattle.babel_snapshot.specs.Layout as layout;
-ghost use Rattle.babel_snapshot.specs.Reading.{snapshot_in, router_in, seqno_in, raises_in, count_in, record_at, record_fault, records_fault, restore_fault, is_in_order};
+ghost use Rattle.babel_snapshot.specs.Reading.{snapshot_in, count_in, record_at, record_fault, records_fault, restore_fault, is_in_order};
 
 use crate::layout::head::{COUNT, RAISES, ROUTER_ID, SEQNO};
 use crate::layout::{BEGINNING, HEAD_LEN, MAX_RECORDS, RECORD_LEN, ROUTER_ID_LEN};

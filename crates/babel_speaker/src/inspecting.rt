@@ -2,7 +2,7 @@
 
 ghost use Rattle.std.specs.Prelude.{◌≡◌, ◌≤◌, length, slice_get};
 ghost use Rattle.babel_link.specs.Neighbours.{max_neighbours};
-ghost use Rattle.babel_state.specs.Limits.{most_interfaces, most_prefixes, most_requests};
+ghost use Rattle.babel_state.specs.Limits.{most_interfaces, most_requests};
 ghost use Rattle.babel_state.specs.State.{interface_at, prefixes_in};
 ghost use Rattle.babel_speaker.specs.Inspecting.{reported_neighbours};
 

@@ -12,7 +12,7 @@ ghost use Rattle.babel_state.specs.Addresses.{source_fault};
 ghost use Rattle.babel_state.specs.Calls.{set_cost_fault, cost_set};
 ghost use Rattle.babel_state.specs.OutgoingMessages.{outgoing};
 ghost use Rattle.babel_state.specs.SeqnoRequests.{raised};
-ghost use Rattle.babel_examples.specs.ExampleStates.{router, addr, link_local, ipv6_prefix, peer, ten, net, to_all, start, interface, meshed, update, after, verdict, queued_items, datagram};
+ghost use Rattle.babel_examples.specs.ExampleStates.{router, addr, link_local, ipv6_prefix, peer, ten, net, to_all, start, interface, update, after, verdict, queued_items, datagram};
 ghost use Rattle.babel_examples.specs.LostRoutes.{selected_peer, updated_5};
 ghost use Rattle.babel_examples.specs.FullTables.{full_of_neighbours, full_of_routes, full_of_sources, at_greatest};
 ghost use Rattle.babel_examples.specs.CallExamples.{announced_ten, withdrawn_ten, flushed};

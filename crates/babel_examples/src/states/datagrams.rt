@@ -1,6 +1,6 @@
 //! What datagrams do, and the verdicts on their messages.
 
-ghost use Rattle.std.specs.Prelude.{◌≡◌, ℕ, true, false, [], ◌∷◌, Some, None, Ok};
+ghost use Rattle.std.specs.Prelude.{◌≡◌, [], ◌∷◌, Some, None, Ok};
 ghost use Rattle.babel_message.specs.declared.messages.Message.TheVariants as messages;
 ghost use Rattle.babel_packet.specs.Meaning.{meaning};
 ghost use Rattle.babel_state.specs.declared.items.Item.TheVariants as items;

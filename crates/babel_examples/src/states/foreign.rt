@@ -3,9 +3,9 @@
 
 ghost use Rattle.std.specs.Prelude.{◌≡◌, [], ◌∷◌, Some, None};
 ghost use Rattle.babel_state.specs.declared.notes.Verdict.TheVariants as verdicts;
-ghost use Rattle.babel_examples.specs.ExampleStates.{addr, peer, ten, pair, update, verdict, meshed, datagram};
+ghost use Rattle.babel_examples.specs.ExampleStates.{addr, peer, update, verdict, datagram};
 ghost use Rattle.babel_examples.specs.LostRoutes.{selected_peer};
-ghost use Rattle.babel_examples.specs.ForeignNodes.{third, selected_hop, at_40000, at_0, at_20000, over_3, over_2, towards_3, towards_2, honest, misled, passed_on, misled_too, left_alone, origin, forged, forged_back, after_restart, forgetful};
+ghost use Rattle.babel_examples.specs.ForeignNodes.{selected_hop, at_40000, at_0, at_20000, over_3, over_2, towards_3, towards_2, honest, misled, passed_on, misled_too, left_alone, origin, forged, forged_back, after_restart, forgetful};
 
 /// A lie about a metric draws both to the router of others, one over the other. Once it retracts,
 /// neither what was sent before the lie nor what was sent since is feasible where the lie was

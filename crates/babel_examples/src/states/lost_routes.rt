@@ -1,10 +1,9 @@
 //! Routes that become unfeasible (RFC 8966, sections 3.8.2.1 and 3.8.2.2).
 
-ghost use Rattle.std.specs.Prelude.{◌≡◌, true, false, [], ◌∷◌, Some, None};
+ghost use Rattle.std.specs.Prelude.{◌≡◌, true, [], ◌∷◌, Some, None};
 ghost use Rattle.babel_message.specs.declared.messages.Message.TheVariants as messages;
 ghost use Rattle.babel_state.specs.declared.items.Item.TheVariants as items;
 ghost use Rattle.babel_state.specs.declared.notes.Verdict.TheVariants as verdicts;
-ghost use Rattle.babel_state.specs.declared.requests.PendingRequest.{PendingRequest};
 ghost use Rattle.babel_state.specs.declared.requests.Resend.TheVariants.{Unfeasible, Neighbour};
 ghost use Rattle.babel_state.specs.Requesting.{seqnos_requested};
 ghost use Rattle.babel_state.specs.State.{selected_at};
@@ -12,7 +11,7 @@ ghost use Rattle.babel_state.specs.CurrentSelections.{has_revived_route};
 ghost use Rattle.babel_state.specs.Ticks.{requests_ticked, ticked};
 ghost use Rattle.babel_examples.specs.ExampleStates.{peer, ten, ten_of, pair, to_all, to_one, router, update, after, verdict, with_pending, queued_items, datagram};
 ghost use Rattle.babel_examples.specs.FullTables.{full_of_requests};
-ghost use Rattle.babel_examples.specs.LostRoutes.{selected_peer, best_route, route_of, updated_5, with_other, changed, lost, both_lost, tied, other_router, waiting, repeated_once, repeated_twice, repeated_thrice, given_up, unfeasible, starved, with_selected, with_gateway, new_request_of_6, request_of_6, updated_0, with_60000, with_30000, updated_30000};
+ghost use Rattle.babel_examples.specs.LostRoutes.{selected_peer, best_route, route_of, updated_5, with_other, changed, lost, both_lost, tied, other_router, waiting, repeated_once, repeated_twice, repeated_thrice, given_up, unfeasible, starved, with_selected, with_gateway, new_request_of_6, request_of_6, updated_0, with_30000, updated_30000};
 
 /// The selected route becomes unfeasible, and another one is there: that one is selected, and the
 /// neighbour is asked for a greater seqno.

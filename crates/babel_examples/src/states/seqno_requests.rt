@@ -1,6 +1,6 @@
 //! Requests for a seqno (RFC 8966, section 3.8.1.2).
 
-ghost use Rattle.std.specs.Prelude.{◌≡◌, true, [], ◌∷◌};
+ghost use Rattle.std.specs.Prelude.{◌≡◌, [], ◌∷◌};
 ghost use Rattle.babel_state.specs.declared.items.Item.TheVariants as items;
 ghost use Rattle.babel_state.specs.declared.notes.Verdict.TheVariants as verdicts;
 ghost use Rattle.babel_state.specs.declared.requests.Resend.TheVariants.{Never};

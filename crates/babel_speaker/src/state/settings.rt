@@ -1,6 +1,6 @@
 //! The calls that change a speaker without a datagram or a moment, and those that report its state.
 
-ghost use Rattle.std.specs.Prelude.{◌≡◌, ◌↔◌, true, false, Option, Some, slice_get, option_map, IsTrue, IsOk, IsErr, IsNone, IfOk, IfErr, OnOk, OnErr, drop, map};
+ghost use Rattle.std.specs.Prelude.{◌≡◌, ◌↔◌, true, false, Option, Some, slice_get, option_map, IsTrue, IsOk, IsErr, IsNone, IfOk, IfErr, OnOk, OnErr};
 ghost use Rattle.babel_value.specs.Metrics.{metric_sum};
 ghost use Rattle.babel_value.specs.Prefixes.{PrefixValue};
 ghost use Rattle.babel_choice.specs.Choices.{routes_of};

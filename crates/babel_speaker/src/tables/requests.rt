@@ -1,10 +1,10 @@
 //! The table of pending requests for a seqno (RFC 8966, section 3.2.7).
 
-ghost use Rattle.std.specs.Prelude.{◌≡◌, ◌≤◌, ◌↔◌, [], false, length, option_map, slice_get, IfOk, IsErr, IsFalse, IsNone, OnErr, OnOk};
+ghost use Rattle.std.specs.Prelude.{◌≡◌, ◌≤◌, ◌↔◌, [], false, length, slice_get, IfOk, IsErr, IsFalse, IsNone, OnErr, OnOk};
 ghost use Rattle.std.specs.List.{list_any};
 ghost use Rattle.std.specs.FinMap.{find, put};
 ghost use Rattle.babel_value.specs.Orders.{source_cmp};
-ghost use Rattle.babel_table.specs.Entries.{without, revised_entries};
+ghost use Rattle.babel_table.specs.Entries.{without};
 ghost use Rattle.babel_state.specs.Limits.{most_requests};
 ghost use Rattle.babel_state.specs.PendingRequests.{is_redundant, has_no_room, recorded};
 ghost use Rattle.babel_state.specs.Ticks.{is_due_request};

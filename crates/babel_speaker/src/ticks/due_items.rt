@@ -1,7 +1,7 @@
 //! What a tick queues: requests again, and what the timers of interfaces ask for (RFC 8966,
 //! sections 3.4, 3.7.1 and 3.8.2.1).
 
-ghost use Rattle.std.specs.Prelude.{◌≡◌, ◌+◌, drop};
+ghost use Rattle.std.specs.Prelude.{◌≡◌};
 ghost use Rattle.babel_state.specs.Queueing.{queued};
 ghost use Rattle.babel_state.specs.State.{prefixes_in};
 ghost use Rattle.babel_speaker.specs.TickItems.{repeats_of, all_repeats_of, ihus_of, updates_of, timers_of, all_timers_of};

@@ -1,7 +1,7 @@
 //! What time brings (RFC 8966, sections 3.4, 3.5.4, 3.7.1 and 3.8.2.1): the deadlines of each
 //! table.
 
-ghost use Rattle.std.specs.Prelude.{◌≡◌, ◌<◌, [], length, IsTrue, IsFalse};
+ghost use Rattle.std.specs.Prelude.{◌≡◌, ◌<◌, length, IsTrue, IsFalse};
 ghost use Rattle.babel_link.specs.declared.changes.CostChanges.TheVariants.{Nothing};
 ghost use Rattle.babel_state.specs.CurrentSelections.{AreCurrent, AreRoutesInOrder};
 ghost use Rattle.babel_state.specs.SettledLaws.{AreSelectionsInOrder};

@@ -1,6 +1,6 @@
 //! The links of a file.
 
-ghost use Rattle.std.specs.Prelude.{◌≡◌, ◌<◌, ◌≤◌, ℕ, ◌++◌, ◌∷◌, [], None, All, IfOk, OnOk, length, vec_len};
+ghost use Rattle.std.specs.Prelude.{◌≡◌, ◌<◌, ◌≤◌, ◌++◌, ◌∷◌, [], None, All, IfOk, OnOk, length, vec_len};
 ghost use Rattle.babel_topology.specs.Names.{link_between};
 ghost use Rattle.babel_topology.specs.Files.{IsBetween, HasDistinctLinks, HasSameNodes, HasCostAt, HasItsCost, KeepsEach};
 

@@ -1,6 +1,6 @@
 //! The nodes of a file.
 
-ghost use Rattle.std.specs.Prelude.{◌≡◌, ◌≤◌, ◌+◌, ℕ, None, IfOk, OnOk, length, vec_len};
+ghost use Rattle.std.specs.Prelude.{◌≡◌, ◌≤◌, ◌+◌, None, IfOk, OnOk, vec_len};
 ghost use Rattle.std.specs.String.{string_bytes};
 ghost use Rattle.babel_topology.specs.Names.{node_named};
 ghost use Rattle.babel_topology.specs.Files.{HasDistinctNames};

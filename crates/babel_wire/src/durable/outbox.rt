@@ -1,6 +1,6 @@
 //! The datagrams of a turn, which wait until the snapshot is kept.
 
-ghost use Rattle.std.specs.Prelude.{◌≡◌, ◌≤◌, ◌<◌, ◌++◌, [], ◌∷◌, length, map, vec_len, vec_capacity, IfOk};
+ghost use Rattle.std.specs.Prelude.{◌≡◌, ◌≤◌, ◌<◌, ◌++◌, [], ◌∷◌, length, map, vec_capacity, IfOk};
 ghost use Rattle.babel_wire.specs.Turns.{max_sends};
 ghost use Rattle.babel_wire.specs.Taken.{taken_of};
 
