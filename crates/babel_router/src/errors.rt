@@ -1,36 +1,13 @@
 //! Why the command `run` refuses, or ends early.
 
 use babel_config::FileFault;
+use babel_devices::{DeviceFault, LinkWireFault};
 use babel_snapshot_file::{RestoreCode, SnapshotFileFault};
 use babel_state::{ConfigFault, RestoreFault};
 use babel_text::LineFault;
 use std::alloc::AllocError;
 use std::fmt;
 use thiserror::Error;
-
-/// Why a speaker can't use a device.
-#[derive(Clone, Copy, Debug, PartialEq, Eq, Error)]
-pub enum DeviceFault {
-    /// No device of this name has a link-local IPv6 address.
-    #[error("has no link-local IPv6 address: there is no such device, or it is down")]
-    NoAddress,
-    /// The system still finds out whether the address is another machine's (RFC 4862, section 5.4).
-    #[error("has a tentative link-local IPv6 address")]
-    Tentative,
-    /// Nobody on this machine has joined the group of Babel routers on the device.
-    #[error("isn't a member of the group ff02::1:6: start the command by ./babel run")]
-    NotMember,
-    /// A socket can't be made.
-    #[error("can't be bound to UDP port 6696, or the one that --port names")]
-    Socket,
-}
-
-impl DeviceFault {
-    /// Whether it may pass while the speaker runs: the device comes up, or is created.
-    pub(crate) fn may_pass(self) -> bool {
-        matches!(self, DeviceFault::NoAddress | DeviceFault::Tentative)
-    }
-}
 
 /// Why the command `run` refuses, or ends early.
 #[derive(Clone, Copy, Debug, Error)]
@@ -76,6 +53,15 @@ pub enum WordsFault<'a> {
 impl From<AllocError> for RunFault {
     fn from(error: AllocError) -> RunFault {
         RunFault::Output(LineFault::from(error))
+    }
+}
+
+impl From<LinkWireFault> for RunFault {
+    fn from(fault: LinkWireFault) -> RunFault {
+        match fault {
+            LinkWireFault::System => RunFault::System,
+            LinkWireFault::Memory(error) => RunFault::from(error),
+        }
     }
 }
 

@@ -8,35 +8,27 @@
 //! - `keeping`: a wire with the file in which the snapshot is kept.
 //! - `controlling`: the control socket.
 //!
-//! The rest is the command `run`:
+//! The rest is the command `run`, over the devices and the wire of `babel_devices`:
 //!
 //! - `words`: what the command line and the file of `--config` ask for. `running`: the run.
-//! - `settings`: the configuration that the speaker gets of the devices.
-//! - `devices`: what the system reports of a device. `tracking`: how the devices change.
-//! - `sockets`: what a device has. `links`: the wire over all of them.
 //! - `pacing`: when it sends. `turns`: the turns of the speaker with the changes of devices.
 #![tactic(auto)]
 
 mod controlling;
 mod counting;
-mod devices;
 mod errors;
 mod keeping;
-mod links;
 mod pacing;
 mod printing;
 mod running;
 mod selections;
-mod settings;
-mod sockets;
 mod speaking;
-mod tracking;
 mod turns;
 mod words;
 
+pub use babel_devices::{DeviceFault, DeviceSettings, Settings};
 pub use controlling::{IgnoredUpdates, LiveLog, SpeakerTables};
-pub use errors::{DeviceFault, RunCode, RunFault, WordsFault};
+pub use errors::{RunCode, RunFault, WordsFault};
 pub use running::{Printed, RunOptions, run};
-pub use settings::{DeviceSettings, Settings};
 pub use speaking::{KeptOptions, SpeakOptions, speak, speak_kept};
 pub use words::{RunWords, run_words};

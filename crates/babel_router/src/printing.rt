@@ -1,10 +1,10 @@
 //! What a speaker that runs prints: changes of selected routes, commands for `ip`, keeps that fail,
 //! and what was counted.
 
-use crate::DeviceFault;
 use crate::controlling::Control;
 use crate::counting::{Counts, LastKeep};
 use crate::selections::{RouteLines, Selections};
+use babel_devices::DeviceFault;
 use babel_speaker::Speaker;
 use babel_state::{Note as TlvNote, RecvFault, Target};
 use babel_text::LineFault;

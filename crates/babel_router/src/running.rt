@@ -1,18 +1,17 @@
 //! `babel run DEVICE..`: a speaker on real links.
 
+use crate::RunFault;
 use crate::controlling::{Control, remove_socket};
 use crate::counting::Counts;
-use crate::devices::Lists;
 use crate::keeping::{KeptWire, open_kept};
-use crate::links::{FIRST_OTHER, LinkWire};
 use crate::pacing::Pace;
 use crate::printing::{PrintedRoutes, Printer};
 use crate::selections::{RouteForm, RouteLines};
-use crate::settings::{DeviceSettings, Settings, config_of};
-use crate::tracking::Tracked;
 use crate::turns::Router;
-use crate::{DeviceFault, RunFault};
 use babel_control::ControlPlace;
+use babel_devices::{
+    DeviceFault, DeviceSettings, FIRST_OTHER, LinkWire, Lists, Settings, Tracked, config_of,
+};
 use babel_snapshot_file::{Kept, LockFile, SnapshotStore};
 use babel_speaker::Speaker;
 use babel_state::Config;

@@ -1,16 +1,15 @@
 //! The turns of a speaker on real links, and what becomes of its devices meanwhile.
 
+use crate::RunFault;
 use crate::controlling::{Service, counts_of, device_view};
 use crate::counting::Counts;
-use crate::devices::Lists;
 use crate::keeping::KeptWire;
-use crate::links::LinkWire;
 use crate::pacing::{self, Pace, Place};
 use crate::printing::{Note, Printer};
-use crate::settings::{DeviceSettings, Settings, config_of};
-use crate::tracking::{Step, Tracked, hear};
-use crate::{DeviceFault, RunFault};
 use babel_control::{DeviceView, Wish};
+use babel_devices::{
+    DeviceFault, DeviceSettings, LinkWire, Lists, Settings, Step, Tracked, config_of, hear,
+};
 use babel_snapshot_file::{LockFile, SnapshotFileFault};
 use babel_speaker::Speaker;
 use babel_state::MAX_HELLO_INTERVAL;

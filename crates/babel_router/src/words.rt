@@ -1,11 +1,10 @@
 //! What the command line and the file of `--config` ask for.
 
 use crate::running::{Printed, RunOptions, run};
-use crate::settings::{DeviceSettings, Settings};
-use crate::tracking::{Ipv4Network, network_of};
 use crate::{RunFault, WordsFault};
 use babel_config::{FileFault, read_file};
 use babel_control::parse_place;
+use babel_devices::{DeviceSettings, Ipv4Network, Settings, network_of};
 use babel_router_file::{RouterFile, read_router_file};
 use babel_snapshot_file::{Kept, LockFile};
 use babel_text::{parse_prefix, parse_router_id};

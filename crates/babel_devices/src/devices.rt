@@ -26,23 +26,27 @@ const MAX_LIST_LEN: u64 = 1 << 20;
 
 /// A device as it is now.
 #[derive(Clone, Copy, PartialEq, Eq)]
-pub(crate) struct Device {
+pub struct Device {
     /// Its number, which is the scope of its link-local addresses.
-    pub(crate) scope: u32,
+    pub scope: u32,
     /// Its first link-local address.
-    pub(crate) address: [u8; 16],
+    pub address: [u8; 16],
 }
 
 /// The lists of addresses and groups, as they were read together.
 #[derive(Drop)]
-pub(crate) struct Lists {
+pub struct Lists {
     addresses: String,
     groups: String,
 }
 
 impl Lists {
     /// Reads both lists.
-    pub(crate) fn read<F: Files>(alloc: Global, files: &F) -> io::Result<Lists> {
+    ///
+    /// # Errors
+    ///
+    /// One of them can't be read, or isn't a text.
+    pub fn read<F: Files>(alloc: Global, files: &F) -> io::Result<Lists> {
         Ok(Lists {
             addresses: read_list(alloc, files, ADDRESSES)?,
             groups: read_list(alloc, files, GROUPS)?,
@@ -56,7 +60,7 @@ impl Lists {
     ///
     /// The device has no link-local address, it isn't sure yet that the address is free, or nobody
     /// has joined the group on it.
-    pub(crate) fn device(
+    pub fn device(
         &self,
         name: &str,
         preferred: Option<[u8; 16]>,

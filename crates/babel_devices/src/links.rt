@@ -2,7 +2,7 @@
 
 ghost use Rattle.std.specs.Prelude.{◌≡◌, ◌≤◌, length, IfOk, IfSome};
 
-use crate::RunFault;
+use crate::LinkWireFault;
 use crate::devices::Device;
 use crate::sockets::{Sockets, group_address, watch};
 use babel_state::Target;
@@ -27,7 +27,7 @@ const MAX_EVENTS: usize = 64;
 const INPUT: usize = usize::MAX;
 
 /// The least token of sources that the wire only waits for, see [`LinkWire::take_ready`].
-pub(crate) const FIRST_OTHER: usize = 1 << 16;
+pub const FIRST_OTHER: usize = 1 << 16;
 
 /// After how long the devices are looked at again, in centiseconds, if all can be used.
 const LOOK_AGAIN: u64 = 1000;
@@ -40,13 +40,13 @@ const MAX_HEARD: usize = 4096;
 
 /// The sockets of a speaker, its clock, which begins at 0, and the input whose end stops it.
 #[derive(Drop)]
-pub(crate) struct LinkWire<'a, R: Clock, I: Read + AsRawFd> {
+pub struct LinkWire<'a, R: Clock, I: Read + AsRawFd> {
     /// The system, with its clock and its sockets.
-    pub(crate) system: &'a R,
+    pub system: &'a R,
     input: &'a mut I,
     start: Instant,
     /// The moment that was returned last.
-    pub(crate) moment: u64,
+    pub moment: u64,
     port: u16,
     /// The sockets of each device, unless it can't be used now.
     links: Vec<Option<Sockets>>,
@@ -59,7 +59,7 @@ pub(crate) struct LinkWire<'a, R: Clock, I: Read + AsRawFd> {
     /// How long `recv` waits.
     wait: Duration,
     /// Whether the input has ended.
-    pub(crate) has_ended: bool,
+    pub has_ended: bool,
     /// What came over the input.
     heard: Vec<u8>,
     /// Whether a socket failed since the devices were looked at.
@@ -68,7 +68,7 @@ pub(crate) struct LinkWire<'a, R: Clock, I: Read + AsRawFd> {
     next_look: u64,
     /// A bit for each of the other sources that was ready.
     others: u64,
-    pub(crate) faults: u64,
+    pub faults: u64,
 }
 
 impl<'a, R: AllocGlobal + Clock + Net, I: Read + AsRawFd> LinkWire<'a, R, I> {
@@ -76,21 +76,21 @@ impl<'a, R: AllocGlobal + Clock + Net, I: Read + AsRawFd> LinkWire<'a, R, I> {
     ///
     /// # Errors
     ///
-    /// W6, L8.
-    pub(crate) fn new(
+    /// The clock can't be read, nothing can be waited for, or an allocation failed.
+    pub fn new(
         rt: &'a R,
         input: &'a mut I,
         port: u16,
         count: usize,
-    ) -> Result<LinkWire<'a, R, I>, RunFault>
+    ) -> Result<LinkWire<'a, R, I>, LinkWireFault>
         ensures { IfOk result (λ wire. wire.faults ≡ 0) }
     {
         let alloc = rt.alloc();
         let Ok(start) = Instant::now(rt) else {
-            return Err(RunFault::System);
+            return Err(LinkWireFault::System);
         };
         let Ok(poll) = Poll::new(rt) else {
-            return Err(RunFault::System);
+            return Err(LinkWireFault::System);
         };
         let links = no_links(alloc, count)?;
         let events = Events::with_capacity(alloc, MAX_EVENTS)?;
@@ -134,7 +134,11 @@ fn centiseconds(time: Duration) -> u64 {
 
 impl<R: Clock + Net, I: Read + AsRawFd> LinkWire<'_, R, I> {
     /// Opens the sockets of a device, in place of those that it had.
-    pub(crate) fn open_link(&mut self, number: usize, device: Device) -> io::Result<()>
+    ///
+    /// # Errors
+    ///
+    /// A socket can't be bound to the port, or can't be waited for. The device has none then.
+    pub fn open_link(&mut self, number: usize, device: Device) -> io::Result<()>
         ensures { self.new.faults ≡ self.old.faults }
     {
         self.close_link(number);
@@ -149,7 +153,7 @@ impl<R: Clock + Net, I: Read + AsRawFd> LinkWire<'_, R, I> {
 
 impl<R: Clock, I: Read + AsRawFd> LinkWire<'_, R, I> {
     /// Closes the sockets of a device.
-    pub(crate) fn close_link(&mut self, number: usize)
+    pub fn close_link(&mut self, number: usize)
         ensures { self.new.faults ≡ self.old.faults }
     {
         if let Some(link) = self.links.get_mut(number) {
@@ -159,13 +163,13 @@ impl<R: Clock, I: Read + AsRawFd> LinkWire<'_, R, I> {
 
     /// Where other sources are registered, with tokens from `FIRST_OTHER` on. A turn ends its wait
     /// if one is ready.
-    pub(crate) fn registry(&self) -> &Registry {
+    pub fn registry(&self) -> &Registry {
         self.poll.registry()
     }
 
     /// The other sources that were ready since this was asked last: bit `n` is that of the token
     /// `FIRST_OTHER + n`.
-    pub(crate) fn take_ready(&mut self) -> u64
+    pub fn take_ready(&mut self) -> u64
         ensures { self.new.faults ≡ self.old.faults }
     {
         let others = self.others;
@@ -175,17 +179,17 @@ impl<R: Clock, I: Read + AsRawFd> LinkWire<'_, R, I> {
 
     /// Whether the devices have to be looked at: the input reports one, a socket failed, or it is
     /// time.
-    pub(crate) fn has_to_look(&self) -> bool {
+    pub fn has_to_look(&self) -> bool {
         self.is_disturbed || !self.heard.is_empty() || self.moment >= self.next_look
     }
 
     /// What came over the input.
-    pub(crate) fn heard(&self) -> &[u8] {
+    pub fn heard(&self) -> &[u8] {
         &self.heard
     }
 
     /// The devices were looked at, and the whole lines of the input were taken.
-    pub(crate) fn note_look(&mut self)
+    pub fn note_look(&mut self)
         ensures { self.new.faults ≡ self.old.faults }
     {
         self.is_disturbed = false;
@@ -211,7 +215,7 @@ impl<R: Clock, I: Read + AsRawFd> LinkWire<'_, R, I> {
     }
 
     /// The next turn waits for a datagram until this moment, or until the devices are looked at.
-    pub(crate) fn wait_until(&mut self, moment: u64)
+    pub fn wait_until(&mut self, moment: u64)
         ensures { self.new.faults ≡ self.old.faults }
     {
         let due = Duration::from_millis(moment.min(self.next_look).saturating_mul(10));
@@ -224,7 +228,7 @@ impl<R: Clock, I: Read + AsRawFd> LinkWire<'_, R, I> {
     }
 
     /// Waits until this moment, whatever comes meanwhile. The next `recv` doesn't wait.
-    pub(crate) fn pause_until(&mut self, moment: u64)
+    pub fn pause_until(&mut self, moment: u64)
         ensures { self.new.faults ≡ self.old.faults }
     {
         if moment > self.moment {

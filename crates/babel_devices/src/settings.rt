@@ -34,7 +34,7 @@ pub struct Settings<'a> {
 
 impl Settings<'_> {
     /// The router-id of a speaker on these devices.
-    pub(crate) fn router_id_on(&self, devices: &[Tracked<'_>]) -> [u8; 8] {
+    pub fn router_id_on(&self, devices: &[Tracked<'_>]) -> [u8; 8] {
         match (self.router_id, devices.first()) {
             (Some(router_id), _) => router_id,
             (None, Some(device)) => interface_id(device.address),
@@ -51,7 +51,11 @@ fn interface_id(address: [u8; 16]) -> [u8; 8] {
 
 /// The speaker's configuration. Each device sends over IPv6 to all routers of its link, so it has
 /// no peers.
-pub(crate) fn config_of(
+///
+/// # Errors
+///
+/// An allocation fails.
+pub fn config_of(
     alloc: Global,
     settings: Settings<'_>,
     devices: &[Tracked<'_>],

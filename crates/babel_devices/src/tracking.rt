@@ -7,7 +7,7 @@ use babel_text::parse_network;
 use babel_value::Addr;
 
 /// An IPv4 address, and the length of its network's prefix.
-pub(crate) type Ipv4Network = ([u8; 4], u8);
+pub type Ipv4Network = ([u8; 4], u8);
 
 /// The address that the speaker's configuration has for a device that has none yet, fe80::. No
 /// device has it: it stands for any router of the link (RFC 4291, section 2.6.1).
@@ -15,11 +15,11 @@ const NO_ADDRESS: [u8; 16] = [0xfe, 0x80, 0, 0, 0, 0, 0, 0, 0, 0, 0, 0, 0, 0, 0,
 
 /// A device of the run.
 #[derive(Clone, Copy)]
-pub(crate) struct Tracked<'a> {
+pub struct Tracked<'a> {
     /// Its name, and what the speaker's configuration has for it.
-    pub(crate) settings: DeviceSettings<'a>,
+    pub settings: DeviceSettings<'a>,
     /// The link-local address that the speaker's configuration has.
-    pub(crate) address: [u8; 16],
+    pub address: [u8; 16],
     /// As it was seen last.
     state: Result<Device, DeviceFault>,
     /// Whether the launcher reported that it went down.
@@ -34,7 +34,7 @@ pub(crate) struct Tracked<'a> {
 
 /// What has to be done for a device that was looked at.
 #[derive(Clone, Copy)]
-pub(crate) enum Step {
+pub enum Step {
     /// Nothing: it is as it was.
     Nothing,
     /// It can't be used any more.
@@ -54,7 +54,7 @@ enum Change {
 
 impl<'a> Tracked<'a> {
     /// A device as it is at the start. One that can't be used yet has no address of its own.
-    pub(crate) fn of(
+    pub fn of(
         settings: DeviceSettings<'a>,
         state: Result<Device, DeviceFault>,
     ) -> Tracked<'a> {
@@ -74,29 +74,29 @@ impl<'a> Tracked<'a> {
     }
 
     /// Whether the launcher reported anything of it since this was asked last.
-    pub(crate) fn take_report(&mut self) -> bool {
+    pub fn take_report(&mut self) -> bool {
         let has_report = self.has_report;
         self.has_report = false;
         has_report
     }
 
     /// The device, if it could be used when it was seen last.
-    pub(crate) fn device(&self) -> Option<Device> {
+    pub fn device(&self) -> Option<Device> {
         self.state.ok()
     }
 
     /// Why it couldn't be used when it was seen last.
-    pub(crate) fn fault(&self) -> Option<DeviceFault> {
+    pub fn fault(&self) -> Option<DeviceFault> {
         self.state.err()
     }
 
     /// Whether it could not be used at the start, nor since.
-    pub(crate) fn is_new(&self) -> bool {
+    pub fn is_new(&self) -> bool {
         self.address == NO_ADDRESS
     }
 
     /// Looks at the device again.
-    pub(crate) fn look(&mut self, lists: &Lists) -> Step {
+    pub fn look(&mut self, lists: &Lists) -> Step {
         let seen = lists.device(self.settings.name, Some(self.address));
         let step = match seen {
             Err(fault) if self.state == Err(fault) => Step::Nothing,
@@ -111,7 +111,7 @@ impl<'a> Tracked<'a> {
 
     /// Its sockets could not be opened; that is tried at the next look. Returns whether it is the
     /// first time.
-    pub(crate) fn fail(&mut self) -> bool {
+    pub fn fail(&mut self) -> bool {
         let is_first = !self.has_failed;
         self.state = Err(DeviceFault::Socket);
         self.has_failed = true;
@@ -119,13 +119,13 @@ impl<'a> Tracked<'a> {
     }
 
     /// Its sockets are open.
-    pub(crate) fn note_opened(&mut self) {
+    pub fn note_opened(&mut self) {
         self.has_failed = false;
     }
 
     /// Takes the addresses that it has now for the speaker's configuration. Returns whether one is
     /// another. Those of a device that can't be used stay as they are.
-    pub(crate) fn take_addresses(&mut self) -> bool {
+    pub fn take_addresses(&mut self) -> bool {
         let Ok(device) = self.state else {
             return false;
         };
@@ -151,7 +151,7 @@ impl<'a> Tracked<'a> {
 
 /// Takes what the launcher reports: lines `NAME down`, `NAME up` and `NAME up ADDRESS/LENGTH`.
 /// Other lines are passed over.
-pub(crate) fn hear(devices: &mut [Tracked<'_>], heard: &[u8]) {
+pub fn hear(devices: &mut [Tracked<'_>], heard: &[u8]) {
     let Ok(text) = str::from_utf8(heard) else {
         return;
     };
@@ -181,7 +181,7 @@ fn report_of(line: &str) -> Option<(&str, Change)> {
 }
 
 /// The IPv4 address that a word spells, with the length of its network's prefix.
-pub(crate) fn network_of(word: Option<&str>) -> Option<Ipv4Network> {
+pub fn network_of(word: Option<&str>) -> Option<Ipv4Network> {
     match parse_network(word?)? {
         (Addr::V4(octets), length) => Some((octets, length)),
         _ => None,
