@@ -1,5 +1,5 @@
 pub mod Transports
 pub mod Events
 pub mod NodeTurns
-pub mod Crashes
 pub mod IntakeEvents
+pub mod Crashes

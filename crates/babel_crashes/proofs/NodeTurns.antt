@@ -1,21 +1,17 @@
--- Turns and restarts at a node, as events.
+-- Turns at a node, as events.
 use Rattle.std.proofs.Common.{◌≡◌, ◌⊎◌, ℕ, Bool, true, false, List, [], ◌∷◌, Contains, length, refl, sym, subst, inl, inr}
-use Rattle.std.proofs.lemmas.List.Elements.{Contains-append_cases}
 use Rattle.std.proofs.lemmas.Option.{slice_get_read}
-use Rattle.babel_wire.proofs.Members.{not_in_none, in_more, first_in, later_in}
+use Rattle.babel_wire.proofs.Members.{not_in_none, in_more}
 use Rattle.babel_value.specs.declared.addresses.Addr.{Addr}
 use Rattle.babel_state.specs.declared.configs.Config.{Config}
-use Rattle.babel_state.specs.Restarts.{restarted}
 use Rattle.babel_state.specs.State.{State}
 use Rattle.babel_state.specs.Ticks.{ticked}
 use Rattle.babel_wire.specs.Calls.{Receipt, Nothing, Failed, Datagram, Sending}
 use Rattle.babel_speaker.specs.Sending.{draft_at}
 use Rattle.babel_wire.specs.Turns.{Turn, IsTurn, Receives, AreSent, Ends, SendsPending}
-use Rattle.babel_wire.specs.Lives.{Drive, Restart, taken, turns_in}
 use Rattle.babel_net.specs.Networks.{NetworkState, SentOctets, with_speaker_state}
-use Rattle.babel_crashes.specs.NodeSteps.{IsFrom, AreFrom, IsAt, IsRecorded, LeadsTo, AreEvents}
-use Rattle.babel_crashes.specs.CrashLaws.{TurnsAreEvents}
-use Rattle.babel_crashes.proofs.Events.{Settings, leads_on, leads_nowhere, tick_leads, restart_leads, Emitted, emit_leads, silent_leads, deliver_leads}
+use Rattle.babel_crashes.specs.NodeSteps.{IsFrom, AreReceiptsFrom, IsAt, IsRecorded, LeadsTo}
+use Rattle.babel_crashes.proofs.Events.{Settings, leads_on, leads_nowhere, tick_leads, Emitted, emit_leads, silent_leads, deliver_leads}
 
 -- A network to which events lead.
 pub record Comes (node : ℕ) (config : Config) (s : State) (n : NetworkState) : Type 0 where
@@ -110,40 +106,12 @@ turn_made laws n node config t old new is from turn =
       records = sent.records;
     }
 
--- ---- steps
+-- ---- what came earlier
 
-pub still_from : (old new : List SentOctets) (receipt : Receipt) → ((d : SentOctets) → Contains old d → Contains new d) → IsFrom old receipt → IsFrom new receipt
+still_from : (old new : List SentOctets) (receipt : Receipt) → ((d : SentOctets) → Contains old d → Contains new d) → IsFrom old receipt → IsFrom new receipt
 still_from old new (Datagram iface source octets) keeps (d, there, same_source, same_octets) = (d, keeps d there, same_source, same_octets)
 still_from old new Nothing keeps from = tt
 still_from old new Failed keeps from = tt
 
-all_still_from : (old new : List SentOctets) (ts : List Turn) → ((d : SentOctets) → Contains old d → Contains new d) → AreFrom old ts → AreFrom new ts
-all_still_from old new ts keeps from t h = still_from old new t.receipt keeps (from t h)
-
-pub steps_made : Settings → TurnsAreEvents
-steps_made laws n node config old new [] is same from =
-    subst (λ (s : State). AreEvents node config [] s n) (sym same)
-    (record { new = n; leads = leads_nowhere n node config old is; records = λ x h. absurd (not_in_none x h) })
-steps_made laws n node config old new (Restart now ∷ steps) is leads from =
-    let restarts = restart_leads n node now config old is in
-    let mid : NetworkState = with_speaker_state n node (restarted now config old) in
-    let later : AreEvents node config steps new mid = steps_made laws mid node config (restarted now config old) new steps restarts.is_at leads from in
-    record {
-      new = later.new;
-      leads = leads_on node config (restarted now config old) new n mid later.new restarts later.leads;
-      records = later.records;
-    }
-steps_made laws n node config old new (Drive t ∷ steps) is (mid, turn, rest) from =
-    let first : AllSent node config t.sendings mid n = turn_made laws n node config t old mid is (from t (first_in t (turns_in steps))) turn in
-    let later : AreEvents node config steps new first.new =
-    steps_made laws first.new node config mid new steps first.leads.is_at rest (all_still_from n.sent first.new.sent (turns_in steps) first.leads.keeps (λ u h. from u (later_in t (turns_in steps) u h))) in
-    record {
-      new = later.new;
-      leads = leads_on node config mid new n first.new later.new first.leads later.leads;
-      records = λ x h. by first later (Contains-append_cases t.sendings (taken steps) x h);
-    }
-  where
-    by : {x : Sending} (first : AllSent node config t.sendings mid n) (later : AreEvents node config steps new first.new) → Contains t.sendings x ⊎ Contains (taken steps) x →
-        IsRecorded node config later.new.sent x
-    by {x} first later (inl here) = still_recorded node config new first.new later.new x later.leads (first.records x here)
-    by {x} first later (inr there) = later.records x there
+pub still_receipts : (old new : List SentOctets) (rs : List Receipt) → ((d : SentOctets) → Contains old d → Contains new d) → AreReceiptsFrom old rs → AreReceiptsFrom new rs
+still_receipts old new rs keeps from r h = still_from old new r keeps (from r h)

@@ -4,24 +4,15 @@ use Rattle.babel_state.specs.declared.configs.Config.{Config}
 use Rattle.babel_state.specs.Restarts.{Snapshot, snapshot_of, restored}
 use Rattle.babel_state.specs.State.{State}
 use Rattle.babel_snapshot.specs.Reading.{snapshot_in}
-use Rattle.babel_wire.specs.Calls.{Receipt, Sending, Call}
+use Rattle.babel_wire.specs.Calls.{Call}
 use Rattle.babel_wire.specs.Cuts.{File, IsCutOf, IsOnDisk, on_disk, sent_in}
-use Rattle.babel_wire.specs.Intakes.{DurableStep, AreSteps, AreDurableSteps, calls_of_steps, receipts_in, taken_by}
+use Rattle.babel_wire.specs.Intakes.{DurableStep, AreSteps, AreDurableSteps, calls_of_steps, receipts_in}
 use Rattle.babel_net.specs.Invariants.{IsNetwork}
-use Rattle.babel_net.specs.Networks.{NetworkState, SentOctets}
-use Rattle.babel_crashes.specs.NodeSteps.{IsAt, IsFrom, IsRecorded, LeadsTo, IsRestart}
+use Rattle.babel_net.specs.Networks.{NetworkState}
+use Rattle.babel_crashes.specs.NodeSteps.{IsAt, AreReceiptsFrom, AreStepEvents, IsRestart}
 
--- What came over the wire was sent by nodes of the network.
-abbrev pub AreReceiptsFrom : List SentOctets → List Receipt → Type 0
-AreReceiptsFrom sent receipts = (r : Receipt) → Contains receipts r → IsFrom sent r
-
--- The steps are events, and the network records every datagram that is taken in them.
-pub record AreStepEvents (node : ℕ) (config : Config) (steps : List DurableStep) (s : State) (old : NetworkState) : Type 0 where
-  pub new : NetworkState
-  pub leads : LeadsTo node config s old new
-  pub records : (x : Sending) → Contains (taken_by steps) x → IsRecorded node config new.sent x
-
--- Turns, intakes and requests of a speaker at a node are events of the network.
+-- Turns, intakes and requests of a speaker at a node are events of the network: each datagram that it takes is sent, and each that came is delivered.
+-- What came was sent by nodes of the network. Other nodes may have made any events since.
 abbrev pub StepsAreEvents : Type 0
 StepsAreEvents =
     (n : NetworkState) (node : ℕ) (config : Config) (old new : State) (steps : List DurableStep) →

@@ -1,3 +1,3 @@
 pub mod NodeSteps
-pub mod CrashLaws
 pub mod IntakeLaws
+pub mod CrashLaws

@@ -1,4 +1,4 @@
--- The turns and restarts of a speaker at a node of a network (profile).
+-- The steps and restarts of a speaker at a node of a network (profile).
 use Rattle.std.specs.Prelude.{◌≡◌, List, Contains, ℕ, Some, None, slice_get, slice_set}
 use Rattle.babel_state.specs.declared.configs.Config.{Config}
 use Rattle.babel_state.specs.Addresses.{transport_at}
@@ -6,7 +6,8 @@ use Rattle.babel_state.specs.Calls.{first_state}
 use Rattle.babel_state.specs.State.{State}
 use Rattle.babel_wire.specs.Calls.{Receipt, Nothing, Failed, Datagram, Sending}
 use Rattle.babel_wire.specs.Turns.{Turn}
-use Rattle.babel_wire.specs.Lives.{Step, taken}
+use Rattle.babel_wire.specs.Intakes.{DurableStep, taken_by}
+use Rattle.babel_wire.specs.Lives.{Stage, taken}
 use Rattle.babel_machine.specs.declared.events.Event.{Event}
 use Rattle.babel_machine.specs.declared.events.Event.TheVariants as events
 use Rattle.babel_net.specs.EventRefusals.{step_fault}
@@ -20,6 +21,10 @@ abbrev pub IsFrom : List SentOctets → Receipt → Type 0
 IsFrom sent (Datagram iface source octets) = (d : SentOctets) × Contains sent d × (d.source ≡ source) × (d.octets ≡ octets)
 IsFrom sent Nothing = Unit {0}
 IsFrom sent Failed = Unit {0}
+
+-- So it was each time that something came.
+abbrev pub AreReceiptsFrom : List SentOctets → List Receipt → Type 0
+AreReceiptsFrom sent receipts = (r : Receipt) → Contains receipts r → IsFrom sent r
 
 -- So it was in each of the turns.
 abbrev pub AreFrom : List SentOctets → List Turn → Type 0
@@ -49,10 +54,16 @@ pub record LeadsTo (node : ℕ) (config : Config) (s : State) (old new : Network
   pub keeps : (d : SentOctets) → Contains old.sent d → Contains new.sent d
 
 -- The steps are events, and the network records every datagram that is taken in them.
-pub record AreEvents (node : ℕ) (config : Config) (steps : List Step) (s : State) (old : NetworkState) : Type 0 where
+pub record AreStepEvents (node : ℕ) (config : Config) (steps : List DurableStep) (s : State) (old : NetworkState) : Type 0 where
   pub new : NetworkState
   pub leads : LeadsTo node config s old new
-  pub records : (x : Sending) → Contains (taken steps) x → IsRecorded node config new.sent x
+  pub records : (x : Sending) → Contains (taken_by steps) x → IsRecorded node config new.sent x
+
+-- So are the stages of a life.
+pub record AreEvents (node : ℕ) (config : Config) (stages : List Stage) (s : State) (old : NetworkState) : Type 0 where
+  pub new : NetworkState
+  pub leads : LeadsTo node config s old new
+  pub records : (x : Sending) → Contains (taken stages) x → IsRecorded node config new.sent x
 
 -- The node is killed and started again as this speaker. The network comes to `before` by events that record every datagram that was sent, and then the
 -- node restarts. No loop is in it then.

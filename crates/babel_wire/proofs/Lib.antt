@@ -4,10 +4,10 @@ pub mod Members
 pub mod DurableTurns
 pub mod Files
 pub mod Covering
-pub mod Processes
 pub mod Restored
 pub mod Takings
 pub mod Keepings
 pub mod DurableTurning
 pub mod Intaking
 pub mod IntakeCovering
+pub mod Processes

@@ -5,11 +5,10 @@ use Rattle.babel_state.specs.Calls.{first_state}
 use Rattle.babel_state.specs.Restarts.{Snapshot, snapshot_of, restored, restarted}
 use Rattle.babel_state.specs.State.{State}
 use Rattle.babel_snapshot.specs.Reading.{snapshot_in}
-use Rattle.babel_wire.specs.Calls.{Sending, Call}
-use Rattle.babel_wire.specs.Turns.{Turn}
+use Rattle.babel_wire.specs.Calls.{Receipt, Sending, Call}
 use Rattle.babel_wire.specs.Keeping.{DurableTurn, AreDurableTurns, calls_of}
 use Rattle.babel_wire.specs.Cuts.{File, IsCutOf, IsOnDisk, IsLastTried, on_disk, sent_in}
-use Rattle.babel_wire.specs.Lives.{IsCovered, Process, AreProcesses, AreReached, disk_after, made_by, sent_by}
+use Rattle.babel_wire.specs.Lives.{IsCovered, Process, AreProcesses, AreReached, come_to, disk_after, sent_by}
 
 -- Turns, and then more of them.
 abbrev pub DurableTurnsGoOn : Type 0
@@ -42,16 +41,16 @@ RestoredHaveTheSnapshot =
 abbrev pub FilesAreLastTried : Type 0
 FilesAreLastTried = (files : List File) (calls : List Call) (file : File) → Contains (on_disk files calls) file ↔ IsLastTried files calls file
 
--- However often the process is killed and started again from what is on disk: every file that may be there then is reached by turns and restarts from
+-- However often the process is killed and started again from what is on disk: every file that may be there then is reached by steps and restarts from
 -- a new speaker, and every datagram that any of the processes sent was taken in them. At first there is no file.
 abbrev pub ProcessesAreCovered : Type 0
 ProcessesAreCovered =
     (config : Config) (processes : List Process) → AreProcesses config (None ∷ []) processes →
-    AreReached config (first_state config) (made_by processes) (sent_by processes) (disk_after (None ∷ []) processes)
+    AreReached config (first_state config) (come_to processes) (sent_by processes) (disk_after (None ∷ []) processes)
 
 -- So it goes on from any files that are reached.
 abbrev pub ProcessesStayCovered : Type 0
 ProcessesStayCovered =
-    (config : Config) (first : State) (made : List Turn) (sent : List Sending) (files : List File) (processes : List Process) →
-    AreReached config first made sent files → AreProcesses config files processes →
-    AreReached config first (made ++ made_by processes) (sent ++ sent_by processes) (disk_after files processes)
+    (config : Config) (first : State) (come : List Receipt) (sent : List Sending) (files : List File) (processes : List Process) →
+    AreReached config first come sent files → AreProcesses config files processes →
+    AreReached config first (come ++ come_to processes) (sent ++ sent_by processes) (disk_after files processes)

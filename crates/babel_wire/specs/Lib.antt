@@ -2,9 +2,9 @@ pub mod Calls
 pub mod Turns
 pub mod Keeping
 pub mod Cuts
-pub mod Lives
-pub mod DurableLaws
 pub mod ExampleCuts
 pub mod Taken
 pub mod DurableRuns
 pub mod Intakes
+pub mod Lives
+pub mod DurableLaws

@@ -30,8 +30,8 @@ pub fn files_are_last_tried()
 {}
 
 /// The same over several processes, each killed at any moment and started from what is on disk:
-/// each file is reached by turns and restarts, in which every datagram that was ever sent was
-/// taken.
+/// each file is reached by restarts and steps, which are turns, intakes and requests, in which every
+/// datagram that was ever sent was taken.
 pub fn processes_are_covered()
     ensures from_new { ProcessesAreCovered }
     ensures go_on { ProcessesStayCovered }
