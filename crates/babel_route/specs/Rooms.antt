@@ -6,6 +6,6 @@ use Rattle.std.specs.Prelude.{ℕ, ◌*◌}
 abbrev pub most_routes : ℕ
 most_routes = 256
 
--- The most prefixes that have an entry or a selection: one for each of both.
+-- At most so many prefixes have an entry or a selection: one for each of both.
 abbrev pub most_listed_prefixes : ℕ
 most_listed_prefixes = 2 * most_routes

@@ -39,7 +39,7 @@ use std::marker::Model;
 /// How many entries a route table has room for.
 pub const ROUTE_PLACES: usize = 256;
 
-/// How many prefixes may have an entry or a selection.
+/// At most so many prefixes have an entry or a selection: one for each of both.
 pub const PREFIX_PLACES: usize = 512;
 
 /// The route table with its selections, in tables of the types `E` and `S`. Clauses see both as

@@ -81,6 +81,11 @@ impl Control {
         })
     }
 
+    /// Whether there is no client, and none wants to be one. So nobody has to be served.
+    pub(crate) fn is_idle(&self, ready: u64) -> bool {
+        ready == 0 && !self.socket.has_clients()
+    }
+
     /// Gives the lines of the log to the clients that are sent it, serves all of them once, and
     /// returns what one wants of the speaker. Nothing changes in the speaker.
     pub(crate) fn serve(

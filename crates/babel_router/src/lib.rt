@@ -6,7 +6,7 @@
 //! - `selections`: the selected routes as they are printed. `printing`: what else is printed.
 //! - `counting`: what is counted.
 //! - `keeping`: a wire with the file in which the snapshot is kept.
-//! - `controlling`: the control socket.
+//! - `controlling`: the control socket. `limits`: their limits.
 //!
 //! The rest is the command `run`, over the devices and the wire of `babel_devices`:
 //!
@@ -18,6 +18,7 @@ mod controlling;
 mod counting;
 mod errors;
 mod keeping;
+mod limits;
 mod pacing;
 mod printing;
 mod running;

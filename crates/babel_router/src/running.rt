@@ -4,6 +4,7 @@ use crate::RunFault;
 use crate::controlling::{Control, remove_socket};
 use crate::counting::Counts;
 use crate::keeping::{KeptWire, open_kept};
+use crate::limits::MAX_DATAGRAM_LEN;
 use crate::pacing::Pace;
 use crate::printing::{PrintedRoutes, Printer};
 use crate::selections::{RouteForm, RouteLines};
@@ -23,9 +24,6 @@ use std::io::{LineWriter, Read, Write};
 use std::net::Net;
 use std::os::fd::AsRawFd;
 use std::time::{Clock, Duration};
-
-/// The most octets that a datagram may have.
-const MAX_DATAGRAM_LEN: usize = 65535;
 
 /// How long a device may keep a tentative address, in tenths of a second.
 const MAX_TENTATIVE: u32 = 50;

@@ -1,5 +1,6 @@
 //! The selected routes, as they are printed.
 
+use crate::limits::MAX_PREFIXES;
 use babel_speaker::Speaker;
 use babel_state::Selected;
 use babel_text::LineFault;
@@ -141,9 +142,6 @@ pub(crate) struct Selections<'a> {
     /// only if it is another.
     version: Option<u64>,
 }
-
-/// How many prefixes a speaker may have a route to, or a selected one.
-const MAX_PREFIXES: usize = 512;
 
 impl<'a> Selections<'a> {
     /// No prefix, with the room for all.

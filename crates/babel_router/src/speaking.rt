@@ -9,6 +9,7 @@ mod kept_speaking;
 mod snapshots;
 
 use crate::counting::Counts;
+use crate::limits::MAX_DATAGRAM_LEN;
 use crate::selections::{NUMBERED, Selections};
 use crate::speaking::snapshots::{make_speaker, save};
 use babel_speaker::Speaker;
@@ -22,9 +23,6 @@ use std::fs::Files;
 use std::io::{Read, Write};
 use std::net::Net;
 use std::time::Clock;
-
-/// The most octets that a datagram may have.
-pub(crate) const MAX_DATAGRAM_LEN: usize = 65535;
 
 /// How long a speaker speaks, on which port, what it prints, and where it is saved.
 #[derive(Clone, Copy)]

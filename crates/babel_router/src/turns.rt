@@ -4,6 +4,7 @@ use crate::RunFault;
 use crate::controlling::{Service, counts_of, device_view};
 use crate::counting::Counts;
 use crate::keeping::KeptWire;
+use crate::limits::MAX_FAULTS;
 use crate::pacing::{self, Pace, Place};
 use crate::printing::{Note, Printer};
 use babel_control::{DeviceView, Wish};
@@ -23,9 +24,6 @@ use std::io::{Read, Write};
 use std::net::Net;
 use std::os::fd::AsRawFd;
 use std::time::Clock;
-
-/// How many calls of the wire may fail: far more than in any run.
-const MAX_FAULTS: u64 = 1 << 62;
 
 /// The snapshot can't be kept in the first turn.
 const UNKEPT: RunFault = RunFault::SnapshotFile(SnapshotFileFault::Unwritable);
@@ -147,7 +145,7 @@ impl Router<'_, '_> {
     }
 
     /// Requests a greater seqno for each route that would be selected if it were feasible, once a
-    /// Hello interval: such a way is taken once its source has replied (RFC 8966, section 3.8.2.2).
+    /// Hello interval: it is selected once its source has replied (RFC 8966, section 3.8.2.2).
     /// The next turn sends it.
     fn request_seqnos<'r, R: Net + Clock + Files, I: Read + AsRawFd>(
         &mut self,
@@ -195,6 +193,9 @@ impl Router<'_, '_> {
         let Some(control) = &mut printer.control else {
             return Wish::Nothing;
         };
+        if control.is_idle(ready) {
+            return Wish::Nothing;
+        }
         // Without memory for them nobody is served in this turn.
         let Ok(devices) = views_of(self.alloc, self.devices) else {
             return Wish::Nothing;

@@ -12,7 +12,7 @@ use Rattle.babel_state.specs.Hellos.{Step}
 use Rattle.babel_state.specs.KeptRoutes.{KeepsRoutes}
 use Rattle.babel_state.specs.PendingRequests.{is_redundant}
 use Rattle.babel_state.specs.Reselection.{queue, update_to, updates_to_all}
-use Rattle.babel_state.specs.SeqnoRequests.{raised, outcomes, requested_of_own, forward, receiver, requested_of_route, handle_route_request, handle_dump_request, handle_seqno_request}
+use Rattle.babel_state.specs.SeqnoRequests.{raised, satisfies, requested_of_own, forward, receiver, requested_of_route, handle_route_request, handle_dump_request, handle_seqno_request}
 use Rattle.babel_state.specs.State.{State, announces, selected_at}
 use Rattle.babel_state.proofs.KeptRoutes.{same_routes, parts_routes, kept_routes}
 use Rattle.babel_state.proofs.Reselecting.{queue_kept, asks_kept}
@@ -39,7 +39,7 @@ raised_routes xs s = parts_routes s (queue xs (raised s)) (λ prefix. refl) refl
 
 own_prefix : (peer : Peer) (source : Source) (seqno : ℕ) (s : State) → KeepsRoutes s (requested_of_own peer source seqno s)
 own_prefix peer source seqno s =
-    if_state (outcomes s.router s.seqno source.router seqno) (queue (update_to peer source.prefix ∷ []) s) (queue (updates_to_all source.prefix s) (raised s)) s
+    if_state (satisfies s.router s.seqno source.router seqno) (queue (update_to peer source.prefix ∷ []) s) (queue (updates_to_all source.prefix s) (raised s)) s
     (queue_routes _ s) (raised_routes _ s)
 
 forward_routes : (now : ℕ) (source : Source) (seqno hops : ℕ) (next : Option Peer) (s : State) → KeepsRoutes s (forward now source seqno hops next s).0
@@ -56,7 +56,7 @@ route_routes now peer source seqno hops (Some route) s =
     let with_hops : Step = if nat_lt hops 2 then ends else passed in
     let unless_redundant : Step = if is_redundant source seqno s.requests then redundant else with_hops in
     let same : KeepsRoutes s s = same_routes s s refl in
-    if_step (outcomes route.entry.router route.entry.distance.seqno source.router seqno) (queue (update_to peer source.prefix ∷ []) s, verdicts.Taken) unless_redundant s
+    if_step (satisfies route.entry.router route.entry.distance.seqno source.router seqno) (queue (update_to peer source.prefix ∷ []) s, verdicts.Taken) unless_redundant s
     (queue_routes _ s)
     (if_step (is_redundant source seqno s.requests) redundant with_hops s same
     (if_step (nat_lt hops 2) ends passed s same (forward_routes now source seqno hops (receiver peer source.prefix s) s)))

@@ -414,11 +414,11 @@ impl Speaker {
 
     /// Requests a greater seqno for each route that would be selected if it were feasible (RFC
     /// 8966, section 3.8.2.2): its prefix has no route, or a worse one. The neighbour of the better
-    /// route is asked, and where none is selected the neighbours of all unfeasible ones. None is
-    /// requested that is pending already. Each is repeated as that of a lost route is, and then
-    /// made by this call again.
+    /// route is asked, and if none is selected the neighbours of all unfeasible ones. None is
+    /// requested that is pending already, nor one more than 64. Each is repeated as that of a lost
+    /// route is, and then made by this call again.
     ///
-    /// A lost route is requested at once, without this call. What needs it is a way that comes up
+    /// A lost route is requested at once, without this call. What needs it is a route that comes up
     /// later, one that is better than what is left, or a request that was given up. A caller may
     /// make it once a Hello interval.
     pub fn request_seqnos(&mut self, now: u64)

@@ -34,7 +34,7 @@ use Rattle.babel_state.specs.State.{State, announces, is_neighbour, entry_at, se
 use Rattle.babel_state.specs.Reselection.{UnfeasibleUpdate, queue, update_to, updates_to_all, request_seqno, reselect, reselect_all}
 use Rattle.babel_state.specs.Hellos.{Step, forget_neighbour, forgets_flushed, hears, is_neighbour_too_many, is_for_interface, handle_hello, handle_ihu}
 use Rattle.babel_state.specs.Updates.{store, advertise_if_selected, satisfy_request, handle_feasible, handle_unfeasible, judge, is_route_too_many, handle_update, handle_retraction, handle_retract_all}
-use Rattle.babel_state.specs.SeqnoRequests.{raised, outcomes, requested_of_own, forward, requested_of_route, receiver, handle_seqno_request}
+use Rattle.babel_state.specs.SeqnoRequests.{raised, satisfies, requested_of_own, forward, requested_of_route, receiver, handle_seqno_request}
 use Rattle.babel_state.specs.Messages.{handle_from_neighbour, handle_message}
 use Rattle.babel_state.specs.Seen.{UpdateValue, update_of, HeardValue, heard_if_finite, IsHeardFrom}
 use Rattle.babel_sources.specs.Sources.{collected}
@@ -263,7 +263,7 @@ route_fine us now peer source seqno hops (Some route) s p =
     let redundant : Step = (s, verdicts.Redundant) in
     let with_hops : Step = if nat_lt hops 2 then ends else passed in
     let unless_redundant : Step = if is_redundant source seqno s.requests then redundant else with_hops in
-    fine_step peer us s (outcomes route.entry.router route.entry.distance.seqno source.router seqno) (queue (update_to peer source.prefix ∷ []) s, verdicts.Taken) unless_redundant p
+    fine_step peer us s (satisfies route.entry.router route.entry.distance.seqno source.router seqno) (queue (update_to peer source.prefix ∷ []) s, verdicts.Taken) unless_redundant p
     (fine_step peer us s (is_redundant source seqno s.requests) redundant with_hops p
     (fine_step peer us s (nat_lt hops 2) ends passed p (asks_fine peer us now source seqno hops (receiver peer source.prefix s) s p)))
 
@@ -276,7 +276,7 @@ seqno_request_fine : (us : List UpdateValue) (now : ℕ) (peer : Peer) (source :
 unfolding handle_seqno_request
 seqno_request_fine us now peer source seqno hops s p =
     fine_step peer us s (announces source.prefix s) (requested_of_own peer source seqno s, verdicts.Taken) (requested_of_route now peer source seqno hops (selected_at source.prefix s) s)
-    (own_fine peer us source seqno s (outcomes s.router s.seqno source.router seqno) p) (route_fine us now peer source seqno hops (selected_at source.prefix s) s p)
+    (own_fine peer us source seqno s (satisfies s.router s.seqno source.router seqno) p) (route_fine us now peer source seqno hops (selected_at source.prefix s) s p)
 
 neighbour_fine : (now : ℕ) (peer : Peer) (message : Message) (s : State) → is_sorted route_cmp s.routes.entries ≡ true → Fine peer (update_of message) s (handle_from_neighbour now peer message s).0
 neighbour_fine now peer (messages.AckRequest opaque interval) s sorted = same_fine peer [] s.routes.entries sorted

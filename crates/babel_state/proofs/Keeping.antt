@@ -24,7 +24,7 @@ use Rattle.babel_state.specs.State.{State, selected_at, pair_at}
 use Rattle.babel_state.specs.Reselection.{UnfeasibleUpdate, queue, update_to, request_seqno, reselect, reselect_all}
 use Rattle.babel_state.specs.Hellos.{Step, forget_neighbour, forgets_flushed, hears, handle_hello, handle_ihu}
 use Rattle.babel_state.specs.Updates.{store, advertise_if_selected, satisfy_request, judge, is_route_too_many, handle_update, handle_retraction, handle_retract_all}
-use Rattle.babel_state.specs.SeqnoRequests.{raised, outcomes, requested_of_own, forward, requested_of_route, receiver, handle_seqno_request}
+use Rattle.babel_state.specs.SeqnoRequests.{raised, satisfies, requested_of_own, forward, requested_of_route, receiver, handle_seqno_request}
 use Rattle.babel_state.specs.Messages.{handle_from_neighbour, handle_message}
 use Rattle.babel_state.specs.Ticks.{forget_each, links_ticked, routes_ticked, requests_ticked, fired, interfaces_ticked, sources_ticked, routes_selected, ticked}
 use Rattle.babel_state.specs.StepLaws.{settings_of, settings_in, OwnValue, own_of, grown, kept_of, base_of, MessagesKeepOwn, TicksKeepOwn}
@@ -178,7 +178,7 @@ route_own now peer source seqno hops (Some route) s =
     let redundant : Step = (s, verdicts.Redundant) in
     let with_hops : Step = if nat_lt hops 2 then ends else passed in
     let unless_redundant : Step = if is_redundant source seqno s.requests then redundant else with_hops in
-    if_step (outcomes route.entry.router route.entry.distance.seqno source.router seqno) (queue (update_to peer source.prefix ∷ []) s, verdicts.Taken) unless_redundant (own_of s)
+    if_step (satisfies route.entry.router route.entry.distance.seqno source.router seqno) (queue (update_to peer source.prefix ∷ []) s, verdicts.Taken) unless_redundant (own_of s)
     (queue_own _ s)
     (if_step (is_redundant source seqno s.requests) redundant with_hops (own_of s) refl (if_step (nat_lt hops 2) ends passed (own_of s) refl kept))
 

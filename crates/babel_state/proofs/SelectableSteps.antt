@@ -36,7 +36,7 @@ use Rattle.babel_state.specs.State.{State, PrefixSet, announces, is_neighbour, r
 use Rattle.babel_state.specs.Reselection.{UnfeasibleUpdate, queue, update_to, updates_to_all, select, reselect, reselect_all}
 use Rattle.babel_state.specs.Hellos.{Step, forgets_flushed, hears, is_neighbour_too_many, is_for_interface, handle_hello, handle_ihu}
 use Rattle.babel_state.specs.Updates.{store, satisfy_request, handle_feasible, handle_unfeasible, judge, is_route_too_many, handle_update, handle_retraction, handle_retract_all}
-use Rattle.babel_state.specs.SeqnoRequests.{raised, outcomes, requested_of_own, forward, requested_of_route, receiver, handle_seqno_request}
+use Rattle.babel_state.specs.SeqnoRequests.{raised, satisfies, requested_of_own, forward, requested_of_route, receiver, handle_seqno_request}
 use Rattle.babel_state.specs.Messages.{handle_from_neighbour, handle_message}
 use Rattle.babel_state.specs.Calls.{announced_also, withdrawn, select_and_advertise}
 use Rattle.babel_state.specs.CurrentSelections.{IsCurrentAt, AreRoutesInOrder, KeepsCurrent}
@@ -155,7 +155,7 @@ retract_all_good now peer s sorted =
     (all_good now s (with_entries (retracted_all now peer s.routes.entries) s) sorted) (same_good s)
 
 own_good : (peer : Peer) (source : Source) (seqno : ℕ) (s : State) → IsGoodStep s (requested_of_own peer source seqno s)
-own_good peer source seqno s = by (outcomes s.router s.seqno source.router seqno)
+own_good peer source seqno s = by (satisfies s.router s.seqno source.router seqno)
   where
     by : (b : Bool) → IsGoodStep s (if b then queue (update_to peer source.prefix ∷ []) s else queue (updates_to_all source.prefix s) (raised s))
     by true = record { selectable = λ good. good; current = λ prefix current. current }
@@ -175,7 +175,7 @@ route_good now peer source seqno hops (Some route) s =
     let ends : Step = (s, verdicts.NotForwarded) in
     let redundant : Step = (s, verdicts.Redundant) in
     let with_hops : Step = if nat_lt hops 2 then ends else passed in
-    good_step s (outcomes route.entry.router route.entry.distance.seqno source.router seqno) (queue (update_to peer source.prefix ∷ []) s, verdicts.Taken) (if is_redundant source seqno s.requests then redundant else with_hops)
+    good_step s (satisfies route.entry.router route.entry.distance.seqno source.router seqno) (queue (update_to peer source.prefix ∷ []) s, verdicts.Taken) (if is_redundant source seqno s.requests then redundant else with_hops)
     (queue_good (update_to peer source.prefix ∷ []) s)
     (good_step s (is_redundant source seqno s.requests) redundant with_hops (same_good s)
     (good_step s (nat_lt hops 2) ends passed (same_good s) (forward_good now source seqno hops (receiver peer source.prefix s) s)))

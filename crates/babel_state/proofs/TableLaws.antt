@@ -46,7 +46,7 @@ use Rattle.babel_state.specs.State.{State, PrefixSet, announces, is_neighbour, r
 use Rattle.babel_state.specs.Reselection.{UnfeasibleUpdate, queue, update_to, update_to_all, updates_to_all, request_items, request_seqno, request_for_update, request_from_sender, request_for_seqno, advertise_change, select, reselect, reselect_each, reselect_all}
 use Rattle.babel_state.specs.Hellos.{Step, forget_neighbour, forgets_flushed, hears, is_neighbour_too_many, is_for_interface, handle_hello, handle_ihu}
 use Rattle.babel_state.specs.Updates.{store, advertise_if_selected, satisfy_request, handle_feasible, handle_unfeasible, judge, is_route_too_many, handle_update, handle_retraction, handle_retract_all}
-use Rattle.babel_state.specs.SeqnoRequests.{raised, outcomes, requested_of_own, forward, requested_of_route, receiver, handle_seqno_request}
+use Rattle.babel_state.specs.SeqnoRequests.{raised, satisfies, requested_of_own, forward, requested_of_route, receiver, handle_seqno_request}
 use Rattle.babel_state.specs.Messages.{handle_from_neighbour, handle_message}
 use Rattle.babel_state.specs.Invariants.{AreInterfaces, AreNeighbours, AreAnnounced, AreSources, AreRoutes, AreRequests, HasShortWait, HasHops, IsQueue, HasCost, AreTables, MessagesKeepTables}
 use Rattle.babel_state.proofs.Cutting.{queueing-cuts}
@@ -488,7 +488,7 @@ route_tables now peer source seqno hops (Some route) s t =
     let ends : Step = (s, verdicts.NotForwarded) in
     let redundant : Step = (s, verdicts.Redundant) in
     let with_hops : Step = if nat_lt hops 2 then ends else passed in
-    if_step (outcomes route.entry.router route.entry.distance.seqno source.router seqno) (queue (update_to peer source.prefix ∷ []) s, verdicts.Taken) (if is_redundant source seqno s.requests then redundant else with_hops)
+    if_step (satisfies route.entry.router route.entry.distance.seqno source.router seqno) (queue (update_to peer source.prefix ∷ []) s, verdicts.Taken) (if is_redundant source seqno s.requests then redundant else with_hops)
     (queue_tables (update_to peer source.prefix ∷ []) s (one_hops (update_to peer source.prefix) tt) t)
     (if_step (is_redundant source seqno s.requests) redundant with_hops t (by (nat_lt hops 2) refl))
   where

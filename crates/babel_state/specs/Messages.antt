@@ -33,7 +33,7 @@ handle_from_neighbour now peer (messages.SeqnoRequest prefix router seqno hops) 
     handle_seqno_request now peer (record { prefix = prefix; router = router }) seqno hops s
 handle_from_neighbour now peer message s = (s, verdicts.Taken)
 
--- A message. Who isn't a neighbour may say Hello and ask for an Ack (RFC 8966, section 3.3), and no more (profile).
+-- A message. A node that isn't a neighbour may say Hello and ask for an Ack (RFC 8966, section 3.3), and no more (profile).
 unfoldable pub handle_message : ℕ → Peer → Message → State → Step
 handle_message now peer (messages.AckRequest opaque interval) s = (queue (items.Ack peer opaque ∷ []) s, verdicts.Taken)
 handle_message now peer (messages.Hello unicast seqno interval) s = handle_hello now peer unicast seqno interval s

@@ -34,17 +34,17 @@ handle_dump_request peer s = (queue (map (update_to peer) (reachable_prefixes s)
 abbrev pub raised : State → State
 raised s = record s { seqno = next_seqno s.seqno; raises = counted s.raises 1 }
 
--- A route of this router-id and seqno answers the request: it is of another router, or has no lesser seqno.
-abbrev pub outcomes : List ℕ → ℕ → List ℕ → ℕ → Bool
-outcomes router seqno asked_router asked = not (is_same_router asked_router router) || not (is_before seqno asked)
+-- A route of this router-id and seqno satisfies the request: it is of another router, or has no lesser seqno.
+abbrev pub satisfies : List ℕ → ℕ → List ℕ → ℕ → Bool
+satisfies router seqno asked_router asked = not (is_same_router asked_router router) || not (is_before seqno asked)
 
 -- The prefix is announced here.
 abbrev pub requested_of_own : Peer → Source → ℕ → State → State
 requested_of_own peer source seqno s =
-    if outcomes s.router s.seqno source.router seqno then queue (update_to peer source.prefix ∷ []) s
+    if satisfies s.router s.seqno source.router seqno then queue (update_to peer source.prefix ∷ []) s
     else queue (updates_to_all source.prefix s) (raised s)
 
--- Whom the request may be passed to: who has a finite route to the prefix, and isn't the one who asks.
+-- The request may be forwarded to the route's neighbour: the route is finite, and its neighbour isn't the one that asks.
 abbrev pub is_passable : Peer → Route → Bool
 is_passable asker route = nat_lt route.1.distance.metric infinity && not (is_same_peer route.0.peer asker)
 
@@ -67,7 +67,7 @@ forward now source seqno hops (Some next) s = (request_seqno now source seqno Ne
 abbrev pub requested_of_route : ℕ → Peer → Source → ℕ → ℕ → Option Selection → State → Step
 requested_of_route now peer source seqno hops None s = (s, NotForwarded)
 requested_of_route now peer source seqno hops (Some route) s =
-    if outcomes route.entry.router route.entry.distance.seqno source.router seqno
+    if satisfies route.entry.router route.entry.distance.seqno source.router seqno
     then (queue (update_to peer source.prefix ∷ []) s, Taken)
     else if is_redundant source seqno s.requests then (s, Redundant)
     else if nat_lt hops 2 then (s, NotForwarded)

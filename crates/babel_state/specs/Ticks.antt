@@ -27,7 +27,7 @@ abbrev pub forget_each : List Peer → State → State
 forget_each [] s = s
 forget_each (peer ∷ peers) s = forget_each peers (forget_neighbour peer s)
 
--- Costs grow, and who isn't heard any more is flushed, with its routes.
+-- Costs grow, and a neighbour that isn't heard any more is flushed, with its routes.
 unfoldable pub links_ticked : ℕ → State → State
 links_ticked now s =
     forget_each (gone_of now s.neighbours) (record s { neighbours = tick_of now s.neighbours })

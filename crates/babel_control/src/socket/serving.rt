@@ -73,6 +73,16 @@ impl ControlSocket {
         wish
     }
 
+    /// Whether there is a client.
+    pub fn has_clients(&self) -> bool {
+        for slot in &self.clients {
+            if slot.is_some() {
+                return true;
+            }
+        }
+        false
+    }
+
     /// Whether a client is sent the log.
     pub fn has_log_reader(&self) -> bool {
         for slot in &self.clients {

@@ -50,7 +50,7 @@ pub fn third_datagram()
     ensures next_datagram { (datagram 500 state_3).target ≡ None }
 {}
 
-/// Who isn't a neighbour may ask for an Acknowledgment, and gets it.
+/// A node that isn't a neighbour may ask for an Acknowledgment, and gets it.
 pub fn acknowledgment_of_a_stranger()
     ensures verdict { verdict 0 9 (messages.AckRequest 7 100) start ≡ verdicts.Taken }
     ensures queued { queued_items (after 0 9 (messages.AckRequest 7 100) start) ≡ items.Ack (peer 9) 7 ∷ [] }

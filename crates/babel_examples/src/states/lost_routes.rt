@@ -112,7 +112,7 @@ pub fn nothing_to_request()
 {}
 
 /// The new route is selected, removes the request, and is advertised to all: once as a new route,
-/// once as an reply.
+/// once as a reply.
 pub fn answered_request()
     ensures verdict { verdict 50 1 (update 1 1 6 0) waiting ≡ verdicts.Taken }
     ensures selected { selected_peer (after 50 1 (update 1 1 6 0) waiting) ≡ Some (peer 1) }

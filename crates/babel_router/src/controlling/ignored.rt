@@ -7,7 +7,8 @@ use babel_value::{Peer, Prefix};
 use std::alloc::{AllocError, Global};
 use std::fmt::{self, Display, Write};
 
-/// How many prefixes of how many neighbours are kept. One more takes the place of the oldest.
+/// How many prefixes of how many neighbours are kept. One more takes the place of the oldest, but
+/// one of V3 never that of another: each neighbour sends the speaker's own prefixes back.
 const MAX_IGNORED: usize = 64;
 
 /// Why an Update was not stored. The text is its verdict's code.
@@ -69,7 +70,8 @@ pub(crate) struct Received<'d> {
     pub(crate) retractions: &'d [Placed],
 }
 
-/// The Updates that were not stored, by prefix and neighbour: the latest 64.
+/// The Updates that were not stored, by prefix and neighbour: the latest 64, of which those of V3
+/// go first.
 #[derive(Drop)]
 pub struct IgnoredUpdates {
     ignored: Vec<Ignored>,
@@ -103,8 +105,8 @@ impl IgnoredUpdates {
                 count = known.count.saturating_add(1);
             }
         }
-        if self.ignored.len() >= MAX_IGNORED {
-            self.ignored.remove(0);
+        if self.ignored.len() >= MAX_IGNORED && !self.give_way(cause) {
+            return;
         }
         // Without memory it isn't known later.
         let _ = self.ignored.push(Ignored {
@@ -114,6 +116,29 @@ impl IgnoredUpdates {
             count,
             last: received.now,
         });
+    }
+
+    /// Makes room for one of this cause. Returns whether there is room.
+    fn give_way(&mut self, cause: Cause) -> bool {
+        let index = match (self.first_echo(), cause) {
+            (Some(index), _) => index,
+            (None, Cause::OwnRouterId) => return false,
+            (None, _) => 0,
+        };
+        if index < self.ignored.len() {
+            self.ignored.remove(index);
+        }
+        true
+    }
+
+    /// The index of the oldest of V3.
+    fn first_echo(&self) -> Option<usize> {
+        for (index, it) in self.ignored.iter().enumerate() {
+            if let Cause::OwnRouterId = it.cause {
+                return Some(index);
+            }
+        }
+        None
     }
 
     fn index_of(&self, peer: &Peer, prefix: &Prefix) -> Option<usize> {

@@ -4,6 +4,7 @@ use crate::controlling::IgnoredUpdates;
 use crate::controlling::ignored::{Received, has_ignored};
 use crate::controlling::reasons::push_line;
 use crate::controlling::retractions::{has_readable, with_retractions};
+use crate::limits::MAX_PREFIXES;
 use babel_choice::Selection;
 use babel_control::Logging;
 use babel_message::Placed;
@@ -18,9 +19,6 @@ use std::cmp::Ordering;
 
 /// The most octets of the log that wait to be taken: as many as wait for a client.
 const MAX_LOG: usize = 1 << 20;
-
-/// How many prefixes a speaker may have a selected route of.
-const MAX_PREFIXES: usize = 512;
 
 /// A prefix, and the selected route that was written last.
 #[derive(Clone, Copy)]

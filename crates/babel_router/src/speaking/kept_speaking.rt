@@ -3,9 +3,10 @@
 use crate::controlling::{Control, Service, counts_of, device_view, remove_socket};
 use crate::counting::Counts;
 use crate::keeping::{KeptWire, open_kept};
+use crate::limits::{MAX_DATAGRAM_LEN, MAX_FAULTS};
 use crate::printing::{PrintedRoutes, Printer};
 use crate::selections::NUMBERED;
-use crate::speaking::{MAX_DATAGRAM_LEN, checked_links};
+use crate::speaking::checked_links;
 use babel_control::{ControlPlace, DeviceView, Wish};
 use babel_snapshot_file::{Kept, LockFile, SnapshotFileFault};
 use babel_speaker::Speaker;
@@ -19,9 +20,6 @@ use std::fs::Files;
 use std::io::{LineWriter, Write};
 use std::net::Net;
 use std::time::Clock;
-
-/// How many calls of the wire may fail: far more than in any run.
-const MAX_FAULTS: u64 = 1 << 62;
 
 /// How long a speaker speaks, on which port, what it prints, and where it is kept.
 #[derive(Clone, Copy)]

@@ -3,7 +3,7 @@
 ghost use Rattle.std.specs.Prelude.{◌≡◌, Some, filter};
 ghost use Rattle.std.specs.Option.{option_map_or};
 ghost use Rattle.babel_choice.specs.Choices.{routes_of, is_feasible_route};
-ghost use Rattle.babel_state.specs.SeqnoRequests.{outcomes, is_passable, first_peer, receiver};
+ghost use Rattle.babel_state.specs.SeqnoRequests.{satisfies, is_passable, first_peer, receiver};
 
 use crate::output::queueing::is_unfeasible;
 use babel_choice::{Entry, RouteKey};
@@ -11,15 +11,15 @@ use babel_route::Routes;
 use babel_sources::Sources;
 use babel_value::{Peer, Prefix, RouterId, Seqno};
 
-/// Whether a route of this router-id and seqno is as good as the requested one: it is of another
-/// router, or has no lesser seqno.
-pub fn outcomes(
+/// Whether a route of this router-id and seqno satisfies the request: it is of another router, or
+/// has no lesser seqno.
+pub fn satisfies(
     router: &RouterId,
     seqno: Seqno,
     requested_router: &RouterId,
     requested: Seqno,
 ) -> bool
-    ensures { result ≡ outcomes router.now seqno requested_router.now requested }
+    ensures { result ≡ satisfies router.now seqno requested_router.now requested }
 {
     !requested_router.cmp(router).is_eq() || !seqno.less(requested)
 }

@@ -1,10 +1,10 @@
 //! Route Requests and Seqno Requests of a neighbour (RFC 8966, section 3.8.1).
 
 ghost use Rattle.std.specs.Prelude.{◌≡◌, ◌≤◌, Some};
-ghost use Rattle.babel_state.specs.SeqnoRequests.{handle_route_request, handle_dump_request, raised, outcomes, requested_of_own, receiver, forward, requested_of_route, handle_seqno_request};
+ghost use Rattle.babel_state.specs.SeqnoRequests.{handle_route_request, handle_dump_request, raised, satisfies, requested_of_own, receiver, forward, requested_of_route, handle_seqno_request};
 
 use crate::input::records::Arrival;
-use crate::input::request_receivers::{outcomes, receiver};
+use crate::input::request_receivers::{satisfies, receiver};
 use crate::output::queueing::queue_updates_of;
 use crate::state::Core;
 use crate::tables::SeqnoRequest;
@@ -43,7 +43,7 @@ impl Core {
     fn handle_request_of_own(&mut self, peer: &Peer, source: &Source, seqno: Seqno)
         ensures { self.new ≡ requested_of_own peer.now source.now seqno self.old }
     {
-        if outcomes(&self.router, self.seqno, &source.router, seqno) {
+        if satisfies(&self.router, self.seqno, &source.router, seqno) {
             self.queue_update_to(peer, &source.prefix);
         } else {
             self.raise();
@@ -92,7 +92,7 @@ impl Core {
         };
         let entry = &route.entry;
         let source = &request.source;
-        if outcomes(
+        if satisfies(
             &entry.router,
             entry.distance.seqno,
             &source.router,

@@ -14,7 +14,7 @@ use babel_choice::{Cursor, Entry, RouteKey};
 use babel_value::{Metric, Prefix, Source};
 
 impl Core {
-    /// The metric of the prefix's selection by the link's present cost, or infinity where none is
+    /// The metric of the prefix's selection by the link's present cost, or infinity if none is
     /// selected. The search begins near the index of a selection.
     fn selected_metric(&self, prefix: &Prefix, near: &mut usize) -> Metric
         ensures { result ≡ selected_metric prefix.now self.now }
@@ -56,8 +56,7 @@ impl Core {
     }
 
     /// Requests a greater seqno of the source of an unfeasible route: of the neighbours of all
-    /// unfeasible ones where none is selected, and else of its own. The searches begin at the
-    /// cursor.
+    /// unfeasible ones if none is selected, and else of its own. The searches begin at the cursor.
     fn request_for_route(&mut self, now: u64, route: &(RouteKey, Entry), cursor: &mut Cursor)
         requires unfeasible { list_any (is_unfeasible self.old.sources) (routes_of route.now.0.prefix self.old.routes.entries) ≡ true }
         ensures { self.new ≡ request_for_route now route.now self.old }

@@ -11,8 +11,8 @@ use babel_speaker::Speaker;
 /// section 3.8.2.2), at the moment of the wire: [`Speaker::request_seqnos`]. Nothing is sent before
 /// the next turn, so nothing has to be kept.
 ///
-/// A caller makes it once a Hello interval, so that a router whose best way got lost or worse takes
-/// the best of those that are left.
+/// A caller makes it once a Hello interval, so that a router whose best route got lost or worse
+/// takes the best of those that are left.
 pub fn request_seqnos<W: Wire>(speaker: &mut Speaker, wire: &mut W)
     ensures request { IsOneRequest speaker.old.state (W.history wire.old) speaker.new.state (W.history wire.new) }
     ensures counted { CountsChanges speaker.old speaker.new }
