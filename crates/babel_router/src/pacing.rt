@@ -12,6 +12,10 @@ const PAUSE: u64 = 4;
 /// router doesn't pause.
 const MAX_TAKEN: u32 = 64;
 
+/// How many items may be pending before a turn sends them: half of what the speaker has room for,
+/// so that the replies to the next datagram seldom push others out.
+const MAX_PENDING: usize = 2048;
+
 /// Whether a step is the last one of a run.
 #[derive(Clone, Copy)]
 pub(crate) enum Place {
@@ -64,9 +68,12 @@ impl Pace {
         matches!(&self.phase, Phase::Waiting | Phase::Pausing(_))
     }
 
-    /// The next step. `due` is what the speaker's `next_due` returns now: 0 if something is
-    /// pending, or if it doesn't matter.
-    pub(crate) fn next(&mut self, due: u64, place: Place) -> Step {
+    /// The next step at the moment. `due` is what the speaker's `next_due` returns now: 0 if
+    /// something is pending, or if it doesn't matter.
+    ///
+    /// Shortly before something is due each step is a turn, which sends what it queues. If a Hello
+    /// were queued while datagrams are only taken in, replies to them could push it out.
+    pub(crate) fn next(&mut self, moment: u64, due: u64, place: Place) -> Step {
         if due > 0 {
             self.due = due;
         }
@@ -76,23 +83,30 @@ impl Pace {
         match self.phase {
             Phase::Waiting => Step::Turn(due),
             Phase::Taken => Step::Turn(0),
+            Phase::Taking if self.is_due_soon(moment) => Step::Turn(0),
             Phase::Taking => Step::TakeIn(0),
+            Phase::Pausing(_) if self.is_due_soon(moment) => Step::Turn(self.due),
             Phase::Pausing(end) => {
                 self.phase = Phase::Taking;
-                Step::TakeIn(end.min(self.due))
+                Step::TakeIn(end)
             }
         }
     }
 
-    /// A datagram was taken in at the moment, or none waited.
-    pub(crate) fn note_taken(&mut self, moment: u64, report: Report) {
+    /// Whether something is due within a pause.
+    fn is_due_soon(&self, moment: u64) -> bool {
+        self.due <= moment.saturating_add(PAUSE)
+    }
+
+    /// A datagram was taken in at the moment, or none waited. So many items are pending.
+    pub(crate) fn note_taken(&mut self, moment: u64, report: Report, pending: usize) {
         if report.received > 0 {
             self.came = moment;
             self.taken = self.taken.saturating_add(1);
         }
         self.phase = if self.taken == 0 {
             Phase::Waiting
-        } else if report.received > 0 && self.taken < MAX_TAKEN {
+        } else if report.received > 0 && self.taken < MAX_TAKEN && pending < MAX_PENDING {
             Phase::Taking
         } else {
             Phase::Taken

@@ -61,16 +61,30 @@ fn write_route<W: Write>(
     )
 }
 
-/// Writes the command that gives the kernel the route, or takes it away.
+/// Writes the command that gives the kernel what is to be had of the prefix.
 fn write_command<W: Write>(
     names: &[&str],
     prefix: &Prefix,
-    route: &Option<Selected>,
+    way: &Way,
     out: &mut W,
 ) -> io::Result<()> {
-    let Some(route) = route else {
-        return writeln!(out, "route del {prefix} proto babel metric {KERNEL_METRIC}");
-    };
+    match way {
+        Way::Nothing => writeln!(out, "route del {prefix} proto babel metric {KERNEL_METRIC}"),
+        Way::Unreachable => writeln!(
+            out,
+            "route replace unreachable {prefix} proto babel metric {KERNEL_METRIC}"
+        ),
+        Way::Route(route) => write_replacement(names, prefix, route, out),
+    }
+}
+
+/// Writes the command that gives the kernel a route.
+fn write_replacement<W: Write>(
+    names: &[&str],
+    prefix: &Prefix,
+    route: &Selected,
+    out: &mut W,
+) -> io::Result<()> {
     let name = name_of(names, route.peer.iface);
     let next_hop = route.next_hop;
     // An IPv4 prefix over a next hop of IPv6 needs the family named (RFC 9229); the others take it
@@ -87,11 +101,16 @@ fn write_command<W: Write>(
 }
 
 impl RouteLines<'_> {
-    /// Whether two selected routes are written in the same way.
-    fn are_same(&self, one: &Option<Selected>, other: &Option<Selected>) -> bool {
-        let (Some(one), Some(other)) = (one, other) else {
-            return one.is_none() && other.is_none();
-        };
+    /// Whether two ways are written alike.
+    fn are_same(&self, one: &Way, other: &Way) -> bool {
+        match (one, other) {
+            (Way::Route(one), Way::Route(other)) => self.are_same_routes(one, other),
+            (Way::Unreachable, Way::Unreachable) | (Way::Nothing, Way::Nothing) => true,
+            _ => false,
+        }
+    }
+
+    fn are_same_routes(&self, one: &Selected, other: &Selected) -> bool {
         match self.form {
             RouteForm::Commands => {
                 one.peer.iface == other.peer.iface && one.next_hop == other.next_hop
@@ -105,20 +124,75 @@ impl RouteLines<'_> {
         }
     }
 
-    /// Writes that the selected route of a prefix is another one.
+    /// Writes that there is another way to a prefix.
     fn write_change<W: Write>(
         &self,
         moment: u64,
         prefix: &Prefix,
-        route: &Option<Selected>,
+        way: &Way,
         out: &mut W,
     ) -> io::Result<()> {
         match self.form {
-            RouteForm::Commands => write_command(self.names, prefix, route, out),
+            RouteForm::Commands => write_command(self.names, prefix, way, out),
             RouteForm::Text => {
                 write!(out, "{moment} select ")?;
-                write_route(self.names, prefix, route, out)
+                write_route(self.names, prefix, &way.route(), out)
             }
+        }
+    }
+
+    /// The way to a prefix now that had a selected route before.
+    fn way_now(&self, speaker: &Speaker, prefix: &Prefix, near: &mut usize) -> Way {
+        match (speaker.selected_near(prefix, near), self.form) {
+            (Some(route), _) => Way::Route(route),
+            (None, RouteForm::Commands) if speaker.entry(prefix, 0).is_some() => Way::Unreachable,
+            (None, _) => Way::Nothing,
+        }
+    }
+
+    /// Whether a selected route of the prefix is written.
+    fn has(&self, prefix: &Prefix) -> bool {
+        match self.form {
+            RouteForm::Commands => is_routable(prefix),
+            RouteForm::Text => true,
+        }
+    }
+}
+
+/// What is to be had of a prefix.
+#[derive(Clone, Copy)]
+enum Way {
+    /// Nothing. So it is printed only while changes are written.
+    Nothing,
+    /// Its route was lost, and the speaker has others that can't be selected, or retracted ones.
+    /// As long as it has them, nothing for the prefix may go by the route of a shorter one (RFC
+    /// 8966, section 3.5.4). The kernel is told so; for people it is as nothing.
+    Unreachable,
+    /// The selected route.
+    Route(Selected),
+}
+
+impl Way {
+    fn route(&self) -> Option<Selected> {
+        match self {
+            Way::Route(route) => Some(*route),
+            Way::Nothing | Way::Unreachable => None,
+        }
+    }
+}
+
+/// Whether a router may route the prefix. Within a machine, or on a link, are the prefixes of
+/// loopback, link-local and multicast addresses, and that of no address (RFC 6890).
+fn is_routable(prefix: &Prefix) -> bool {
+    let length = prefix.length();
+    match prefix.addr() {
+        Addr::V4([a, ..]) => !(length >= 8 && (a == 0 || a == 127) || length >= 3 && a >= 224),
+        Addr::V6(octets) => {
+            let [a, b, ..] = octets;
+            let is_multicast = length >= 8 && a == 0xff;
+            let is_link_local = length >= 10 && a == 0xfe && b & 0xc0 == 0x80;
+            let is_of_this_machine = length == 128 && u128::from_be_bytes(octets) <= 1;
+            !(is_multicast || is_link_local || is_of_this_machine)
         }
     }
 }
@@ -127,8 +201,7 @@ impl RouteLines<'_> {
 #[derive(Clone, Copy)]
 struct PrintedRoute {
     prefix: Prefix,
-    /// The selected route. It is none only while changes are written.
-    route: Option<Selected>,
+    way: Way,
     /// Whether it is printed again, whatever is selected.
     is_doubtful: bool,
 }
@@ -139,9 +212,15 @@ pub(crate) struct Selections<'a> {
     lines: RouteLines<'a>,
     printed: Vec<PrintedRoute>,
     /// The count of the speaker's routes when they were looked at last. They are looked at again
-    /// only if it is another.
+    /// only if it is another, or at `next_look`.
     version: Option<u64>,
+    /// When they are looked at again, in centiseconds: the count doesn't grow when the last entry
+    /// of an unreachable prefix goes.
+    next_look: u64,
 }
+
+/// After how long the routes are looked at again while a prefix is unreachable, in centiseconds.
+const LOOK_AGAIN: u64 = 100;
 
 impl<'a> Selections<'a> {
     /// No prefix, with the room for all.
@@ -155,6 +234,7 @@ impl<'a> Selections<'a> {
             lines,
             printed,
             version: None,
+            next_look: u64::MAX,
         })
     }
 
@@ -171,23 +251,38 @@ impl<'a> Selections<'a> {
         out: &mut W,
     ) -> Result<(), LineFault> {
         let version = speaker.routes_version();
-        if self.version == Some(version) && version < u64::MAX {
+        let is_known = self.version == Some(version) && version < u64::MAX;
+        if is_known && moment < self.next_look {
             return Ok(());
         }
-        add_new(&mut self.printed, speaker)?;
+        add_new(&self.lines, &mut self.printed, speaker)?;
         write_changed(&self.lines, &mut self.printed, speaker, moment, out).map_err(
             LineFault::of_writing,
         )?;
-        self.printed.retain(|printed| printed.route.is_some());
+        self.printed.retain(|printed| !matches!(&printed.way, Way::Nothing));
         self.version = Some(version);
+        self.next_look = if self.has_unreachable() {
+            moment.saturating_add(LOOK_AGAIN)
+        } else {
+            u64::MAX
+        };
         Ok(())
+    }
+
+    fn has_unreachable(&self) -> bool {
+        for printed in &self.printed {
+            if let Way::Unreachable = printed.way {
+                return true;
+            }
+        }
+        false
     }
 
     /// The reader of the lines may have lost the routes over an interface: what is selected of
     /// their prefixes is printed again, also if it is none by then.
     pub(crate) fn doubt(&mut self, iface: u8) {
         for printed in self.printed.iter_mut() {
-            if let Some(route) = printed.route {
+            if let Way::Route(route) = printed.way {
                 if route.peer.iface == iface {
                     printed.is_doubtful = true;
                 }
@@ -201,16 +296,14 @@ impl<'a> Selections<'a> {
         self.version = None;
     }
 
-    /// Writes a line that takes each selected route away.
+    /// Writes a line for each prefix that takes away what was given to the kernel.
     ///
     /// # Errors
     ///
     /// Writing fails.
     pub(crate) fn write_removals<W: Write>(&self, out: &mut W) -> io::Result<()> {
         for printed in &self.printed {
-            if printed.route.is_some() {
-                write_command(self.lines.names, &printed.prefix, &None, out)?;
-            }
+            write_command(self.lines.names, &printed.prefix, &Way::Nothing, out)?;
         }
         Ok(())
     }
@@ -236,14 +329,20 @@ impl<'a> Selections<'a> {
 }
 
 /// Adds the prefixes that have a selected route now: one walk over both lists.
-fn add_new(printed: &mut Vec<PrintedRoute>, speaker: &Speaker) -> Result<(), AllocError> {
+fn add_new(
+    lines: &RouteLines<'_>,
+    printed: &mut Vec<PrintedRoute>,
+    speaker: &Speaker,
+) -> Result<(), AllocError> {
     let mut index = 0;
     for place in 0..MAX_PREFIXES {
         let Some((prefix, _)) = speaker.selection_at(place) else {
             return Ok(());
         };
-        index = index_near(printed, index, &prefix);
-        insert_near(printed, index, prefix)?;
+        if lines.has(&prefix) {
+            index = index_near(printed, index, &prefix);
+            insert_near(printed, index, prefix)?;
+        }
     }
     Ok(())
 }
@@ -272,7 +371,7 @@ fn insert_near(
     }
     let new = PrintedRoute {
         prefix,
-        route: None,
+        way: Way::Nothing,
         is_doubtful: false,
     };
     printed.insert(index.min(printed.len()), new)?;
@@ -291,10 +390,10 @@ fn write_changed<W: Write>(
     let mut has_changed = false;
     let mut near = 0;
     for entry in printed.iter_mut() {
-        let selected = speaker.selected_near(&entry.prefix, &mut near);
-        if entry.is_doubtful || !lines.are_same(&selected, &entry.route) {
-            lines.write_change(moment, &entry.prefix, &selected, out)?;
-            entry.route = selected;
+        let way = lines.way_now(speaker, &entry.prefix, &mut near);
+        if entry.is_doubtful || !lines.are_same(&way, &entry.way) {
+            lines.write_change(moment, &entry.prefix, &way, out)?;
+            entry.way = way;
             entry.is_doubtful = false;
             has_changed = true;
         }

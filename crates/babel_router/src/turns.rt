@@ -124,7 +124,7 @@ impl Router<'_, '_> {
         } else {
             0
         };
-        match self.pace.next(due, place) {
+        match self.pace.next(wire.wire.moment, due, place) {
             pacing::Step::Turn(until) => {
                 wire.wire.wait_until(until);
                 let turn = drive_durable(self.speaker, self.driver, wire, printer, 1);
@@ -135,7 +135,8 @@ impl Router<'_, '_> {
             pacing::Step::TakeIn(until) => {
                 wire.wire.pause_until(until);
                 let report = take_in(self.speaker, self.driver, wire, printer);
-                self.pace.note_taken(wire.wire.moment, report);
+                let pending = self.speaker.pending_count();
+                self.pace.note_taken(wire.wire.moment, report, pending);
                 Some(DurableReport {
                     report,
                     ..DurableReport::default()

@@ -17,6 +17,9 @@ use std::time::{Clock, Duration, Instant};
 /// How long a turn waits for a datagram on each socket, in milliseconds.
 const WAIT: u64 = 10;
 
+/// The hop count of what is sent.
+const HOPS: u32 = 1;
+
 /// The socket of an interface, and to whom a datagram for all neighbours is sent.
 #[derive(Drop)]
 struct Port {
@@ -104,8 +107,11 @@ fn bind_port<R: Net>(rt: &R, link: Link, number: u16) -> Result<Port, SpeakFault
     }
 }
 
+/// A socket that waits for a short time. What it sends stays on the link: the hop count is 1 (RFC
+/// 8966, section 4).
 fn bind_socket<R: Net>(rt: &R, address: [u8; 4], port: u16) -> io::Result<UdpSocket> {
     let socket = UdpSocket::bind(rt, socket_address(address, port))?;
+    socket.set_ttl(HOPS)?;
     socket.set_read_timeout(Some(Duration::from_millis(WAIT)))?;
     Ok(socket)
 }
