@@ -9,34 +9,33 @@ use babel_config::{HeardDatagram, Scenario, ScenarioEvent, read_scenario};
 use babel_machine::{Event, StepFault};
 use babel_net::HearFault;
 use babel_state::Config;
+use babel_text::{parse_u16, parse_u64};
 use babel_value::Addr;
 use std::alloc::Global;
 use std::fmt;
 use toml::Table;
 
-/// The first word of each event, and what follows it.
-static FORMS: [(&str, &str); 9] = [
-    ("tick", "N T"),
-    ("emit", "N T"),
-    ("deliver", "K N I T"),
-    ("cost", "N I C"),
-    ("raise", "N"),
-    ("announce", "N P"),
-    ("withdraw", "N P"),
-    ("restart", "N T"),
-    ("hear", "N I A T HEX"),
+/// The first word of each event, and its form.
+static FORMS: [(&str, &str); 10] = [
+    ("tick", "tick N T"),
+    ("emit", "emit N T"),
+    ("deliver", "deliver K N I T"),
+    ("cost", "cost N I C"),
+    ("raise", "raise N"),
+    ("announce", "announce N P"),
+    ("withdraw", "withdraw N P"),
+    ("restart", "restart N T"),
+    ("request", "request N T"),
+    ("hear", "hear N I A T HEX"),
 ];
 
 /// Why the text is no event.
 pub(crate) fn event_text_problem<'a>(alloc: Global, text: &'a str) -> Sentence<'a> {
     let (name, _fields) = text.split_once(' ').unwrap_or((text, ""));
     let mut nearest = Nearest::to(name);
-    for (word, fields) in FORMS.iter() {
+    for (word, form) in FORMS.iter() {
         if *word == name {
-            return Sentence {
-                text: form_sentence(name),
-                words: [Word::Text(word), Word::Text(fields), Word::Empty],
-            };
+            return fields_problem(name, form, text);
         }
         nearest.take(alloc, word);
     }
@@ -47,9 +46,81 @@ pub(crate) fn event_text_problem<'a>(alloc: Global, text: &'a str) -> Sentence<'
         },
         None => Sentence {
             text: "unknown event '{}'; the events are tick, emit, deliver, cost, raise, announce, \
-                withdraw, restart and hear",
+                withdraw, restart, request and hear",
             words: [Word::Text(name), Word::Empty, Word::Empty],
         },
+    }
+}
+
+/// Why the text is no event of this form: the first field that is no number, or that it has
+/// another form.
+fn fields_problem<'a>(name: &str, form: &'static str, text: &'a str) -> Sentence<'a> {
+    let mut rest = text;
+    for letter in form.split(' ') {
+        let (field, after) = rest.split_once(' ').unwrap_or((rest, ""));
+        if let Some(kind) = number_kind(letter) {
+            if !field.is_empty() && !kind.reads(field) {
+                return Sentence {
+                    text: kind.sentence(),
+                    words: [Word::Text(letter), Word::Excerpt(field), Word::Text(form)],
+                };
+            }
+        }
+        rest = after;
+    }
+    Sentence {
+        text: form_sentence(name),
+        words: [Word::Text(form), Word::Empty, Word::Empty],
+    }
+}
+
+/// A field of an event that is a number.
+#[derive(Clone, Copy)]
+enum NumberKind {
+    /// A node, a datagram or a moment.
+    Long,
+    /// An interface.
+    Interface,
+    /// A cost.
+    Cost,
+}
+
+/// What the field of this letter is, if it is a number.
+fn number_kind(letter: &str) -> Option<NumberKind> {
+    match letter {
+        "K" | "N" | "T" => Some(NumberKind::Long),
+        "I" => Some(NumberKind::Interface),
+        "C" => Some(NumberKind::Cost),
+        _ => None,
+    }
+}
+
+impl NumberKind {
+    /// Whether the field is such a number.
+    fn reads(self, field: &str) -> bool {
+        match self {
+            NumberKind::Long => parse_u64(field).is_some(),
+            NumberKind::Interface => matches!(parse_u16(field), Some(0..=255)),
+            NumberKind::Cost => parse_u16(field).is_some(),
+        }
+    }
+
+    /// The sentence about a field that isn't one: its letter, the field and the form.
+    fn sentence(self) -> &'static str {
+        match self {
+            NumberKind::Long => {
+                "{} {} is not a number from 0 to 18446744073709551615, without sign or leading \
+                zeros; the form is '{}'"
+            }
+            NumberKind::Interface => {
+                "{} {} is not a number from 0 to 255, without sign or leading zeros; the form is \
+                '{}'"
+            }
+            NumberKind::Cost => {
+                "{} {} is not a number from 1 to 65534, without sign or leading zeros; the form is \
+                '{}'"
+            }
+        }
     }
 }
 
@@ -57,12 +128,12 @@ pub(crate) fn event_text_problem<'a>(alloc: Global, text: &'a str) -> Sentence<'
 fn form_sentence(name: &str) -> &'static str {
     match name {
         "hear" => {
-            "it is not of the form '{} {}'; write one blank between words, numbers without leading \
+            "it is not of the form '{}'; write one blank between words, numbers without leading \
             zeros, A as 192.168.0.9 or fe80::9, and HEX with two digits for each of at most 65535 \
             octets"
         }
         _ => {
-            "it is not of the form '{} {}'; write one blank between words, and numbers without \
+            "it is not of the form '{}'; write one blank between words, and numbers without \
             leading zeros"
         }
     }
