@@ -76,6 +76,10 @@ fn sentence_of<'a>(problem: &Problem<'a>) -> Sentence<'a> {
                 [key, Word::Text(FILE_KEYS), Word::Empty],
             ),
         },
+        Cause::WrongKind(kind) if problem.index.is_some() => (
+            "each element of '{}' must be {}",
+            [key, Word::RouterKind(kind), Word::Empty],
+        ),
         Cause::WrongKind(kind) => (
             "'{}' must be {}",
             [key, Word::RouterKind(kind), Word::Empty],

@@ -2,7 +2,7 @@
 
 use crate::toml_places::{Path, Position, Side, Step, position_at};
 use babel_topology::TopologyFault;
-use babel_topology::file::{Cause, Part, Problem};
+use babel_topology::file::{Cause, Kind, Part, Problem};
 use std::alloc::Global;
 use toml::{Table, Value};
 
@@ -101,7 +101,7 @@ pub(crate) fn position_of(alloc: Global, octets: &[u8], problem: &Problem<'_>) -
 }
 
 /// The path from the table of the file to the value. A key that is missing has the path to its
-/// table.
+/// table, and what should be a table has its own.
 fn path_of<'a>(problem: &Problem<'a>) -> Path<'a> {
     let mut path = Path::new();
     match problem.part {
@@ -110,7 +110,7 @@ fn path_of<'a>(problem: &Problem<'a>) -> Path<'a> {
         Part::Link(number) => path.push_element("link", number),
     }
     match problem.cause {
-        Cause::MissingKey => {}
+        Cause::MissingKey | Cause::WrongKind(Kind::Table) => {}
         _ => path.push(Step::Key(problem.key)),
     }
     if let Some(index) = problem.index {

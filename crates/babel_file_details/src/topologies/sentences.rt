@@ -6,7 +6,9 @@ use crate::toml_places::FileText;
 use crate::topologies::places::{element_of, position_of};
 use babel_line_details::Excerpt;
 use babel_topology::TopologyFault;
-use babel_topology::file::{Cause, FILE_KEYS, LINK_KEYS, NODE_KEYS, Part, Problem, first_problem};
+use babel_topology::file::{
+    Cause, FILE_KEYS, Kind, LINK_KEYS, NODE_KEYS, Part, Problem, first_problem,
+};
 use std::alloc::Global;
 use std::io::{self, Write};
 use toml::Table;
@@ -115,10 +117,7 @@ fn sentence_of<'a>(problem: &Problem<'a>) -> Sentence<'a> {
     let (text, words) = match problem.cause {
         Cause::UnknownKey => return unknown_key(problem.part, key),
         Cause::MissingKey => return missing_key(problem.part, key),
-        Cause::WrongKind(kind) => (
-            "'{}' must be {}",
-            [key, Word::TopologyKind(kind), Word::Empty],
-        ),
+        Cause::WrongKind(kind) => return wrong_kind(problem, kind),
         Cause::OutOfRange(number, kind) => (
             "{} = {} is not {}",
             [key, Word::Number(number), Word::TopologyKind(kind)],
@@ -129,6 +128,32 @@ fn sentence_of<'a>(problem: &Problem<'a>) -> Sentence<'a> {
         ),
     };
     Sentence { text, words }
+}
+
+/// A value of another kind: that of a key, an element of the list at it, or a node or a link.
+fn wrong_kind<'a>(problem: &Problem<'a>, kind: Kind) -> Sentence<'a> {
+    let key = Word::Text(problem.key);
+    let kind_word = Word::TopologyKind(kind);
+    let (text, words) = match (problem.part, kind) {
+        (Part::Node(number) | Part::Link(number), Kind::Table) => {
+            ("{} {} must be {}", [key, Word::Count(number), kind_word])
+        }
+        _ if problem.index.is_some() => (
+            "each {} of '{}' must be {}",
+            [Word::Text(element_name(problem.key)), key, kind_word],
+        ),
+        _ => ("'{}' must be {}", [key, kind_word, Word::Empty]),
+    };
+    Sentence { text, words }
+}
+
+/// What an element of the list at a key is called.
+fn element_name(key: &str) -> &'static str {
+    match key {
+        "plan" => "step",
+        "expect" => "expectation",
+        _ => "element",
+    }
 }
 
 fn unknown_key(part: Part, key: Word<'_>) -> Sentence<'_> {
