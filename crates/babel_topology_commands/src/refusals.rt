@@ -5,7 +5,9 @@ use babel_file_details::{FileText, explain_topology};
 use babel_line_details::Excerpt;
 use babel_machine::NetFault;
 use babel_simulate::SimulationFault;
-use babel_topology::TopologyFault;
+use babel_state::ConfigFault;
+use babel_topology::file::read_topology;
+use babel_topology::{Topology, TopologyFault};
 use clap::ArgMatches;
 use std::alloc::AllocError;
 use std::fmt;
@@ -98,7 +100,7 @@ pub(crate) fn explain<F: AllocGlobal + Files, E: Write>(
     let name = argument(arguments, "topology");
     match refused {
         Refused::Topology(fault) => explain_file(rt, name, fault, err),
-        Refused::Net(fault) => explain_network(name, fault, err),
+        Refused::Net(fault) => explain_network(rt, name, fault, err),
         Refused::Limit(at) => writeln!(
             err,
             "{name}: at {} s the datagrams that were sent take more memory than --memory allows; \
@@ -147,13 +149,47 @@ fn explain_file<F: AllocGlobal + Files, E: Write>(
 }
 
 /// M1 to M7: why no network can be made of the nodes.
-fn explain_network<E: Write>(name: &str, fault: NetFault, err: &mut E) -> io::Result<()> {
+fn explain_network<F: AllocGlobal + Files, E: Write>(
+    rt: &F,
+    name: &str,
+    fault: NetFault,
+    err: &mut E,
+) -> io::Result<()> {
     match fault {
         NetFault::TooManyNodes => writeln!(
             err,
             "{name}: a network has at most 64 speakers: one for each node, and one more for each \
              restart of a node that begins again with nothing; use fewer nodes"
         ),
+        NetFault::BadConfig {
+            node,
+            fault: ConfigFault::Prefixes,
+        } => explain_prefixes(rt, name, node, err),
         fault => writeln!(err, "{name}: {fault}"),
     }
+}
+
+/// M7 with C5. No prefix is listed twice: the simulation leaves a second one out.
+fn explain_prefixes<F: AllocGlobal + Files, E: Write>(
+    rt: &F,
+    name: &str,
+    number: usize,
+    err: &mut E,
+) -> io::Result<()> {
+    write!(err, "{name}: node {number}")?;
+    if let Some(topology) = topology_again(rt, name) {
+        if let Some(node) = topology.nodes.get(number) {
+            write!(err, ", {},", Excerpt(&node.name))?;
+        }
+    }
+    writeln!(
+        err,
+        " has more than 64 prefixes; those of its announce steps count too"
+    )
+}
+
+/// The topology in the file, if that can be read again.
+fn topology_again<F: AllocGlobal + Files>(rt: &F, name: &str) -> Option<Topology> {
+    let octets = octets_of(rt.alloc(), rt, name)?;
+    read_topology(rt.alloc(), octets.as_slice()).ok()
 }
