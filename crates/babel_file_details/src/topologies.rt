@@ -1,8 +1,10 @@
 //! The sentence about a file of a topology that is refused: line and column, key, value, what is
 //! allowed and what to do.
 //!
-//! `places` finds where in the file a fault is, and `sentences` has what is written.
+//! `places` finds where in the file a fault is, `causes` which cause it has if there are several,
+//! and `sentences` has what is written.
 
+mod causes;
 mod places;
 mod sentences;
 

@@ -3,6 +3,7 @@
 use crate::explaining::{write_place, write_syntax_error};
 use crate::sentences::{Sentence, Word};
 use crate::toml_places::FileText;
+use crate::topologies::causes::{Advice, cause_of};
 use crate::topologies::places::{element_of, position_of};
 use babel_line_details::Excerpt;
 use babel_topology::TopologyFault;
@@ -72,7 +73,21 @@ fn write_fault<W: Write>(
             write!(out, ": the link of {} and {}", Excerpt(a), Excerpt(b))?;
         }
     }
-    writeln!(out, ": {fault}; {}", advice(fault))
+    write_cause(table, fault, out)
+}
+
+/// Writes the cause if it is known, and else those of the code; and what to do.
+fn write_cause<W: Write>(table: &Table, fault: TopologyFault, out: &mut W) -> io::Result<()> {
+    match cause_of(table, fault) {
+        Some(cause) => {
+            write!(out, ": {}", cause.sentence)?;
+            match cause.advice {
+                Advice::OfCode => writeln!(out, "; {}", advice(fault)),
+                Advice::InSentence => writeln!(out),
+            }
+        }
+        None => writeln!(out, ": {fault}; {}", advice(fault)),
+    }
 }
 
 /// What to do about a fault.
