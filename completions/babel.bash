@@ -57,7 +57,7 @@ _babel() {
         --at) compopt +o default 2>/dev/null; return ;;
         esac
         if [[ $word == -* ]]; then COMPREPLY=($(compgen -W "--seed --seconds --repeated --late --memory --prefix --scenario --json --details --svg --dot --at -h --help" -- "$word")); return; fi
-        compopt +o default 2>/dev/null
+        COMPREPLY=()
         ;;
     speak)
         case "$last" in
@@ -92,7 +92,7 @@ _babel() {
         --control) COMPREPLY=(); return ;;
         esac
         if [[ $word == -* ]]; then COMPREPLY=($(compgen -W "--control --json --details -h --help" -- "$word")); return; fi
-        case ' neighbours routes why log counts ' in *" $last "*) ;; *) COMPREPLY=($(compgen -W "neighbours routes why log counts" -- "$word")); return ;; esac
+        case " ${COMP_WORDS[*]:2:COMP_CWORD-2} " in *" neighbours "*|*" routes "*|*" why "*|*" log "*|*" counts "*) ;; *) COMPREPLY=($(compgen -W "neighbours routes why log counts" -- "$word")); return ;; esac
         compopt +o default 2>/dev/null
         ;;
     topology)
@@ -101,6 +101,7 @@ _babel() {
         --seed) compopt +o default 2>/dev/null; return ;;
         esac
         if [[ $word == -* ]]; then COMPREPLY=($(compgen -W "--nodes --seed --details -h --help" -- "$word")); return; fi
+        case " ${COMP_WORDS[*]:2:COMP_CWORD-2} " in *" ring "*|*" line "*|*" grid "*|*" star "*|*" random "*) ;; *) COMPREPLY=($(compgen -W "ring line grid star random" -- "$word")); return ;; esac
         compopt +o default 2>/dev/null
         ;;
     esac

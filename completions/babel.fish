@@ -53,6 +53,7 @@ complete -c babel -n '__fish_seen_subcommand_from simulate' -l svg -r -F -d 'Dra
 complete -c babel -n '__fish_seen_subcommand_from simulate' -l dot -r -F -d 'Writes the network and its next hops for Graphviz'
 complete -c babel -n '__fish_seen_subcommand_from simulate' -l at -x -d 'The moment of the picture, as "60 s" [default: the end]'
 complete -c babel -n '__fish_seen_subcommand_from simulate' -s h -l help -d 'Print help'
+complete -c babel -n '__fish_seen_subcommand_from simulate' -F
 complete -c babel -n __fish_use_subcommand -a speak -d 'Speaks Babel over UDP and IPv4'
 complete -c babel -n '__fish_seen_subcommand_from speak' -l turns -x -d 'How many turns the speaker has, 1 to 1000000'
 complete -c babel -n '__fish_seen_subcommand_from speak' -l port -x -d 'The UDP port of all speakers, 1 to 65535 [default: 6696]'
@@ -93,3 +94,4 @@ complete -c babel -n '__fish_seen_subcommand_from topology' -l nodes -x -d 'How 
 complete -c babel -n '__fish_seen_subcommand_from topology' -l seed -x -d 'The seed of the links at random, which is written too [default: 0]'
 complete -c babel -n '__fish_seen_subcommand_from topology' -l details -d 'Writes what is wrong after a code, as to a terminal'
 complete -c babel -n '__fish_seen_subcommand_from topology' -s h -l help -d 'Print help'
+complete -c babel -n '__fish_seen_subcommand_from topology; and not __fish_seen_subcommand_from ring line grid star random' -a 'ring line grid star random'

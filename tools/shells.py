@@ -3,10 +3,10 @@ import re
 
 HEAD = "Made by tools/man-page from the help of the commands. Change that, not this file."
 # The values that are names of files, and that is the name of a network device.
-FILES = ("CONFIG", "LOG", "SCENARIO", "FILE", "PLACE")
+FILES = ("CONFIG", "LOG", "SCENARIO", "TOPOLOGY", "FILE", "PLACE")
 DEVICE = "DEVICE"
-# The argument whose help lists its words, as `a, b or c`.
-LISTED = "QUESTION"
+# The arguments whose help lists their words, as `a, b or c`.
+LISTED = ("QUESTION", "SHAPE")
 
 
 def kind_of(value):
@@ -14,7 +14,9 @@ def kind_of(value):
     name = value.removesuffix("...")
     if name in FILES:
         return "files"
-    return {DEVICE: "device", "WORD": "words", LISTED: "listed"}.get(name, "other")
+    if name in LISTED:
+        return "listed"
+    return {DEVICE: "device", "WORD": "words"}.get(name, "other")
 
 
 def listed_words(item):
@@ -62,9 +64,10 @@ def bash(top, commands, words):
         kind = "files" if "files" in kinds else "device" if "device" in kinds else "other"
         for item in command.arguments:
             if kind_of(item.value) == "listed":
-                listed = " ".join(listed_words(item))
+                # One of them that is there already is not completed again.
+                listed = "|".join(f'*" {one} "*' for one in listed_words(item))
                 lines.append(
-                    f"        case ' {listed} ' in *\" $last \"*) ;; *)"
+                    f'        case " ${{COMP_WORDS[*]:2:COMP_CWORD-2}} " in {listed}) ;; *)'
                     f" {bash_values('words', listed_words(item))}; return ;; esac"
                 )
         lines += [f"        {bash_values(kind, words)}", "        ;;"]
