@@ -1,5 +1,6 @@
 //! The field of a log's line that can't be read.
 
+use crate::problems::unseen_problem;
 use crate::shown::explain_hex;
 use crate::{LineDetail, LineProblem, NumberField};
 use babel_text::{LineFault, parse_u16, parse_u64};
@@ -21,8 +22,8 @@ fn explain_text(line: &[u8], fault: LineFault) -> LineDetail<'_> {
     let Ok(text) = str::from_utf8(line) else {
         return LineDetail::of_line(LineProblem::NotText);
     };
-    if text.ends_with('\r') {
-        return LineDetail::of_line(LineProblem::CarriageReturn);
+    if let Some(detail) = unseen_problem(text) {
+        return detail;
     }
     match fault {
         LineFault::Number => explain_number(text),

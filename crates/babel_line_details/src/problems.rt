@@ -32,6 +32,8 @@ pub enum HexProblem {
 pub enum LineProblem<'a> {
     /// The line's last character is a carriage return.
     CarriageReturn,
+    /// The line begins with a byte order mark, which is not seen.
+    ByteOrderMark,
     /// The line isn't UTF-8.
     NotText,
     /// The log's line has none of the forms.
@@ -63,6 +65,9 @@ impl fmt::Display for LineProblem<'_> {
             LineProblem::Hex(problem, text) => return write_hex(problem, text, f),
             LineProblem::CarriageReturn => {
                 "the line ends in a carriage return; end each line with a line feed alone"
+            }
+            LineProblem::ByteOrderMark => {
+                "the line begins with a byte order mark (U+FEFF); write the file without one"
             }
             LineProblem::NotText => "the line is not UTF-8",
             LineProblem::TooLong => "the line has more than 131200 octets",
@@ -137,6 +142,17 @@ fn write_hex<W: fmt::Write>(
         ),
         HexProblem::TooMany => f.write_str("there are more octets than a datagram can have"),
     }
+}
+
+/// What is wrong with a line of text by signs that are not seen: what it begins and ends with.
+pub(crate) fn unseen_problem(text: &str) -> Option<LineDetail<'_>> {
+    if text.starts_with('\u{feff}') {
+        return Some(LineDetail::of_line(LineProblem::ByteOrderMark));
+    }
+    if text.ends_with('\r') {
+        return Some(LineDetail::of_line(LineProblem::CarriageReturn));
+    }
+    None
 }
 
 /// What is wrong with a line, and in which column.

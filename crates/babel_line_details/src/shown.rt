@@ -1,5 +1,6 @@
 //! The field of a line of `show` that can't be read.
 
+use crate::problems::unseen_problem;
 use crate::{HexProblem, LineDetail, LineProblem, explain_log_line};
 use babel_text::LineFault;
 
@@ -15,8 +16,8 @@ fn explain_fields(line: &[u8], fault: LineFault) -> LineDetail<'_> {
     let Ok(text) = str::from_utf8(line) else {
         return LineDetail::of_line(LineProblem::NotText);
     };
-    if text.ends_with('\r') {
-        return LineDetail::of_line(LineProblem::CarriageReturn);
+    if let Some(detail) = unseen_problem(text) {
+        return detail;
     }
     let (source, hex) = text.split_once(' ').unwrap_or(("", text));
     match fault {
