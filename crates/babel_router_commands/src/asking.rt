@@ -46,12 +46,10 @@ pub fn run_ask<F: AllocGlobal + Net, W: Write, E: Write + IsTerminal>(
     err: &mut E,
 ) -> Status {
     let word = argument(arguments, "question");
-    let Some(question) = parse_question(word, arguments.get_str("prefix")) else {
+    let prefix = arguments.get_str("prefix");
+    let Some(question) = parse_question(word, prefix) else {
         // If writing fails too, the status still reports it.
-        let _ = writeln!(
-            err,
-            "babel ask: neighbours, routes, why PREFIX, log or counts"
-        );
+        let _ = explain_question(word, prefix, err);
         return Status::Usage;
     };
     let form = form_of(arguments, colours);
@@ -65,6 +63,22 @@ pub fn run_ask<F: AllocGlobal + Net, W: Write, E: Write + IsTerminal>(
         let _ = explain(arguments, refused, err);
     }
     status
+}
+
+/// Writes why the words are no question, and what the questions are.
+fn explain_question<E: Write>(word: &str, prefix: Option<&str>, err: &mut E) -> io::Result<()> {
+    write!(err, "babel ask: ")?;
+    match prefix {
+        None if word == "why" => write!(err, "why needs a PREFIX, as 10.0.0.0/8")?,
+        Some(prefix) if parse_question(word, None).is_some() => {
+            write!(err, "{word} takes no PREFIX, and {} came", Excerpt(prefix))?
+        }
+        _ => write!(err, "{} is no question", Excerpt(word))?,
+    }
+    writeln!(
+        err,
+        "; ask neighbours, routes, why PREFIX, log or counts"
+    )
 }
 
 /// In which form the reply is shown.
