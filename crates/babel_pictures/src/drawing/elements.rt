@@ -4,6 +4,13 @@ use crate::drawing::numbers::{Place, whole};
 use std::fmt::Display;
 use std::io::{self, Write};
 
+/// The attributes of a text that begins at its place, of one around it, and of one that ends there.
+pub(crate) const START: &str = "class=\"quiet\" text-anchor=\"start\"";
+
+pub(crate) const MIDDLE: &str = "class=\"quiet\" text-anchor=\"middle\"";
+
+pub(crate) const END: &str = "class=\"quiet\" text-anchor=\"end\"";
+
 /// Writes a line from one place to another. The attributes are those that it has besides.
 pub(crate) fn write_line<W: Write>(
     attributes: &str,

@@ -22,10 +22,15 @@ const TOP: i64 = 78;
 /// Writes a picture as SVG.
 pub fn write_svg<W: Write>(alloc: Global, picture: &Picture, out: &mut W) -> io::Result<()> {
     let layout = place_nodes(alloc, picture)?;
-    write_drawing(picture, &layout, out)
+    write_drawing(alloc, picture, &layout, out)
 }
 
-fn write_drawing<W: Write>(picture: &Picture, layout: &Layout, out: &mut W) -> io::Result<()> {
+fn write_drawing<W: Write>(
+    alloc: Global,
+    picture: &Picture,
+    layout: &Layout,
+    out: &mut W,
+) -> io::Result<()> {
     let inner = whole(greater(layout.size.x, 0.0)).clamp(MIN_WIDTH, i64::MAX / 8);
     let width = inner + 2 * MARGIN;
     let drawn = whole(layout.size.y).clamp(0, i64::MAX / 8);
@@ -36,7 +41,7 @@ fn write_drawing<W: Write>(picture: &Picture, layout: &Layout, out: &mut W) -> i
     writeln!(out, "<g transform=\"translate({indent} {TOP})\">")?;
     write_network(picture, layout, out)?;
     writeln!(out, "</g>\n<g transform=\"translate({MARGIN} {below})\">")?;
-    write_timeline(picture, inner, out)?;
+    write_timeline(alloc, picture, inner, out)?;
     writeln!(out, "</g>\n</svg>")
 }
 

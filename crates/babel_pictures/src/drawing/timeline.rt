@@ -1,26 +1,12 @@
 //! The timeline of an SVG: a row for each node, and the moments at which something happened.
 
-use crate::drawing::elements::{write_text, write_upright};
-use crate::drawing::numbers::{number, smaller, time, whole};
-use crate::drawing::pictures::{Hop, Mark, Picture, Row, Span, Timeline};
-use crate::drawing::texts::{Escaped, Seconds, Short, drawn_len};
+use crate::drawing::elements::{END, MIDDLE, write_text, write_upright};
+use crate::drawing::marks::{marks_height, write_marks};
+use crate::drawing::pictures::{Hop, Picture, Row, Span, Timeline};
+use crate::drawing::scale::{NAMES, Scale};
+use crate::drawing::texts::{Seconds, Short, drawn_len};
+use std::alloc::Global;
 use std::io::{self, Write};
-
-/// The attributes of a text that begins at its place, of one around it, and of one that ends there.
-const START: &str = "class=\"quiet\" text-anchor=\"start\"";
-
-const MIDDLE: &str = "class=\"quiet\" text-anchor=\"middle\"";
-
-const END: &str = "class=\"quiet\" text-anchor=\"end\"";
-
-/// The width of the names on the left, in pixels.
-const NAMES: i64 = 112;
-
-/// The height of a lane of marks, in pixels.
-const LANE: i64 = 15;
-
-/// The most lanes of marks.
-const MAX_LANES: usize = 6;
 
 /// The height of a row, in pixels.
 fn row_height(rows: usize) -> i64 {
@@ -41,64 +27,23 @@ const STEPS: [u64; 16] = [
 /// The classes of the colours of next hops, by their numbers.
 const COLORS: [&str; 8] = ["v0", "v1", "v2", "v3", "v4", "v5", "v6", "v7"];
 
-/// How many lanes there are for the texts of marks.
-fn lane_count(timeline: &Timeline) -> i64 {
-    timeline.marks.len().clamp(1, MAX_LANES) as i64
-}
-
-/// The room of the marks above the rows, in pixels.
-fn marks_height(timeline: &Timeline) -> i64 {
-    LANE.saturating_mul(lane_count(timeline)).saturating_add(24)
-}
-
 /// The height of the timeline, in pixels.
 pub(crate) fn timeline_height(timeline: &Timeline) -> i64 {
-    marks_height(timeline)
+    marks_height(&timeline.marks)
         .saturating_add(rows_height(timeline.rows.len()))
         .saturating_add(46)
 }
 
-/// Where a moment is, in pixels from the left, for rows of this width.
-#[derive(Clone, Copy)]
-struct Scale {
-    begin: u64,
-    end: u64,
-    width: i64,
-}
-
-impl Scale {
-    fn new(timeline: &Timeline, width: i64) -> Scale {
-        Scale {
-            begin: timeline.begin,
-            end: timeline.end,
-            width: width.clamp(NAMES + 100, 100_000) - NAMES,
-        }
-    }
-
-    /// How many centiseconds the rows show; not 0.
-    fn shown(&self) -> u64 {
-        self.end.saturating_sub(self.begin).max(1)
-    }
-
-    fn at(&self, moment: u64) -> i64 {
-        let past = moment
-            .clamp(self.begin.min(self.end), self.end)
-            .saturating_sub(self.begin);
-        let width = number(self.width.clamp(0, 100_000) as usize);
-        let part = smaller(time(past) / time(self.shown()), 1.0);
-        NAMES + whole(part * width).clamp(0, 100_000)
-    }
-}
-
 /// Writes the timeline of a picture that is so many pixels wide.
 pub(crate) fn write_timeline<W: Write>(
+    alloc: Global,
     picture: &Picture,
     width: i64,
     out: &mut W,
 ) -> io::Result<()> {
     let timeline = &picture.timeline;
     let scale = Scale::new(timeline, width);
-    let top = marks_height(timeline);
+    let top = marks_height(&timeline.marks);
     let bottom = top.saturating_add(rows_height(timeline.rows.len()));
     write_axis(&scale, top, bottom, out)?;
     let mut y = top;
@@ -107,7 +52,7 @@ pub(crate) fn write_timeline<W: Write>(
         write_row(picture, row, &scale, y, out)?;
         y = y.saturating_add(row_height(timeline.rows.len()));
     }
-    write_marks(&timeline.marks, &scale, top, bottom, out)?;
+    write_marks(alloc, &timeline.marks, &scale, (top, bottom), out)?;
     write_moment(timeline.moment, &scale, top, bottom, out)
 }
 
@@ -225,71 +170,6 @@ fn name_of(picture: &Picture, node: usize) -> &str {
     }
 }
 
-/// Writes the moments at which something happened. The text of an earlier one is above those after
-/// it that it would reach, so that no line goes through a text.
-fn write_marks<W: Write>(
-    marks: &[Mark],
-    scale: &Scale,
-    top: i64,
-    bottom: i64,
-    out: &mut W,
-) -> io::Result<()> {
-    let mut starts = [i64::MAX; MAX_LANES];
-    for mark in marks.iter().rev() {
-        if mark.at < scale.begin || mark.at > scale.end {
-            continue;
-        }
-        let x = scale.at(mark.at);
-        let length = mark.text.chars().count().min(1000) as i64 * 7 + 12;
-        let lane = take_lane(&mut starts, x, x.saturating_add(length));
-        let y = top
-            .saturating_sub(LANE.saturating_mul(lane))
-            .saturating_sub(5);
-        let is_wide = x.saturating_add(length) > NAMES.saturating_add(scale.width);
-        let side = if is_wide { Side::Left } else { Side::Right };
-        write_mark(mark, (x, y), bottom, side, out)?;
-    }
-    Ok(())
-}
-
-/// The lowest lane in which, and above which, nothing begins before a text ends; the highest one if
-/// there is none.
-fn take_lane(starts: &mut [i64; MAX_LANES], x: i64, end: i64) -> i64 {
-    let mut lane = 0usize;
-    for (index, start) in starts.iter().enumerate() {
-        if *start < end {
-            lane = index.saturating_add(1).min(MAX_LANES - 1);
-        }
-    }
-    if let Some(start) = starts.get_mut(lane) {
-        *start = x;
-    }
-    lane.min(MAX_LANES) as i64
-}
-
-/// On which side of its line the text of a mark is.
-#[derive(Clone, Copy)]
-enum Side {
-    Left,
-    Right,
-}
-
-fn write_mark<W: Write>(
-    mark: &Mark,
-    at: (i64, i64),
-    bottom: i64,
-    side: Side,
-    out: &mut W,
-) -> io::Result<()> {
-    let (x, y) = at;
-    let (attributes, begin) = match side {
-        Side::Left => (END, x.saturating_sub(4)),
-        Side::Right => (START, x.saturating_add(4)),
-    };
-    write_upright("mark", x, y, bottom, out)?;
-    write_text(attributes, (begin, y), &Escaped(&mark.text), out)
-}
-
 /// The text at the moment that the network is drawn at.
 const SHOWN: &str = "shown above";
 
@@ -310,7 +190,7 @@ fn write_moment<W: Write>(
     let text = bottom.saturating_add(32);
     let high = top.saturating_sub(2);
     write_upright("moment", x, high, low, out)?;
-    let is_wide = x.saturating_add(HALF_SHOWN) > NAMES.saturating_add(scale.width);
+    let is_wide = x.saturating_add(HALF_SHOWN) > scale.right();
     let attributes = if is_wide { END } else { MIDDLE };
     write_text(attributes, (x, text), &SHOWN, out)
 }
