@@ -7,7 +7,7 @@
 use crate::drawing::elements::{END, START, write_text, write_upright};
 use crate::drawing::pictures::Mark;
 use crate::drawing::scale::Scale;
-use crate::drawing::texts::Escaped;
+use crate::drawing::texts::{ShortNames, short_names_len};
 use std::alloc::{AllocError, Global};
 use std::io::{self, Write};
 
@@ -135,7 +135,7 @@ fn labels_of<'m>(
 
 /// How long the text of a mark is, in pixels, with the room around it.
 fn length_of(mark: &Mark) -> i64 {
-    let letters = mark.text.chars().count().min(1000) as i64;
+    let letters = short_names_len(&mark.text).min(1000) as i64;
     letters.saturating_mul(7).saturating_add(12)
 }
 
@@ -187,5 +187,5 @@ fn write_label<W: Write>(
         Side::Left => (END, label.line.saturating_sub(4)),
         Side::Right => (START, label.line.saturating_add(4)),
     };
-    write_text(attributes, (x, y), &Escaped(&label.mark.text), out)
+    write_text(attributes, (x, y), &ShortNames(&label.mark.text), out)
 }

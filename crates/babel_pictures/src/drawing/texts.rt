@@ -59,6 +59,60 @@ pub(crate) fn drawn_len(name: &str) -> usize {
     name.chars().count().min(MAX_NAME_LEN)
 }
 
+/// The most characters of a prefix.
+const MAX_PREFIX_LEN: usize = 43;
+
+/// Whether a word of a step is a prefix, which is drawn whole. A name may have a slash too.
+fn is_whole(word: &str) -> bool {
+    word.contains('/') && word.chars().count() <= MAX_PREFIX_LEN
+}
+
+/// The text of a step in XML. Its words are names, two of them with a dash between for a link, and
+/// the long ones are cut off.
+#[derive(Clone, Copy)]
+pub(crate) struct ShortNames<'a>(pub(crate) &'a str);
+
+impl fmt::Display for ShortNames<'_> {
+    fn fmt<W: fmt::Write>(&self, f: &mut fmt::Formatter<W>) -> fmt::Result {
+        for (index, word) in self.0.split(' ').enumerate() {
+            if index > 0 {
+                f.write_char(' ')?;
+            }
+            write_word(word, f)?;
+        }
+        Ok(())
+    }
+}
+
+fn write_word<W: fmt::Write>(word: &str, f: &mut fmt::Formatter<W>) -> fmt::Result {
+    if is_whole(word) {
+        return write!(f, "{}", Escaped(word));
+    }
+    match word.split_once('-') {
+        Some((a, b)) => write!(f, "{}-{}", Short(a), Short(b)),
+        None => write!(f, "{}", Short(word)),
+    }
+}
+
+/// How many characters of the text of a step are drawn.
+pub(crate) fn short_names_len(text: &str) -> usize {
+    let mut length = 0usize;
+    for word in text.split(' ') {
+        length = length.saturating_add(word_len(word)).saturating_add(1);
+    }
+    length.saturating_sub(1)
+}
+
+fn word_len(word: &str) -> usize {
+    if is_whole(word) {
+        return word.chars().count();
+    }
+    match word.split_once('-') {
+        Some((a, b)) => drawn_len(a).saturating_add(drawn_len(b)).saturating_add(1),
+        None => drawn_len(word),
+    }
+}
+
 /// A text between quotation marks of DOT.
 #[derive(Clone, Copy)]
 pub(crate) struct Quoted<'a>(pub(crate) &'a str);
