@@ -14,7 +14,7 @@ use std::io::{self, Write};
 const MIN_WIDTH: i64 = 920;
 
 /// The room around everything, in pixels.
-const MARGIN: i64 = 20;
+pub(crate) const MARGIN: i64 = 20;
 
 /// Where the network begins, in pixels from above.
 const TOP: i64 = 78;

@@ -148,3 +148,21 @@ impl fmt::Display for Seconds {
         }
     }
 }
+
+/// How many characters [`Seconds`] has.
+pub(crate) fn seconds_len(centiseconds: u64) -> i64 {
+    let mut rest = centiseconds / 1000;
+    let mut length = 3i64;
+    for _digit in 0..20 {
+        if rest == 0 {
+            break;
+        }
+        rest /= 10;
+        length = length.saturating_add(1);
+    }
+    match (centiseconds / 10 % 10, centiseconds % 10) {
+        (0, 0) => length,
+        (_, 0) => length.saturating_add(2),
+        _ => length.saturating_add(3),
+    }
+}

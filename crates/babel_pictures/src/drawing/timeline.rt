@@ -4,7 +4,8 @@ use crate::drawing::elements::{END, MIDDLE, write_text, write_upright};
 use crate::drawing::marks::{marks_height, write_marks};
 use crate::drawing::pictures::{Hop, Picture, Row, Span, Timeline};
 use crate::drawing::scale::{NAMES, Scale};
-use crate::drawing::texts::{Seconds, Short, drawn_len};
+use crate::drawing::svg::MARGIN;
+use crate::drawing::texts::{Seconds, Short, drawn_len, seconds_len};
 use std::alloc::Global;
 use std::io::{self, Write};
 
@@ -78,9 +79,17 @@ fn write_axis<W: Write>(scale: &Scale, top: i64, bottom: i64, out: &mut W) -> io
         }
         let x = scale.at(moment);
         write_upright("line", x, top, bottom, out)?;
-        write_text(MIDDLE, (x, low), &Seconds(moment), out)?;
+        write_text(MIDDLE, (label_at(scale, moment), low), &Seconds(moment), out)?;
     }
     Ok(())
+}
+
+/// Where the middle of the number of a moment is: at the moment, or so far to the left of it that
+/// the number is in the picture.
+fn label_at(scale: &Scale, moment: u64) -> i64 {
+    let half = seconds_len(moment).saturating_mul(3).saturating_add(1);
+    let last = scale.right().saturating_add(MARGIN).saturating_sub(half);
+    scale.at(moment).min(last)
 }
 
 fn write_name<W: Write>(picture: &Picture, node: usize, y: i64, out: &mut W) -> io::Result<()> {
