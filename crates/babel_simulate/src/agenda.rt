@@ -50,6 +50,11 @@ impl Agenda {
         Ok(())
     }
 
+    /// How many things are still to happen. Datagrams on links are most of them.
+    pub(crate) fn len(&self) -> usize {
+        self.entries.len()
+    }
+
     /// Takes what happens first, with its moment.
     pub(crate) fn pop(&mut self) -> Option<(u64, Entry)> {
         match self.entries.pop_first() {

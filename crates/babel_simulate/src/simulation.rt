@@ -180,7 +180,8 @@ impl<'a> Simulation<'a> {
 
     /// How many octets of memory the record of the datagrams and what else grows with the run take,
     /// at most. The network records each datagram, since the theorem speaks of all that were ever
-    /// sent. A list that grows has twice its room.
+    /// sent. Those that are on links wait in the agenda, once for each link. A list that grows has
+    /// twice its room, and so has a tree whose nodes are half full.
     fn memory(&self) -> u64 {
         let recorded = self
             .sent
@@ -190,7 +191,9 @@ impl<'a> Simulation<'a> {
         let events = (self.events.len() as u64).saturating_mul(EVENT_LEN);
         let changes = (self.outcome.changes.len() as u64).saturating_mul(CHANGE_LEN);
         let ways = self.way_count.saturating_mul(WAY_LEN);
+        let agenda = (self.agenda.len() as u64).saturating_mul(ENTRY_LEN);
         recorded
+            .saturating_add(agenda)
             .saturating_add(events)
             .saturating_add(changes)
             .saturating_add(ways)
@@ -210,6 +213,10 @@ impl<'a> Simulation<'a> {
 
 /// How many octets a recorded datagram takes in addition to its own.
 const RECORDED_LEN: u64 = 48;
+
+/// How many octets something takes that is still to happen: its moment and number, what it is, and
+/// its share of the node of the tree.
+const ENTRY_LEN: u64 = 72;
 
 /// How many octets an event takes.
 const EVENT_LEN: u64 = 40;
