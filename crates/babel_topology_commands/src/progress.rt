@@ -1,5 +1,6 @@
 //! The line of a terminal that shows how far a run is.
 
+use clap::ArgMatches;
 use std::io::{IsTerminal, Write};
 use std::time::{Clock, Instant};
 
@@ -16,9 +17,14 @@ pub(crate) struct Sight {
 }
 
 impl Sight {
-    /// The line of a run that begins.
-    pub(crate) fn new<F: Clock, E: IsTerminal>(rt: &F, err: &E) -> Sight {
-        let start = if err.is_terminal() {
+    /// The line of a run that begins. With `--json` there is none: the standard error has objects
+    /// alone then, and `err` reports that it is a terminal, so that sentences are written to it.
+    pub(crate) fn new<F: Clock, E: IsTerminal>(
+        rt: &F,
+        arguments: &ArgMatches<'_>,
+        err: &E,
+    ) -> Sight {
+        let start = if err.is_terminal() && !arguments.get_flag("json") {
             Instant::now(rt).ok()
         } else {
             None

@@ -153,7 +153,11 @@ fn run<F: AllocGlobal + Files + Clock, E: Write + IsTerminal>(
         Ok(simulation) => simulation,
         Err(fault) => return Err(Refused::at(fault, 0)),
     };
-    run_to_end(rt, &mut simulation, options.duration, err)?;
+    let mut sight = Sight::new(rt, arguments, err);
+    let ended = run_to_end(rt, &mut simulation, options.duration, &mut sight, err);
+    // A refusal is no part of the line.
+    sight.end(err);
+    ended?;
     if let Some(path) = arguments.get_str("scenario") {
         keep_scenario(rt, path, topology, &simulation)?;
     }
@@ -163,15 +167,15 @@ fn run<F: AllocGlobal + Files + Clock, E: Write + IsTerminal>(
     }
 }
 
-fn run_to_end<F: Clock, E: Write + IsTerminal>(
+fn run_to_end<F: Clock, E: Write>(
     rt: &F,
     simulation: &mut Simulation<'_>,
     duration: u64,
     err: &mut E,
 ) -> Result<(), Refused> {
-    let mut sight = Sight::new(rt, err);
     for count in 0..u64::MAX {
         match simulation.advance() {
+    sight: &mut Sight,
             Ok(Progress::At(now)) => {
                 if count % LOOK_AFTER == 0 {
                     sight.look(rt, now, duration, err);
@@ -181,7 +185,6 @@ fn run_to_end<F: Clock, E: Write + IsTerminal>(
             Err(fault) => return Err(Refused::at(fault, simulation.now())),
         }
     }
-    sight.end(err);
     Ok(())
 }
 
