@@ -44,10 +44,18 @@ pub fn fault_form(command: CommandName, arguments: &ArgMatches<'_>) -> FaultForm
 }
 
 /// The files that a sentence may begin with.
-pub fn files_of<'m>(arguments: &'m ArgMatches<'_>) -> [&'m str; 5] {
+pub fn files_of<'m>(arguments: &'m ArgMatches<'_>) -> [&'m str; 6] {
+    let topology = argument(arguments, "topology");
     let config = argument(arguments, "config");
     let log = argument(arguments, "log");
     let scenario = argument(arguments, "scenario");
     let restore = argument(arguments, "restore");
-    [config, log, scenario, restore, "standard input"]
+    [
+        topology,
+        config,
+        log,
+        scenario,
+        restore,
+        "standard input",
+    ]
 }
