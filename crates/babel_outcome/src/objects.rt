@@ -2,7 +2,7 @@
 
 use crate::outcome::{Counts, HopChange, HopKind, Phase, Route, Tested};
 use crate::shown::{NumberOr, Shown};
-use babel_topology::Step;
+use babel_topology::{NextHop, Step};
 use babel_value::Prefix;
 use std::alloc::Global;
 use std::fmt;
@@ -28,6 +28,7 @@ pub fn write_objects<W: Write>(alloc: Global, shown: &Shown<'_>, out: &mut W) ->
     for tested in &shown.outcome.tested {
         write_tested(shown, tested, out)?;
     }
+    write_untested(shown, out)?;
     write_end(shown, out)
 }
 
@@ -195,6 +196,21 @@ fn write_tested<W: Write>(shown: &Shown<'_>, tested: &Tested, out: &mut W) -> io
         Via(shown.via(tested.found)),
         tested.is_met
     )
+}
+
+/// Writes the expectations that are later than the run. None is met, since nothing was found.
+fn write_untested<W: Write>(shown: &Shown<'_>, out: &mut W) -> io::Result<()> {
+    for (number, expectation) in shown.topology.expectations.iter().enumerate() {
+        if expectation.at > shown.outcome.ended {
+            let untested = Tested {
+                expectation: number,
+                found: NextHop::Unreachable,
+                is_met: false,
+            };
+            write_tested(shown, &untested, out)?;
+        }
+    }
+    Ok(())
 }
 
 fn write_end<W: Write>(shown: &Shown<'_>, out: &mut W) -> io::Result<()> {
