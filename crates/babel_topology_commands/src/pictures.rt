@@ -32,14 +32,13 @@ pub(crate) fn write_pictures<F: AllocGlobal + Files>(
     if svg.is_none() && dot.is_none() {
         return Ok(());
     }
-    let Some(prefix) = drawn_prefix(shown) else {
-        return Ok(());
-    };
+    let prefix = drawn_prefix(shown);
     let picture = picture_of(rt.alloc(), shown, Scene { prefix, at })?;
     write_files(rt, &picture, svg, dot)
 }
 
-/// The prefix that is drawn: the one that is asked for, or else the first one.
+/// The prefix that is drawn: the one that is asked for, or else the first one. Without any the
+/// network is drawn alone.
 fn drawn_prefix(shown: &Shown<'_>) -> Option<Prefix> {
     match shown.prefix {
         Some(prefix) => Some(prefix),

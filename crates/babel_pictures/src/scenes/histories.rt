@@ -64,7 +64,7 @@ enum Change {
 pub(crate) fn rows_of(
     alloc: Global,
     shown: &Shown<'_>,
-    prefix: Prefix,
+    prefix: Option<Prefix>,
 ) -> Result<Vec<Row>, AllocError> {
     let mut rows = Vec::with_capacity(alloc, shown.topology.nodes.len())?;
     for (number, node) in shown.topology.nodes.iter().enumerate() {
@@ -79,7 +79,7 @@ pub(crate) fn rows_of(
 fn push_spans(
     shown: &Shown<'_>,
     (number, node): (usize, &Node),
-    prefix: Prefix,
+    prefix: Option<Prefix>,
     spans: &mut Vec<Span>,
 ) -> Result<(), AllocError> {
     let mut state = State {
@@ -90,7 +90,7 @@ fn push_spans(
     push_span(spans, 0, state)?;
     let mut next = 0usize;
     for change in &shown.outcome.changes {
-        if change.node == number && shown.outcome.prefixes.get(change.prefix) == Some(&prefix) {
+        if change.node == number && shown.outcome.prefixes.get(change.prefix).copied() == prefix {
             let steps = shown.steps_until(next, change.at);
             state = take_steps(steps, state, (number, prefix), spans)?;
             next = next.saturating_add(steps.len());
@@ -108,9 +108,9 @@ fn push_spans(
 }
 
 /// Whether a node announces a prefix at first.
-fn origin_of(node: &Node, prefix: Prefix) -> Origin {
+fn origin_of(node: &Node, prefix: Option<Prefix>) -> Origin {
     for own in &node.prefixes {
-        if *own == prefix {
+        if Some(*own) == prefix {
             return Origin::Own;
         }
     }
@@ -121,7 +121,7 @@ fn origin_of(node: &Node, prefix: Prefix) -> Origin {
 fn take_steps(
     steps: &[Step],
     begin: State,
-    (node, prefix): (usize, Prefix),
+    (node, prefix): (usize, Option<Prefix>),
     spans: &mut Vec<Span>,
 ) -> Result<State, AllocError> {
     let mut state = begin;
@@ -150,10 +150,10 @@ fn change_by(action: Action) -> Option<(usize, Option<Prefix>, Change)> {
 }
 
 /// What an action changes of a node and its ways to a prefix.
-fn change_of(action: Action, about: usize, prefix: Prefix) -> Option<Change> {
+fn change_of(action: Action, about: usize, prefix: Option<Prefix>) -> Option<Change> {
     let (node, only, change) = change_by(action)?;
     let is_other = match only {
-        Some(only) => only != prefix,
+        Some(only) => Some(only) != prefix,
         None => false,
     };
     if node != about || is_other {

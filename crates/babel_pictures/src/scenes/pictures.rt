@@ -10,8 +10,8 @@ use std::alloc::{AllocError, Global};
 /// What of a run is drawn.
 #[derive(Clone, Copy)]
 pub struct Scene {
-    /// The prefix.
-    pub prefix: Prefix,
+    /// The prefix; `None`: no next hops are drawn.
+    pub prefix: Option<Prefix>,
     /// The moment of the picture, in centiseconds.
     pub at: u64,
 }
@@ -24,11 +24,18 @@ pub struct Scene {
 pub fn picture_of(alloc: Global, shown: &Shown<'_>, scene: Scene) -> Result<Picture, AllocError> {
     let timeline = timeline_of(alloc, shown, scene)?;
     Ok(Picture {
-        title: format!(in alloc; "Next hops to {}", scene.prefix)?,
+        title: title_of(alloc, scene.prefix)?,
         nodes: nodes_at(alloc, shown, &timeline.rows, timeline.moment)?,
         links: links_at(alloc, shown, timeline.moment)?,
         timeline,
     })
+}
+
+fn title_of(alloc: Global, prefix: Option<Prefix>) -> Result<String, AllocError> {
+    match prefix {
+        Some(prefix) => format!(in alloc; "Next hops to {prefix}"),
+        None => format!(in alloc; "A network without prefixes"),
+    }
 }
 
 fn timeline_of(alloc: Global, shown: &Shown<'_>, scene: Scene) -> Result<Timeline, AllocError> {
