@@ -1,9 +1,9 @@
 //! The pictures of `simulate`: which are asked for, and their files.
 
 use crate::refusals::Refused;
+use crate::targets::{Target, keep_target};
 use babel_outcome::Shown;
 use babel_pictures::{Picture, Scene, picture_of, write_dot, write_svg};
-use babel_snapshot_file::replace_file;
 use babel_topology::parse_time;
 use babel_value::Prefix;
 use clap::ArgMatches;
@@ -65,7 +65,7 @@ fn keep_svg<F: AllocGlobal + Files>(rt: &F, picture: &Picture, path: &str) -> Re
     let mut octets = Vec::new(rt.alloc());
     // Writing into memory fails only if an allocation does.
     match write_svg(rt.alloc(), picture, &mut octets) {
-        Ok(()) => keep(rt, path, &octets),
+        Ok(()) => keep_target(rt, Target::Svg, path, &octets),
         Err(_) => Err(Refused::Memory),
     }
 }
@@ -73,14 +73,7 @@ fn keep_svg<F: AllocGlobal + Files>(rt: &F, picture: &Picture, path: &str) -> Re
 fn keep_dot<F: AllocGlobal + Files>(rt: &F, picture: &Picture, path: &str) -> Result<(), Refused> {
     let mut octets = Vec::new(rt.alloc());
     match write_dot(picture, &mut octets) {
-        Ok(()) => keep(rt, path, &octets),
+        Ok(()) => keep_target(rt, Target::Dot, path, &octets),
         Err(_) => Err(Refused::Memory),
-    }
-}
-
-fn keep<F: AllocGlobal + Files>(rt: &F, path: &str, octets: &[u8]) -> Result<(), Refused> {
-    match replace_file(rt.alloc(), rt, path, octets) {
-        Ok(()) => Ok(()),
-        Err(_) => Err(Refused::Picture),
     }
 }

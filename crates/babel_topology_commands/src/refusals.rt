@@ -1,5 +1,6 @@
 //! Why the command `simulate` is refused, as a code and as a sentence.
 
+use crate::targets::Target;
 use babel_arguments::{argument, explain_unreadable, octets_of};
 use babel_file_details::{FileText, explain_topology};
 use babel_line_details::Excerpt;
@@ -26,12 +27,10 @@ pub(crate) enum Refused {
     /// T20: the run would take more memory than it may. The moment at which it ended, in
     /// centiseconds.
     Limit(u64),
-    /// T21: the file of the scenario can't be written.
-    Scenario,
+    /// T21, T23: the file of an option can't be written.
+    Unwritable(Target),
     /// T22: the moment of `--at` can't be read.
     Moment,
-    /// T23: the file of a picture can't be written.
-    Picture,
     /// L7: the output can't be written.
     Output,
     /// L8: an allocation failed.
@@ -60,9 +59,8 @@ impl fmt::Display for Refused {
             }
             Refused::Net(fault) => f.write_str(fault.code()),
             Refused::Limit(_) => f.write_str("T20"),
-            Refused::Scenario => f.write_str("T21"),
+            Refused::Unwritable(target) => f.write_str(target.code()),
             Refused::Moment => f.write_str("T22"),
-            Refused::Picture => f.write_str("T23"),
             Refused::Output => f.write_str("L7"),
             Refused::Memory => f.write_str("L8"),
         }
@@ -112,10 +110,11 @@ pub(crate) fn explain<F: AllocGlobal + Files, E: Write>(
             "--prefix {} is not a prefix, as 10.0.0.0/8 or 2001:db8::/32",
             Excerpt(argument(arguments, "prefix"))
         ),
-        Refused::Scenario => writeln!(
+        Refused::Unwritable(target) => writeln!(
             err,
-            "--scenario {}: the file can't be written",
-            Excerpt(argument(arguments, "scenario"))
+            "--{} {}: the file can't be written; look at its folder, permissions and space",
+            target.name(),
+            Excerpt(argument(arguments, target.name()))
         ),
         Refused::Moment => writeln!(
             err,
@@ -123,7 +122,6 @@ pub(crate) fn explain<F: AllocGlobal + Files, E: Write>(
              as \"60 s\"",
             Excerpt(argument(arguments, "at"))
         ),
-        Refused::Picture => writeln!(err, "the file of --svg or --dot can't be written"),
         Refused::Output => writeln!(err, "the output can't be written"),
         Refused::Memory => writeln!(err, "out of memory"),
     }

@@ -3,12 +3,12 @@
 use crate::pictures::{moment_of, write_pictures};
 use crate::progress::Sight;
 use crate::refusals::{Refused, explain};
-use babel_arguments::{argument, wants_details};
+use crate::targets::{Target, keep_target};
+use babel_arguments::{NotingWriter, argument, explain_output, wants_details};
 use babel_commands::{Status, refuse};
 use babel_config::{FileFault, read_file};
 use babel_outcome::{Outcome, Shown, is_as_expected, write_objects, write_text};
 use babel_simulate::{KeptEvents, Options, Progress, Simulation, configs, write_scenario};
-use babel_snapshot_file::replace_file;
 use babel_text::parse_prefix;
 use babel_topology::file::read_topology;
 use babel_topology::{Topology, TopologyFault};
@@ -16,7 +16,7 @@ use babel_value::Prefix;
 use clap::ArgMatches;
 use std::alloc::Global;
 use std::fs::{self, Files};
-use std::io::{IsTerminal, Write};
+use std::io::{BufWriter, IsTerminal, Write};
 use std::time::Clock;
 
 /// How many MB of memory a run may take if nothing else is asked for.
@@ -29,10 +29,10 @@ const MB: u64 = 1_000_000;
 const LOOK_AFTER: u64 = 1024;
 
 /// Runs the network, and writes what became of it. Its fault is written.
-pub fn run_simulate<F: AllocGlobal + Files + Clock, W: Write, E: Write + IsTerminal>(
+pub fn run_simulate<F: AllocGlobal + Files + Clock, W: Write + Drop, E: Write + IsTerminal>(
     rt: &F,
     arguments: &ArgMatches<'_>,
-    out: &mut W,
+    out: &mut BufWriter<NotingWriter<W>>,
     err: &mut E,
 ) -> Status {
     let refused = match simulate(rt, arguments, out, err) {
@@ -42,7 +42,10 @@ pub fn run_simulate<F: AllocGlobal + Files + Clock, W: Write, E: Write + IsTermi
     let status = refuse(&refused, err);
     if wants_details(arguments, err) {
         // If writing the sentence fails, the status still reports the fault.
-        let _ = explain(rt, arguments, refused, err);
+        let _ = match (refused, out.get_ref().failure()) {
+            (Refused::Output, Some(failure)) => explain_output(failure, err),
+            _ => explain(rt, arguments, refused, err),
+        };
     }
     status
 }
@@ -171,11 +174,11 @@ fn run_to_end<F: Clock, E: Write>(
     rt: &F,
     simulation: &mut Simulation<'_>,
     duration: u64,
+    sight: &mut Sight,
     err: &mut E,
 ) -> Result<(), Refused> {
     for count in 0..u64::MAX {
         match simulation.advance() {
-    sight: &mut Sight,
             Ok(Progress::At(now)) => {
                 if count % LOOK_AFTER == 0 {
                     sight.look(rt, now, duration, err);
@@ -197,10 +200,7 @@ fn keep_scenario<F: AllocGlobal + Files>(
 ) -> Result<(), Refused> {
     let mut octets = Vec::new(rt.alloc());
     write_events(rt.alloc(), topology, simulation, &mut octets)?;
-    match replace_file(rt.alloc(), rt, path, octets.as_slice()) {
-        Ok(()) => Ok(()),
-        Err(_) => Err(Refused::Scenario),
-    }
+    keep_target(rt, Target::Scenario, path, octets.as_slice())
 }
 
 fn write_events(
