@@ -70,7 +70,8 @@ fn simulate<F: AllocGlobal + Files + Clock, W: Write, E: Write + IsTerminal>(
     show(rt, arguments, &shown, at, out)
 }
 
-/// Writes the pictures as they were at the moment, and then what became of the network.
+/// Writes what became of the network, and then the pictures as they were at the moment. So what is
+/// known of the run isn't lost if a picture can't be written.
 fn show<F: AllocGlobal + Files, W: Write>(
     rt: &F,
     arguments: &ArgMatches<'_>,
@@ -78,8 +79,8 @@ fn show<F: AllocGlobal + Files, W: Write>(
     at: u64,
     out: &mut W,
 ) -> Result<Status, Refused> {
-    write_pictures(rt, arguments, shown, at)?;
     write_outcome(rt.alloc(), arguments, shown, out)?;
+    write_pictures(rt, arguments, shown, at)?;
     if is_as_expected(shown) {
         Ok(Status::Done)
     } else {
