@@ -29,6 +29,8 @@ pub(crate) enum Refused {
     Limit(u64),
     /// T21, T23: the file of an option can't be written.
     Unwritable(Target),
+    /// T21, T23: the file of an option is that of another argument too, which is named.
+    Shared(Target, &'static str),
     /// T22: the moment of `--at` can't be read.
     Moment,
     /// L7: the output can't be written.
@@ -59,7 +61,7 @@ impl fmt::Display for Refused {
             }
             Refused::Net(fault) => f.write_str(fault.code()),
             Refused::Limit(_) => f.write_str("T20"),
-            Refused::Unwritable(target) => f.write_str(target.code()),
+            Refused::Unwritable(target) | Refused::Shared(target, _) => f.write_str(target.code()),
             Refused::Moment => f.write_str("T22"),
             Refused::Output => f.write_str("L7"),
             Refused::Memory => f.write_str("L8"),
@@ -116,6 +118,13 @@ pub(crate) fn explain<F: AllocGlobal + Files, E: Write>(
             target.name(),
             Excerpt(argument(arguments, target.name()))
         ),
+        Refused::Shared(target, other) => writeln!(
+            err,
+            "--{} {}: the file is that of {} too; name another one",
+            target.name(),
+            Excerpt(argument(arguments, target.name())),
+            shown_name(other)
+        ),
         Refused::Moment => writeln!(
             err,
             "--at {} is not a time; write a number up to 65535, a blank and ms, s or min, \
@@ -124,6 +133,15 @@ pub(crate) fn explain<F: AllocGlobal + Files, E: Write>(
         ),
         Refused::Output => writeln!(err, "the output can't be written"),
         Refused::Memory => writeln!(err, "out of memory"),
+    }
+}
+
+/// An argument that names a file, as the usage shows it.
+fn shown_name(name: &str) -> &str {
+    match name {
+        "topology" => "TOPOLOGY",
+        "scenario" => "--scenario",
+        _ => "--svg",
     }
 }
 

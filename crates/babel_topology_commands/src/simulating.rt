@@ -3,7 +3,7 @@
 use crate::pictures::{moment_of, write_pictures};
 use crate::progress::Sight;
 use crate::refusals::{Refused, explain};
-use crate::targets::{Target, keep_target};
+use crate::targets::{Target, keep_target, test_targets};
 use babel_arguments::{NotingWriter, argument, explain_output, wants_details};
 use babel_commands::{Status, refuse};
 use babel_config::{FileFault, read_file};
@@ -58,6 +58,7 @@ fn simulate<F: AllocGlobal + Files + Clock, W: Write, E: Write + IsTerminal>(
 ) -> Result<Status, Refused> {
     let prefix = prefix_of(arguments)?;
     let at = moment_of(arguments)?;
+    test_targets(arguments)?;
     let topology = topology_of(rt, arguments)?;
     let options = options_of(arguments, &topology);
     let outcome = run(rt, arguments, &topology, options, err)?;

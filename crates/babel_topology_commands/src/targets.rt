@@ -2,6 +2,7 @@
 
 use crate::refusals::Refused;
 use babel_snapshot_file::{SnapshotFileFault, replace_file};
+use clap::ArgMatches;
 use std::fs::Files;
 
 /// An option that names a file to be written.
@@ -53,4 +54,33 @@ pub(crate) fn keep_target<F: AllocGlobal + Files>(
         Ok(()) => Ok(()),
         Err(fault) => Err(target.refused(fault)),
     }
+}
+
+/// Refuses a file to be written that another argument names too: it would be replaced.
+pub(crate) fn test_targets(arguments: &ArgMatches<'_>) -> Result<(), Refused> {
+    test_target(arguments, Target::Scenario, &["topology"])?;
+    test_target(arguments, Target::Svg, &["topology", "scenario"])?;
+    test_target(arguments, Target::Dot, &["topology", "scenario", "svg"])
+}
+
+fn test_target(
+    arguments: &ArgMatches<'_>,
+    target: Target,
+    others: &[&'static str],
+) -> Result<(), Refused> {
+    let Some(path) = path_of(arguments, target.name()) else {
+        return Ok(());
+    };
+    for other in others {
+        if path_of(arguments, other) == Some(path) {
+            return Err(Refused::Shared(target, *other));
+        }
+    }
+    Ok(())
+}
+
+/// The path that an argument names. `./` before it makes no other path of it.
+fn path_of<'m>(arguments: &'m ArgMatches<'_>, name: &str) -> Option<&'m str> {
+    let path = arguments.get_str(name)?;
+    Some(path.strip_prefix("./").unwrap_or(path))
 }
