@@ -50,12 +50,5 @@ pub fn files_of<'m>(arguments: &'m ArgMatches<'_>) -> [&'m str; 6] {
     let log = argument(arguments, "log");
     let scenario = argument(arguments, "scenario");
     let restore = argument(arguments, "restore");
-    [
-        topology,
-        config,
-        log,
-        scenario,
-        restore,
-        "standard input",
-    ]
+    [topology, config, log, scenario, restore, "standard input"]
 }
