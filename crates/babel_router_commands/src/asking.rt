@@ -75,10 +75,7 @@ fn explain_question<E: Write>(word: &str, prefix: Option<&str>, err: &mut E) -> 
         }
         _ => write!(err, "{} is no question", Excerpt(word))?,
     }
-    writeln!(
-        err,
-        "; ask neighbours, routes, why PREFIX, log or counts"
-    )
+    writeln!(err, "; ask neighbours, routes, why PREFIX, log or counts")
 }
 
 /// In which form the reply is shown.

@@ -69,8 +69,9 @@ impl Room {
 
     /// Whether nothing of one is over the other's text.
     fn is_clear_of(&self, other: &Room) -> bool {
-        let are_apart =
-            self.lane != other.lane || self.end <= other.begin || other.end <= self.begin;
+        let are_apart = self.lane != other.lane
+            || self.end <= other.begin
+            || other.end <= self.begin;
         are_apart && !self.crosses(other) && !other.crosses(self)
     }
 

@@ -79,7 +79,12 @@ fn write_axis<W: Write>(scale: &Scale, top: i64, bottom: i64, out: &mut W) -> io
         }
         let x = scale.at(moment);
         write_upright("line", x, top, bottom, out)?;
-        write_text(MIDDLE, (label_at(scale, moment), low), &Seconds(moment), out)?;
+        write_text(
+            MIDDLE,
+            (label_at(scale, moment), low),
+            &Seconds(moment),
+            out,
+        )?;
     }
     Ok(())
 }
