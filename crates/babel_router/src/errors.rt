@@ -22,7 +22,7 @@ pub enum RunFault {
     #[error("/proc/net/if_inet6 or /proc/net/igmp6 can't be read")]
     System,
     /// W7: the control socket can't be made.
-    #[error("can't be made a control socket: another process listens there, or the path or port can't be used")]
+    #[error("can't be made a control socket")]
     Control,
     /// K8, K9, K10 and L8: the file of the snapshot can't be read, kept or locked.
     #[error(transparent)]

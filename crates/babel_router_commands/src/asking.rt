@@ -1,6 +1,7 @@
 //! The command `ask`: what a running speaker replies over its control socket.
 
 use crate::exchanges::{exchange, follow};
+use crate::places::{PlaceState, TOO_LONG, place_state};
 use babel_arguments::{Colours, argument, wants_details};
 use babel_ask::{AnswerForm, AskFault, Question, parse_question, show_answer};
 use babel_commands::{Status, refuse};
@@ -8,6 +9,7 @@ use babel_control::parse_place;
 use babel_line_details::Excerpt;
 use babel_text::parse_prefix;
 use clap::ArgMatches;
+use std::fs::Files;
 use std::io::{self, IsTerminal, Write};
 use std::net::Net;
 
@@ -19,8 +21,12 @@ const DEFAULT_PATH: &str = "/run/babel/control";
 pub(crate) enum Refused {
     /// F3: the prefix can't be read.
     Prefix,
-    /// W7: the socket can't be reached, or it has no reply to the question.
-    Socket,
+    /// W7: the place is a number that is no port.
+    Port,
+    /// W7: the socket can't be reached, or no reply comes in time.
+    Socket(io::ErrorKind),
+    /// W7: what is there is no speaker's socket, or has no reply to the question.
+    Reply(AskFault),
     /// L7: the reply can't be written.
     Output,
     /// L8: an allocation failed.
@@ -32,13 +38,13 @@ impl From<io::Error> for Refused {
     fn from(error: io::Error) -> Refused {
         match error.kind() {
             io::ErrorKind::OutOfMemory => Refused::Memory,
-            _ => Refused::Socket,
+            kind => Refused::Socket(kind),
         }
     }
 }
 
 /// Asks the speaker, and writes its reply. Its fault is written.
-pub fn run_ask<F: AllocGlobal + Net, W: Write, E: Write + IsTerminal>(
+pub fn run_ask<F: AllocGlobal + Files + Net, W: Write, E: Write + IsTerminal>(
     rt: &F,
     arguments: &ArgMatches<'_>,
     colours: Colours,
@@ -60,7 +66,7 @@ pub fn run_ask<F: AllocGlobal + Net, W: Write, E: Write + IsTerminal>(
     let status = refuse(&code_of(refused), err);
     if wants_details(arguments, err) {
         // If writing the sentence fails, the status still reports the fault.
-        let _ = explain(arguments, refused, err);
+        let _ = explain(rt, arguments, refused, err);
     }
     status
 }
@@ -92,13 +98,19 @@ fn form_of(arguments: &ArgMatches<'_>, colours: Colours) -> AnswerForm {
 fn code_of(refused: Refused) -> &'static str {
     match refused {
         Refused::Prefix => "F3",
-        Refused::Socket => "W7",
+        Refused::Port | Refused::Socket(_) | Refused::Reply(_) => "W7",
         Refused::Output => "L7",
         Refused::Memory => "L8",
     }
 }
 
-fn explain<E: Write>(arguments: &ArgMatches<'_>, refused: Refused, err: &mut E) -> io::Result<()> {
+fn explain<F: Files, E: Write>(
+    rt: &F,
+    arguments: &ArgMatches<'_>,
+    refused: Refused,
+    err: &mut E,
+) -> io::Result<()> {
+    let place = place_of(arguments);
     match refused {
         Refused::Prefix => {
             let prefix = Excerpt(argument(arguments, "prefix"));
@@ -107,16 +119,49 @@ fn explain<E: Write>(arguments: &ArgMatches<'_>, refused: Refused, err: &mut E) 
                 "{prefix} is not a prefix, as 10.0.0.0/8 or 2001:db8::/32"
             )
         }
-        Refused::Socket => {
-            let path = Excerpt(place_of(arguments));
+        Refused::Port => writeln!(
+            err,
+            "--control {} is no port from 1 to 65535",
+            Excerpt(place)
+        ),
+        Refused::Socket(kind) => {
             writeln!(
                 err,
-                "--control {path}: no speaker answers there; \
-                 start it by ./babel run DEVICE --control PATH, or PORT"
+                "--control {}: {}",
+                Excerpt(place),
+                reason_of(rt, place, kind)
             )
         }
+        Refused::Reply(fault) => writeln!(err, "--control {}: {fault}", Excerpt(place)),
         Refused::Output => writeln!(err, "the answer can't be written"),
         Refused::Memory => writeln!(err, "out of memory"),
+    }
+}
+
+/// Why the socket can't be reached, or sends no reply. The system refuses connections to a place
+/// at which no process listens, also to a folder and to another file.
+fn reason_of<F: Files>(rt: &F, place: &str, kind: io::ErrorKind) -> &'static str {
+    match kind {
+        io::ErrorKind::NotFound => {
+            "no such file; start the speaker by ./babel run DEVICE --control PATH, or PORT"
+        }
+        io::ErrorKind::NotADirectory => "a part of the path is no directory",
+        io::ErrorKind::PermissionDenied => {
+            "permission denied; whoever may write to the socket's file may ask"
+        }
+        io::ErrorKind::InvalidInput | io::ErrorKind::InvalidFilename => TOO_LONG,
+        io::ErrorKind::WouldBlock | io::ErrorKind::TimedOut => {
+            "a process listens there, but didn't reply within 5 s"
+        }
+        io::ErrorKind::ConnectionRefused => match place_state(rt, place) {
+            PlaceState::Folder => "is a directory",
+            PlaceState::OtherFile => "is no socket",
+            _ => {
+                "no speaker listens there; \
+                 start it by ./babel run DEVICE --control PATH, or PORT"
+            }
+        },
+        _ => "the connection failed, or the speaker ended",
     }
 }
 
@@ -141,7 +186,7 @@ fn ask<F: AllocGlobal + Net, W: Write>(
         }
     }
     let Some(place) = parse_place(place_of(arguments)) else {
-        return Err(Refused::Socket);
+        return Err(Refused::Port);
     };
     let Ok(request) = question.request(rt.alloc()) else {
         return Err(Refused::Memory);
@@ -166,6 +211,6 @@ fn show<W: Write>(
     match show_answer(question, form, answer, out) {
         Ok(()) => Ok(()),
         Err(AskFault::Output) => Err(Refused::Output),
-        Err(_) => Err(Refused::Socket),
+        Err(fault) => Err(Refused::Reply(fault)),
     }
 }

@@ -1,7 +1,7 @@
 //! What `ask` sends over the control socket, and what it takes from there.
 
 use crate::asking::Refused;
-use babel_ask::{AnswerForm, show_log_line};
+use babel_ask::{AnswerForm, AskFault, show_log_line};
 use babel_control::{ControlPlace, local_address};
 use std::alloc::Global;
 use std::io::{self, BufRead, BufReader, Read, Write};
@@ -97,8 +97,11 @@ fn follow_lines<R: BufRead, W: Write>(
         if reader.read_line(line)? == 0 {
             break;
         }
-        if number == 0 && !is_greeting(line) || is_refusal(line) {
-            return Err(Refused::Socket);
+        if number == 0 && !is_greeting(line) {
+            return Err(Refused::Reply(AskFault::Foreign));
+        }
+        if is_refusal(line) {
+            return Err(Refused::Reply(AskFault::Refused));
         }
         if show_log_line(form, line, out).is_err() {
             return Err(Refused::Output);

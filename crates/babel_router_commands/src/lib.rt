@@ -4,11 +4,13 @@
 //! - `speaking`: the command `speak`: the speaker of a configuration, over IPv4.
 //! - `routing`: the command `run`: a speaker on the network's devices, over IPv6.
 //! - `asking`: the command `ask`; `exchanges` has what goes over the control socket.
+//! - `places`: what is at the place of a control socket that can't be used.
 #![tactic(auto)]
 
 mod asking;
 mod exchanges;
 mod help;
+mod places;
 mod routing;
 mod speaking;
 mod tables;

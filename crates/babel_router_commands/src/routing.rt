@@ -1,12 +1,13 @@
 //! The command `run`: a speaker on the devices of the network, over IPv6.
 
-use babel_arguments::{argument, explain_unreadable, kept, octets_of, wants_details};
+use crate::places::why_not_made;
+use babel_arguments::{argument, explain_unreadable, failure_of, kept, octets_of, wants_details};
 use babel_commands::{Status, refuse};
 use babel_config::FileFault;
 use babel_file_details::{FileText, explain_router_file};
 use babel_line_details::Excerpt;
 use babel_router::{Printed, RunFault, RunWords, WordsFault, run_words};
-use babel_snapshot_file::LockFile;
+use babel_snapshot_file::{LockFile, MAX_SNAPSHOT_LEN, SnapshotFileFault};
 use clap::ArgMatches;
 use std::fs::Files;
 use std::io::{self, IsTerminal, Read, Write};
@@ -75,7 +76,7 @@ fn explain<F: AllocGlobal + Files, E: Write>(
             Excerpt(text)
         ),
         WordsFault::File(fault) => explain_router(rt, arguments, fault, err),
-        WordsFault::Run(fault) => explain_run(arguments, fault, err),
+        WordsFault::Run(fault) => explain_run(rt, arguments, fault, err),
     }
 }
 
@@ -99,7 +100,8 @@ fn explain_router<F: AllocGlobal + Files, E: Write>(
     }
 }
 
-fn explain_run<E: Write>(
+fn explain_run<F: Files, E: Write>(
+    rt: &F,
     arguments: &ArgMatches<'_>,
     fault: RunFault,
     err: &mut E,
@@ -111,8 +113,16 @@ fn explain_run<E: Write>(
             writeln!(err, "device {} {fault}", Excerpt(name))
         }
         RunFault::Control => {
-            let path = argument(arguments, "control");
-            writeln!(err, "--control {} {fault}", Excerpt(path))
+            let place = argument(arguments, "control");
+            let reason = why_not_made(rt, place);
+            writeln!(err, "--control {} {fault}: {reason}", Excerpt(place))
+        }
+        RunFault::SnapshotFile(SnapshotFileFault::Unreadable) => {
+            let name = argument(arguments, "keep");
+            match failure_of(rt, name, MAX_SNAPSHOT_LEN) {
+                Some(failure) => writeln!(err, "{name}: {failure}"),
+                None => writeln!(err, "{name}: {fault}"),
+            }
         }
         RunFault::SnapshotFile(_) | RunFault::Restore(_) => {
             let name = argument(arguments, "keep");
