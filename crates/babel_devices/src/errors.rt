@@ -16,7 +16,7 @@ pub enum DeviceFault {
     #[error("isn't a member of the group ff02::1:6: start the command by ./babel run")]
     NotMember,
     /// A socket can't be made.
-    #[error("can't be bound to UDP port 6696, or the one that --port names")]
+    #[error("can't be bound to its UDP port, which another program may have")]
     Socket,
 }
 

@@ -197,6 +197,7 @@ fn devices_of<'a>(
             return Err(WordsFault::Address(text));
         }
     }
+    check_devices(words.devices)?;
     let mut devices = Vec::new(alloc);
     for name in words.devices {
         devices
@@ -204,6 +205,25 @@ fn devices_of<'a>(
             .map_err(AllocError::from)?;
     }
     Ok(devices)
+}
+
+/// Two sockets can't be bound to the address of one device.
+fn check_devices<'a>(names: &[&'a str]) -> Result<(), WordsFault<'a>> {
+    for (number, name) in names.iter().enumerate() {
+        if is_among(names.get(..number).unwrap_or(&[]), name) {
+            return Err(WordsFault::Twice(name));
+        }
+    }
+    Ok(())
+}
+
+fn is_among(names: &[&str], name: &str) -> bool {
+    for other in names {
+        if *other == name {
+            return true;
+        }
+    }
+    false
 }
 
 fn device_of<'a>(words: RunWords<'a>, name: &'a str, file: &RouterFile) -> DeviceSettings<'a> {

@@ -4,6 +4,7 @@ use crate::places::why_not_made;
 use babel_arguments::{argument, explain_unreadable, failure_of, kept, octets_of, wants_details};
 use babel_commands::{Status, refuse};
 use babel_config::FileFault;
+use babel_devices::DeviceFault;
 use babel_file_details::{FileText, explain_router_file};
 use babel_line_details::Excerpt;
 use babel_router::{Printed, RunFault, RunWords, WordsFault, run_words};
@@ -48,6 +49,7 @@ fn refuse_words<E: Write>(refused: WordsFault<'_>, err: &mut E) -> Status {
         WordsFault::Prefix(_) | WordsFault::RouterId(_) | WordsFault::Address(_) => {
             refuse(&"F3", err)
         }
+        WordsFault::Twice(_) => refuse(&"F3", err),
         WordsFault::File(fault) => refuse(&fault.code(), err),
         WordsFault::Run(fault) => refuse(&fault.code(), err),
     }
@@ -75,6 +77,7 @@ fn explain<F: AllocGlobal + Files, E: Write>(
             "--ipv4 {} is not a device with its address, as eth0=192.168.0.1/24",
             Excerpt(text)
         ),
+        WordsFault::Twice(name) => writeln!(err, "device {} is named twice", Excerpt(name)),
         WordsFault::File(fault) => explain_router(rt, arguments, fault, err),
         WordsFault::Run(fault) => explain_run(rt, arguments, fault, err),
     }
@@ -110,7 +113,7 @@ fn explain_run<F: Files, E: Write>(
         RunFault::Device(number, fault) => {
             let names = arguments.get_strs("device").unwrap_or(&[]);
             let name = names.get(number).copied().unwrap_or("");
-            writeln!(err, "device {} {fault}", Excerpt(name))
+            explain_device(name, port_of(arguments), fault, err)
         }
         RunFault::Control => {
             let place = argument(arguments, "control");
@@ -132,6 +135,29 @@ fn explain_run<F: Files, E: Write>(
     }
 }
 
+/// W2 to W5.
+fn explain_device<E: Write>(
+    name: &str,
+    port: u16,
+    fault: DeviceFault,
+    err: &mut E,
+) -> io::Result<()> {
+    let name = Excerpt(name);
+    match fault {
+        DeviceFault::Socket => writeln!(
+            err,
+            "device {name} can't be bound to UDP port {port}: another program may have it, \
+             as another Babel daemon; --port names another one"
+        ),
+        fault => writeln!(err, "device {name} {fault}"),
+    }
+}
+
+/// The UDP port.
+fn port_of(arguments: &ArgMatches<'_>) -> u16 {
+    arguments.get_one::<u16>("port").unwrap_or(DEFAULT_PORT)
+}
+
 /// The words of the arguments.
 fn words_of<'m>(arguments: &'m ArgMatches<'_>) -> RunWords<'m> {
     let keep = kept(arguments);
@@ -143,7 +169,7 @@ fn words_of<'m>(arguments: &'m ArgMatches<'_>) -> RunWords<'m> {
         cost: arguments.get_one::<u16>("cost"),
         hello: arguments.get_one::<u16>("hello"),
         config: arguments.get_str("config"),
-        port: arguments.get_one::<u16>("port").unwrap_or(DEFAULT_PORT),
+        port: port_of(arguments),
         turns: arguments.get_one::<u64>("turns").unwrap_or(u64::MAX),
         keep,
         control: arguments.get_str("control"),
