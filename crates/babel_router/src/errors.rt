@@ -44,6 +44,8 @@ pub enum WordsFault<'a> {
     RouterId(&'a str),
     /// F3: the IPv4 address of a device can't be read.
     Address(&'a str),
+    /// F3: this is the address of a device that the speaker doesn't use.
+    OtherDevice(&'a str),
     /// F3: the device is named twice.
     Twice(&'a str),
     /// F1 to F5: the file is refused.

@@ -192,12 +192,8 @@ fn devices_of<'a>(
     words: RunWords<'a>,
     file: &RouterFile,
 ) -> Result<Vec<DeviceSettings<'a>>, WordsFault<'a>> {
-    for text in words.ipv4 {
-        if address_of(text).is_none() {
-            return Err(WordsFault::Address(text));
-        }
-    }
     check_devices(words.devices)?;
+    check_addresses(words)?;
     let mut devices = Vec::new(alloc);
     for name in words.devices {
         devices
@@ -212,6 +208,19 @@ fn check_devices<'a>(names: &[&'a str]) -> Result<(), WordsFault<'a>> {
     for (number, name) in names.iter().enumerate() {
         if is_among(names.get(..number).unwrap_or(&[]), name) {
             return Err(WordsFault::Twice(name));
+        }
+    }
+    Ok(())
+}
+
+/// Each address of the words is that of one of the devices.
+fn check_addresses<'a>(words: RunWords<'a>) -> Result<(), WordsFault<'a>> {
+    for text in words.ipv4 {
+        let Some((name, _)) = address_of(text) else {
+            return Err(WordsFault::Address(text));
+        };
+        if !is_among(words.devices, name) {
+            return Err(WordsFault::OtherDevice(text));
         }
     }
     Ok(())

@@ -49,7 +49,7 @@ fn refuse_words<E: Write>(refused: WordsFault<'_>, err: &mut E) -> Status {
         WordsFault::Prefix(_) | WordsFault::RouterId(_) | WordsFault::Address(_) => {
             refuse(&"F3", err)
         }
-        WordsFault::Twice(_) => refuse(&"F3", err),
+        WordsFault::OtherDevice(_) | WordsFault::Twice(_) => refuse(&"F3", err),
         WordsFault::File(fault) => refuse(&fault.code(), err),
         WordsFault::Run(fault) => refuse(&fault.code(), err),
     }
@@ -75,6 +75,11 @@ fn explain<F: AllocGlobal + Files, E: Write>(
         WordsFault::Address(text) => writeln!(
             err,
             "--ipv4 {} is not a device with its address, as eth0=192.168.0.1/24",
+            Excerpt(text)
+        ),
+        WordsFault::OtherDevice(text) => writeln!(
+            err,
+            "--ipv4 {} is the address of a device that isn't on the command line",
             Excerpt(text)
         ),
         WordsFault::Twice(name) => writeln!(err, "device {} is named twice", Excerpt(name)),
