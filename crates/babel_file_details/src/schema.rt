@@ -7,6 +7,7 @@ use crate::locations::{Location, Owner};
 use crate::nearest::Nearest;
 use crate::rules::{Form, Rule, TableKind, ValueKind};
 use crate::sentences::Word;
+use babel_router_file::DEVICE;
 use babel_text::{parse_network, parse_prefix, parse_router_id};
 use babel_value::Addr;
 use std::alloc::Global;
@@ -103,6 +104,11 @@ impl Schema {
                 "unknown key '{}' in {}; did you mean '{}'?",
                 Word::Text(near),
             ),
+            None if is_of_router(kind, owner, key) => (
+                "unknown key '{}' in {}; the keys are {}; \
+                 this looks like a file for babel run --config",
+                Word::Keys(kind),
+            ),
             None => ("unknown key '{}' in {}; the keys are {}", Word::Keys(kind)),
         };
         let words = [Word::Text(key), Word::Owner(owner), word];
@@ -194,6 +200,11 @@ fn has_key(kind: TableKind, key: &str) -> bool {
         }
     }
     false
+}
+
+/// Whether a configuration has the key of a file for `run --config`.
+fn is_of_router(kind: TableKind, owner: Owner, key: &str) -> bool {
+    matches!(kind, TableKind::Config) && owner == Owner::FILE && key == DEVICE
 }
 
 /// The value at a key isn't a list.
