@@ -6,7 +6,7 @@ use Rattle.babel_state.specs.declared.configs.Config.{Config}
 use Rattle.babel_state.specs.Restarts.{snapshot_of, restored, restarted}
 use Rattle.babel_state.specs.State.{State}
 use Rattle.babel_snapshot.specs.Reading.{snapshot_in}
-use Rattle.babel_wire.specs.Calls.{Call, Receipt, Sending}
+use Rattle.babel_wire.specs.Calls.{Sending}
 use Rattle.babel_wire.specs.Keeping.{AreOctetsOf, DurableTurn, calls_of, calls_of_turn, turns_of}
 use Rattle.babel_wire.specs.Cuts.{File, IsCutOf, sent_in}
 use Rattle.babel_wire.specs.Intakes.{DurableStep, Turning, AreSteps, calls_of_steps, receipts_in, taken_by, IsCoveredBySteps, WhatIsKeptCoversWithIntakes}
@@ -94,11 +94,12 @@ calls_of_turning (t ∷ ts) = ap (λ cs. calls_of_turn t ++ cs) (calls_of_turnin
 
 receipts_of_turning : (sent : List SentOctets) (turns : List DurableTurn) → AreFrom sent (turns_of turns) → AreReceiptsFrom sent (receipts_in (map Turning turns))
 receipts_of_turning sent [] from r h = absurd (not_in_none r h)
-receipts_of_turning sent (t ∷ ts) from r h = by (in_more t.turn.receipt (receipts_in (map Turning ts)) r h)
+receipts_of_turning sent (t ∷ ts) from r h =
+    by (receipts_of_turning sent ts (λ u k. from u (later_in t.turn (turns_of ts) u k)) r) (in_more t.turn.receipt (receipts_in (map Turning ts)) r h)
   where
-    by : (r ≡ t.turn.receipt) ⊎ Contains (receipts_in (map Turning ts)) r → IsFrom sent r
-    by (inl same) = subst (IsFrom sent) (sym same) (from t.turn (first_in t.turn (turns_of ts)))
-    by (inr there) = receipts_of_turning sent ts (λ u k. from u (later_in t.turn (turns_of ts) u k)) r there
+    by : (Contains (receipts_in (map Turning ts)) r → IsFrom sent r) → (r ≡ t.turn.receipt) ⊎ Contains (receipts_in (map Turning ts)) r → IsFrom sent r
+    by later (inl same) = subst (IsFrom sent) (sym same) (from t.turn (first_in t.turn (turns_of ts)))
+    by later (inr there) = later there
 
 pub crashes : CrashesWithIntakesAreRestartEvents → CrashesAreRestartEvents
 crashes with_intakes n node now config old new last later turns files cut octets net is disk kept durable from is_cut at =

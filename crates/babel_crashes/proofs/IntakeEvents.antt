@@ -1,14 +1,14 @@
 -- Turns, intakes and requests at a node, as events, and restarts between them.
-use Rattle.std.proofs.Common.{◌≡◌, ◌⊎◌, ℕ, List, [], ◌∷◌, Contains, refl, sym, subst, inl, inr}
+use Rattle.std.proofs.Common.{◌⊎◌, ℕ, [], ◌∷◌, Contains, sym, subst, inl, inr}
 use Rattle.std.proofs.lemmas.List.Elements.{Contains-append_left, Contains-append_right, Contains-append_cases}
 use Rattle.babel_state.specs.declared.configs.Config.{Config}
 use Rattle.babel_state.specs.Requesting.{seqnos_requested}
 use Rattle.babel_state.specs.Restarts.{restarted}
 use Rattle.babel_state.specs.State.{State}
 use Rattle.babel_state.specs.Ticks.{ticked}
-use Rattle.babel_wire.specs.Calls.{Receipt, Sending}
-use Rattle.babel_wire.specs.Intakes.{DurableStep, Turning, TakingIn, Requesting, Intake, IsIntake, receipts_in, taken_by}
-use Rattle.babel_wire.specs.Lives.{Stage, Steps, Restart, received, taken}
+use Rattle.babel_wire.specs.Calls.{Sending}
+use Rattle.babel_wire.specs.Intakes.{Turning, TakingIn, Requesting, Intake, IsIntake, receipts_in, taken_by}
+use Rattle.babel_wire.specs.Lives.{Steps, Restart, received, taken}
 use Rattle.babel_wire.proofs.Members.{not_in_none, first_in, later_in}
 use Rattle.babel_net.specs.Networks.{NetworkState, with_speaker_state}
 use Rattle.babel_crashes.specs.NodeSteps.{IsAt, IsFrom, IsRecorded, AreStepEvents, AreEvents}

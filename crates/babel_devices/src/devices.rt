@@ -60,11 +60,7 @@ impl Lists {
     ///
     /// The device has no link-local address, it isn't sure yet that the address is free, or nobody
     /// has joined the group on it.
-    pub fn device(
-        &self,
-        name: &str,
-        preferred: Option<[u8; 16]>,
-    ) -> Result<Device, DeviceFault> {
+    pub fn device(&self, name: &str, preferred: Option<[u8; 16]>) -> Result<Device, DeviceFault> {
         let device = self.link_local(name, preferred)?;
         if self.is_member(name) {
             Ok(device)

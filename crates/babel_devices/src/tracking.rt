@@ -54,10 +54,7 @@ enum Change {
 
 impl<'a> Tracked<'a> {
     /// A device as it is at the start. One that can't be used yet has no address of its own.
-    pub fn of(
-        settings: DeviceSettings<'a>,
-        state: Result<Device, DeviceFault>,
-    ) -> Tracked<'a> {
+    pub fn of(settings: DeviceSettings<'a>, state: Result<Device, DeviceFault>) -> Tracked<'a> {
         let address = match state {
             Ok(device) => device.address,
             Err(_) => NO_ADDRESS,

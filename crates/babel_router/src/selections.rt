@@ -166,7 +166,7 @@ enum Way {
     Nothing,
     /// Its route was lost, and the speaker has others that can't be selected, or retracted ones.
     /// As long as it has them, nothing for the prefix may go by the route of a shorter one (RFC
-    /// 8966, section 3.5.4). The kernel is told so; for people it is as nothing.
+    /// 8966, section 3.5.4). The kernel has a route that says so; for people it is as nothing.
     Unreachable,
     /// The selected route.
     Route(Selected),
@@ -259,7 +259,8 @@ impl<'a> Selections<'a> {
         write_changed(&self.lines, &mut self.printed, speaker, moment, out).map_err(
             LineFault::of_writing,
         )?;
-        self.printed.retain(|printed| !matches!(&printed.way, Way::Nothing));
+        self.printed
+            .retain(|printed| !matches!(&printed.way, Way::Nothing));
         self.version = Some(version);
         self.next_look = if self.has_unreachable() {
             moment.saturating_add(LOOK_AGAIN)

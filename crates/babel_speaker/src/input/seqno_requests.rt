@@ -4,7 +4,7 @@ ghost use Rattle.std.specs.Prelude.{◌≡◌, ◌≤◌, Some};
 ghost use Rattle.babel_state.specs.SeqnoRequests.{handle_route_request, handle_dump_request, raised, satisfies, requested_of_own, receiver, forward, requested_of_route, handle_seqno_request};
 
 use crate::input::records::Arrival;
-use crate::input::request_receivers::{satisfies, receiver};
+use crate::input::request_receivers::{receiver, satisfies};
 use crate::output::queueing::queue_updates_of;
 use crate::state::Core;
 use crate::tables::SeqnoRequest;
