@@ -271,11 +271,22 @@ def read_toml(octets):
         return "F5"
     try:
         text = octets.removeprefix(b"\xef\xbb\xbf").decode()
-        return tomllib.loads(
+        table = tomllib.loads(
             re.sub(r"\\x([0-9a-fA-F]{2})", r"\\u00\1", text.replace("\\e", "\\u001b"))
         )
     except (ValueError, RecursionError):
         return "F1"
+    return "F1" if has_long_number(table) else table
+
+
+def has_long_number(value):
+    """Whether it has a number that doesn't fit in 64 bits: TOML 1.0 asks for an error then, and
+    Python's reader takes it."""
+    if isinstance(value, dict):
+        return any(map(has_long_number, value.values()))
+    if isinstance(value, list):
+        return any(map(has_long_number, value))
+    return type(value) is int and not -2**63 <= value < 2**63
 
 
 def config_codes(octets):
