@@ -1,6 +1,7 @@
 //! What each node did with packets to a prefix, from the beginning to the end.
 
 use crate::drawing::{Hop, Row, Span};
+use crate::scenes::pictures::Scene;
 use babel_outcome::Shown;
 use babel_topology::{Action, NextHop, Node, Step};
 use babel_value::Prefix;
@@ -64,12 +65,12 @@ enum Change {
 pub(crate) fn rows_of(
     alloc: Global,
     shown: &Shown<'_>,
-    prefix: Option<Prefix>,
+    scene: &Scene,
 ) -> Result<Vec<Row>, AllocError> {
     let mut rows = Vec::with_capacity(alloc, shown.topology.nodes.len())?;
     for (number, node) in shown.topology.nodes.iter().enumerate() {
         let mut spans = Vec::new(alloc);
-        push_spans(shown, (number, node), prefix, &mut spans)?;
+        push_spans(shown, (number, node), scene, &mut spans)?;
         rows.push(Row { spans })?;
     }
     Ok(rows)
@@ -79,20 +80,20 @@ pub(crate) fn rows_of(
 fn push_spans(
     shown: &Shown<'_>,
     (number, node): (usize, &Node),
-    prefix: Option<Prefix>,
+    scene: &Scene,
     spans: &mut Vec<Span>,
 ) -> Result<(), AllocError> {
     let mut state = State {
         power: Power::On,
-        origin: origin_of(node, prefix),
+        origin: origin_of(node, scene),
         hop: NextHop::Unreachable,
     };
     push_span(spans, 0, state)?;
     let mut next = 0usize;
     for change in &shown.outcome.changes {
-        if change.node == number && shown.outcome.prefixes.get(change.prefix).copied() == prefix {
+        if change.node == number && is_drawn(shown, scene, change.prefix) {
             let steps = shown.steps_until(next, change.at);
-            state = take_steps(steps, state, (number, prefix), spans)?;
+            state = take_steps(steps, state, (number, scene), spans)?;
             next = next.saturating_add(steps.len());
             state = state.after(Change::Hop(change.hop));
             push_span(spans, change.at, state)?;
@@ -101,16 +102,24 @@ fn push_spans(
     take_steps(
         shown.steps_until(next, u64::MAX),
         state,
-        (number, prefix),
+        (number, scene),
         spans,
     )?;
     Ok(())
 }
 
-/// Whether a node announces a prefix at first.
-fn origin_of(node: &Node, prefix: Option<Prefix>) -> Origin {
+/// Whether the scene draws next hops to the prefix of this index.
+fn is_drawn(shown: &Shown<'_>, scene: &Scene, index: usize) -> bool {
+    match shown.outcome.prefixes.get(index) {
+        Some(prefix) => scene.draws(prefix),
+        None => false,
+    }
+}
+
+/// Whether a node announces the prefix of the scene at first.
+fn origin_of(node: &Node, scene: &Scene) -> Origin {
     for own in &node.prefixes {
-        if Some(*own) == prefix {
+        if scene.draws(own) {
             return Origin::Own;
         }
     }
@@ -121,12 +130,12 @@ fn origin_of(node: &Node, prefix: Option<Prefix>) -> Origin {
 fn take_steps(
     steps: &[Step],
     begin: State,
-    (node, prefix): (usize, Option<Prefix>),
+    (node, scene): (usize, &Scene),
     spans: &mut Vec<Span>,
 ) -> Result<State, AllocError> {
     let mut state = begin;
     for step in steps {
-        if let Some(change) = change_of(step.action, node, prefix) {
+        if let Some(change) = change_of(step.action, node, scene) {
             state = state.after(change);
             push_span(spans, step.at, state)?;
         }
@@ -149,11 +158,11 @@ fn change_by(action: Action) -> Option<(usize, Option<Prefix>, Change)> {
     }
 }
 
-/// What an action changes of a node and its ways to a prefix.
-fn change_of(action: Action, about: usize, prefix: Option<Prefix>) -> Option<Change> {
+/// What an action changes of a node and its ways to the prefix of the scene.
+fn change_of(action: Action, about: usize, scene: &Scene) -> Option<Change> {
     let (node, only, change) = change_by(action)?;
     let is_other = match only {
-        Some(only) => Some(only) != prefix,
+        Some(only) => !scene.draws(&only),
         None => false,
     };
     if node != about || is_other {

@@ -16,6 +16,16 @@ pub struct Scene {
     pub at: u64,
 }
 
+impl Scene {
+    /// Whether the next hops to this prefix are drawn.
+    pub(crate) fn draws(&self, prefix: &Prefix) -> bool {
+        match &self.prefix {
+            Some(drawn) => *drawn == *prefix,
+            None => false,
+        }
+    }
+}
+
 /// The picture of a run. At a moment after its end it is that of the end.
 ///
 /// # Errors
@@ -24,15 +34,15 @@ pub struct Scene {
 pub fn picture_of(alloc: Global, shown: &Shown<'_>, scene: Scene) -> Result<Picture, AllocError> {
     let timeline = timeline_of(alloc, shown, scene)?;
     Ok(Picture {
-        title: title_of(alloc, scene.prefix)?,
+        title: title_of(alloc, &scene)?,
         nodes: nodes_at(alloc, shown, &timeline.rows, timeline.moment)?,
         links: links_at(alloc, shown, timeline.moment)?,
         timeline,
     })
 }
 
-fn title_of(alloc: Global, prefix: Option<Prefix>) -> Result<String, AllocError> {
-    match prefix {
+fn title_of(alloc: Global, scene: &Scene) -> Result<String, AllocError> {
+    match &scene.prefix {
         Some(prefix) => format!(in alloc; "Next hops to {prefix}"),
         None => format!(in alloc; "A network without prefixes"),
     }
@@ -45,7 +55,7 @@ fn timeline_of(alloc: Global, shown: &Shown<'_>, scene: Scene) -> Result<Timelin
         end,
         moment: scene.at.min(end),
         marks: marks_of(alloc, shown)?,
-        rows: rows_of(alloc, shown, scene.prefix)?,
+        rows: rows_of(alloc, shown, &scene)?,
     })
 }
 
