@@ -54,23 +54,22 @@ pub(crate) fn event_text_problem<'a>(alloc: Global, text: &'a str) -> Sentence<'
 
 /// Why the text is no event of this form: the first field that is no number, or that it has
 /// another form.
-fn fields_problem<'a>(name: &str, form: &'static str, text: &'a str) -> Sentence<'a> {
-    let mut rest = text;
-    for letter in form.split(' ') {
-        let (field, after) = rest.split_once(' ').unwrap_or((rest, ""));
+fn fields_problem<'a>(name: &str, form: &'a str, text: &'a str) -> Sentence<'a> {
+    for (letter, field) in form.split(' ').zip(text.split(' ')) {
         if let Some(kind) = number_kind(letter) {
             if !field.is_empty() && !kind.reads(field) {
+                let words = [Word::Text(letter), Word::Excerpt(field), Word::Text(form)];
                 return Sentence {
                     text: kind.sentence(),
-                    words: [Word::Text(letter), Word::Excerpt(field), Word::Text(form)],
+                    words,
                 };
             }
         }
-        rest = after;
     }
+    let words = [Word::Text(form), Word::Empty, Word::Empty];
     Sentence {
         text: form_sentence(name),
-        words: [Word::Text(form), Word::Empty, Word::Empty],
+        words,
     }
 }
 
