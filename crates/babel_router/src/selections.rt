@@ -186,15 +186,23 @@ impl Way {
 fn is_routable(prefix: &Prefix) -> bool {
     let length = prefix.length();
     match prefix.addr() {
-        Addr::V4([a, ..]) => !(length >= 8 && (a == 0 || a == 127) || length >= 3 && a >= 224),
-        Addr::V6(octets) => {
-            let [a, b, ..] = octets;
-            let is_multicast = length >= 8 && a == 0xff;
-            let is_link_local = length >= 10 && a == 0xfe && b & 0xc0 == 0x80;
-            let is_of_this_machine = length == 128 && u128::from_be_bytes(octets) <= 1;
-            !(is_multicast || is_link_local || is_of_this_machine)
-        }
+        Addr::V4(octets) => is_routable_ipv4(u32::from_be_bytes(octets), length),
+        Addr::V6(octets) => is_routable_ipv6(u128::from_be_bytes(octets), length),
     }
+}
+
+fn is_routable_ipv4(number: u32, length: u8) -> bool {
+    let first = number >> 24;
+    let is_of_this_machine = length >= 8 && (first == 0 || first == 127);
+    let is_multicast = length >= 3 && first >= 224;
+    !(is_of_this_machine || is_multicast)
+}
+
+fn is_routable_ipv6(number: u128, length: u8) -> bool {
+    let is_of_this_machine = length == 128 && number <= 1;
+    let is_link_local = length >= 10 && number >> 118 == 0x3fa;
+    let is_multicast = length >= 8 && number >> 120 == 0xff;
+    !(is_of_this_machine || is_link_local || is_multicast)
 }
 
 /// A prefix, and what was printed of it last.
