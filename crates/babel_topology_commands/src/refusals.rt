@@ -1,6 +1,6 @@
 //! Why the command `simulate` is refused, as a code and as a sentence.
 
-use crate::targets::Target;
+use crate::targets::{Other, Target};
 use babel_arguments::{argument, explain_unreadable, octets_of};
 use babel_file_details::{FileText, explain_topology};
 use babel_line_details::Excerpt;
@@ -30,7 +30,7 @@ pub(crate) enum Refused {
     /// T21, T23: the file of an option can't be written.
     Unwritable(Target),
     /// T21, T23: the file of an option is that of another argument too, which is named.
-    Shared(Target, &'static str),
+    Shared(Target, Other),
     /// T22: the moment of `--at` can't be read.
     Moment,
     /// L7: the output can't be written.
@@ -123,7 +123,7 @@ pub(crate) fn explain<F: AllocGlobal + Files, E: Write>(
             "--{} {}: the file is that of {} too; name another one",
             target.name(),
             Excerpt(argument(arguments, target.name())),
-            shown_name(other)
+            other.shown()
         ),
         Refused::Moment => writeln!(
             err,
@@ -133,15 +133,6 @@ pub(crate) fn explain<F: AllocGlobal + Files, E: Write>(
         ),
         Refused::Output => writeln!(err, "the output can't be written"),
         Refused::Memory => writeln!(err, "out of memory"),
-    }
-}
-
-/// An argument that names a file, as the usage shows it.
-fn shown_name(name: &str) -> &str {
-    match name {
-        "topology" => "TOPOLOGY",
-        "scenario" => "--scenario",
-        _ => "--svg",
     }
 }
 

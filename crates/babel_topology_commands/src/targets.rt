@@ -43,6 +43,37 @@ impl Target {
     }
 }
 
+/// An argument that names a file which an option may not name, too.
+#[derive(Clone, Copy)]
+pub(crate) enum Other {
+    /// The file of the topology.
+    Topology,
+    /// That of `--scenario`.
+    Scenario,
+    /// That of `--svg`.
+    Svg,
+}
+
+impl Other {
+    /// The name of the argument, without dashes.
+    fn name(self) -> &'static str {
+        match self {
+            Other::Topology => "topology",
+            Other::Scenario => "scenario",
+            Other::Svg => "svg",
+        }
+    }
+
+    /// The argument as the usage shows it.
+    pub(crate) fn shown(self) -> &'static str {
+        match self {
+            Other::Topology => "TOPOLOGY",
+            Other::Scenario => "--scenario",
+            Other::Svg => "--svg",
+        }
+    }
+}
+
 /// Writes the file of an option, whole or not at all.
 pub(crate) fn keep_target<F: AllocGlobal + Files>(
     rt: &F,
@@ -58,21 +89,22 @@ pub(crate) fn keep_target<F: AllocGlobal + Files>(
 
 /// Refuses a file to be written that another argument names too: it would be replaced.
 pub(crate) fn test_targets(arguments: &ArgMatches<'_>) -> Result<(), Refused> {
-    test_target(arguments, Target::Scenario, &["topology"])?;
-    test_target(arguments, Target::Svg, &["topology", "scenario"])?;
-    test_target(arguments, Target::Dot, &["topology", "scenario", "svg"])
+    let others = [Other::Topology, Other::Scenario, Other::Svg];
+    test_target(arguments, Target::Scenario, &others[..1])?;
+    test_target(arguments, Target::Svg, &others[..2])?;
+    test_target(arguments, Target::Dot, &others)
 }
 
 fn test_target(
     arguments: &ArgMatches<'_>,
     target: Target,
-    others: &[&'static str],
+    others: &[Other],
 ) -> Result<(), Refused> {
     let Some(path) = path_of(arguments, target.name()) else {
         return Ok(());
     };
     for other in others {
-        if path_of(arguments, other) == Some(path) {
+        if path_of(arguments, other.name()) == Some(path) {
             return Err(Refused::Shared(target, *other));
         }
     }
