@@ -30,6 +30,8 @@ const RESTART: &[u8] = b"restart";
 
 const REQUEST: &[u8] = b"request";
 
+const LOSE: &[u8] = b"lose";
+
 /// The number of a node or of a datagram.
 pub(crate) fn parse_usize(text: &str) -> Option<usize>
     ensures { Reads (IsNumberText 64) text.now result }
@@ -95,6 +97,14 @@ fn parse_iface_and_cost(text: &[u8]) -> Option<(u8, u16)>
 {
     let (iface, cost) = split_u8(text)?;
     Some((iface, u16_of(cost)?))
+}
+
+/// `N I T`: a node, an interface and a moment.
+fn parse_loss(text: &[u8]) -> Option<(usize, (u8, u64))>
+    ensures { Reads (IsPair IsLong (IsPair (IsNumberText 8) IsLong)) text.now result }
+{
+    let (node, rest) = split_usize(text)?;
+    Some((node, parse_iface_and_moment(rest)?))
 }
 
 /// `K N I T`: a datagram, a node, an interface and a moment.
@@ -171,6 +181,10 @@ pub(crate) fn parse_event(text: &str, word: &[u8], fields: &[u8]) -> Option<Even
     if word == REQUEST {
         let (node, now) = parse_node_and_moment(fields)?;
         return Some(Event::RequestSeqnos { node, now });
+    }
+    if word == LOSE {
+        let (node, (iface, now)) = parse_loss(fields)?;
+        return Some(Event::LoseLinks { node, iface, now });
     }
     None
 }

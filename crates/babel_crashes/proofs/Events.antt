@@ -15,10 +15,11 @@ use Rattle.babel_state.specs.declared.interfaces.InterfaceEntry.{InterfaceEntry}
 use Rattle.babel_state.specs.declared.items.Target.{Target}
 use Rattle.babel_state.specs.Addresses.{source_fault, source_fault_on, transport_at}
 use Rattle.babel_state.specs.Messages.{after_places}
+use Rattle.babel_state.specs.LostLinks.{links_lost}
 use Rattle.babel_state.specs.Requesting.{seqnos_requested}
 use Rattle.babel_state.specs.Restarts.{restarted, snapshot_of}
 use Rattle.babel_state.specs.State.{State, interface_at}
-use Rattle.babel_state.specs.StepLaws.{MessagesKeepSettings, TicksKeepSettings, SendingKeepsSettings, RequestingKeepsSettings}
+use Rattle.babel_state.specs.StepLaws.{MessagesKeepSettings, TicksKeepSettings, SendingKeepsSettings, RequestingKeepsSettings, LosingKeepsSettings}
 use Rattle.babel_state.specs.Ticks.{ticked}
 use Rattle.babel_speaker.specs.Sending.{fits_by, MeansFrom, IsBuiltFrom, draft_at}
 use Rattle.babel_wire.specs.Calls.{Sending}
@@ -37,6 +38,7 @@ pub record Settings : Type 0 where
   pub tick : TicksKeepSettings
   pub sending : SendingKeepsSettings
   pub requesting : RequestingKeepsSettings
+  pub losing : LosingKeepsSettings
 
 -- ---- lists of events
 
@@ -128,6 +130,12 @@ pub request_leads : Settings → (n : NetworkState) (node now : ℕ) (config : C
 request_leads laws n node now config s is =
     leads_by (events.RequestSeqnos node now) n node config s (seqnos_requested now s) is (kept_transports s (seqnos_requested now s) (laws.requesting now s))
     (record { speaker = s; is = is.speaker; next = refl }) (no_fault (events.RequestSeqnos node now) n s config is.speaker is.configured refl)
+
+pub lose_leads : Settings → (n : NetworkState) (node now iface : ℕ) (config : Config) (s : State) → IsAt n node config s →
+    LeadsTo node config (links_lost now iface s) n (with_speaker_state n node (links_lost now iface s))
+lose_leads laws n node now iface config s is =
+    leads_by (events.LoseLinks node iface now) n node config s (links_lost now iface s) is (kept_transports s (links_lost now iface s) (laws.losing now iface s))
+    (record { speaker = s; is = is.speaker; next = refl }) (no_fault (events.LoseLinks node iface now) n s config is.speaker is.configured refl)
 
 pub restart_made : (n : NetworkState) (node now : ℕ) (config : Config) (s : State) → IsAt n node config s →
     Makes (events.Restart node now) n (with_speaker_state n node (restarted now config s))

@@ -1,20 +1,21 @@
--- Turns, intakes and requests at a node, as events, and restarts between them.
+-- Turns, intakes, requests and losses at a node, as events, and restarts between them.
 use Rattle.std.proofs.Common.{◌⊎◌, ℕ, [], ◌∷◌, Contains, sym, subst, inl, inr}
 use Rattle.std.proofs.lemmas.List.Elements.{Contains-append_left, Contains-append_right, Contains-append_cases}
 use Rattle.babel_state.specs.declared.configs.Config.{Config}
+use Rattle.babel_state.specs.LostLinks.{links_lost}
 use Rattle.babel_state.specs.Requesting.{seqnos_requested}
 use Rattle.babel_state.specs.Restarts.{restarted}
 use Rattle.babel_state.specs.State.{State}
 use Rattle.babel_state.specs.Ticks.{ticked}
 use Rattle.babel_wire.specs.Calls.{Sending}
-use Rattle.babel_wire.specs.Intakes.{Turning, TakingIn, Requesting, Intake, IsIntake, receipts_in, taken_by}
+use Rattle.babel_wire.specs.Intakes.{DurableStep, Turning, TakingIn, Requesting, Losing, Intake, IsIntake, receipts_in, taken_by}
 use Rattle.babel_wire.specs.Lives.{Steps, Restart, received, taken}
 use Rattle.babel_wire.proofs.Members.{not_in_none, first_in, later_in}
 use Rattle.babel_net.specs.Networks.{NetworkState, with_speaker_state}
-use Rattle.babel_crashes.specs.NodeSteps.{IsAt, IsFrom, IsRecorded, AreStepEvents, AreEvents}
+use Rattle.babel_crashes.specs.NodeSteps.{IsAt, IsFrom, IsRecorded, LeadsTo, AreStepEvents, AreEvents}
 use Rattle.babel_crashes.specs.IntakeLaws.{StepsAreEvents}
 use Rattle.babel_crashes.specs.CrashLaws.{LivesAreEvents}
-use Rattle.babel_crashes.proofs.Events.{Settings, leads_on, leads_nowhere, tick_leads, request_leads, restart_leads}
+use Rattle.babel_crashes.proofs.Events.{Settings, leads_on, leads_nowhere, tick_leads, request_leads, lose_leads, restart_leads}
 use Rattle.babel_crashes.proofs.NodeTurns.{Comes, AllSent, receives, still_receipts, still_recorded, turn_made}
 
 -- An intake is what comes, and a tick.
@@ -29,30 +30,34 @@ intake_made laws n node config i old new is from intake =
       leads = leads_on node config intake.received (ticked i.now intake.received) n came.new ready came.leads ticks;
     })
 
+-- A step in which nothing is taken from the speaker, and the steps after it.
+then_others : (n mid : NetworkState) (node : ℕ) (config : Config) (s new : State) (step : DurableStep) (steps : List DurableStep) → LeadsTo node config s n mid →
+    ((x : Sending) → Contains (taken_by (step ∷ steps)) x → Contains (taken_by steps) x) → AreStepEvents node config steps new mid → AreStepEvents node config (step ∷ steps) new n
+then_others n mid node config s new step steps first silent later = record {
+  new = later.new;
+  leads = leads_on node config s new n mid later.new first later.leads;
+  records = λ x h. later.records x (silent x h);
+}
+
 pub steps_are_events : Settings → StepsAreEvents
 steps_are_events laws n node config old new [] is same from =
     subst (λ (s : State). AreStepEvents node config [] s n) (sym same)
     (record { new = n; leads = leads_nowhere n node config old is; records = λ x h. absurd (not_in_none x h) })
 steps_are_events laws n node config old new (TakingIn i ∷ steps) is (mid, intake, rest) from =
     let first : Comes node config mid n = intake_made laws n node config i old mid is (from i.receipt (first_in i.receipt (receipts_in steps))) intake in
-    let later : AreStepEvents node config steps new first.new =
-    steps_are_events laws first.new node config mid new steps first.leads.is_at rest
-    (still_receipts n.sent first.new.sent (receipts_in steps) first.leads.keeps (λ r h. from r (later_in i.receipt (receipts_in steps) r h))) in
-    record {
-      new = later.new;
-      leads = leads_on node config mid new n first.new later.new first.leads later.leads;
-      records = later.records;
-    }
+    then_others n first.new node config mid new (TakingIn i) steps first.leads (λ x h. h)
+    (steps_are_events laws first.new node config mid new steps first.leads.is_at rest
+    (still_receipts n.sent first.new.sent (receipts_in steps) first.leads.keeps (λ r h. from r (later_in i.receipt (receipts_in steps) r h))))
 steps_are_events laws n node config old new (Requesting now ∷ steps) is rest from =
     let requested : State = seqnos_requested now old in
     let first = request_leads laws n node now config old is in
-    let later : AreStepEvents node config steps new (with_speaker_state n node requested) =
-    steps_are_events laws (with_speaker_state n node requested) node config requested new steps first.is_at rest from in
-    record {
-      new = later.new;
-      leads = leads_on node config requested new n (with_speaker_state n node requested) later.new first later.leads;
-      records = later.records;
-    }
+    then_others n (with_speaker_state n node requested) node config requested new (Requesting now) steps first (λ x h. h)
+    (steps_are_events laws (with_speaker_state n node requested) node config requested new steps first.is_at rest from)
+steps_are_events laws n node config old new (Losing now iface ∷ steps) is rest from =
+    let lost : State = links_lost now iface old in
+    let first = lose_leads laws n node now iface config old is in
+    then_others n (with_speaker_state n node lost) node config lost new (Losing now iface) steps first (λ x h. h)
+    (steps_are_events laws (with_speaker_state n node lost) node config lost new steps first.is_at rest from)
 steps_are_events laws n node config old new (Turning t ∷ steps) is (mid, turn, rest) from =
     let first : AllSent node config t.turn.sendings mid n =
     turn_made laws n node config t.turn old mid is (from t.turn.receipt (first_in t.turn.receipt (receipts_in steps))) turn in

@@ -24,6 +24,8 @@ pub struct Tracked<'a> {
     state: Result<Device, DeviceFault>,
     /// Whether the launcher reported that it went down.
     was_down: bool,
+    /// Whether the launcher reported that it lost its carrier, since it was looked at.
+    lost_carrier: bool,
     /// Whether its sockets could not be opened the last time.
     has_failed: bool,
     /// The IPv4 address that the launcher reported last.
@@ -41,6 +43,8 @@ pub enum Step {
     Close(DeviceFault),
     /// It can be used, or it has to be opened again.
     Open(Device),
+    /// It has lost its carrier: nobody is on its link.
+    LoseCarrier,
 }
 
 /// What the launcher reports of a device.
@@ -48,6 +52,8 @@ pub enum Step {
 enum Change {
     /// It went down, though it may be up again.
     Down,
+    /// It is up, and has lost its carrier.
+    NoCarrier,
     /// It has this IPv4 address, or none.
     Up(Option<Ipv4Network>),
 }
@@ -64,6 +70,7 @@ impl<'a> Tracked<'a> {
             address,
             state,
             was_down: false,
+            lost_carrier: false,
             has_failed: false,
             ipv4: settings.ipv4,
             has_report: false,
@@ -98,11 +105,13 @@ impl<'a> Tracked<'a> {
         let step = match seen {
             Err(fault) if self.state == Err(fault) => Step::Nothing,
             Err(fault) => Step::Close(fault),
-            Ok(_) if self.state == seen && !self.was_down => Step::Nothing,
-            Ok(device) => Step::Open(device),
+            Ok(device) if self.state != seen || self.was_down => Step::Open(device),
+            Ok(_) if self.lost_carrier => Step::LoseCarrier,
+            Ok(_) => Step::Nothing,
         };
         self.state = seen;
         self.was_down = false;
+        self.lost_carrier = false;
         step
     }
 
@@ -141,13 +150,14 @@ impl<'a> Tracked<'a> {
         self.has_report = true;
         match change {
             Change::Down => self.was_down = true,
+            Change::NoCarrier => self.lost_carrier = true,
             Change::Up(ipv4) => self.ipv4 = ipv4,
         }
     }
 }
 
-/// Takes what the launcher reports: lines `NAME down`, `NAME up` and `NAME up ADDRESS/LENGTH`.
-/// Other lines are passed over.
+/// Takes what the launcher reports: lines `NAME down`, `NAME no-carrier`, `NAME up` and
+/// `NAME up ADDRESS/LENGTH`. Other lines are passed over.
 pub fn hear(devices: &mut [Tracked<'_>], heard: &[u8]) {
     let Ok(text) = str::from_utf8(heard) else {
         return;
@@ -172,6 +182,7 @@ fn report_of(line: &str) -> Option<(&str, Change)> {
     let name = words.next()?;
     match words.next()? {
         "down" => Some((name, Change::Down)),
+        "no-carrier" => Some((name, Change::NoCarrier)),
         "up" => Some((name, Change::Up(network_of(words.next())))),
         _ => None,
     }

@@ -16,7 +16,7 @@ use std::fmt;
 use toml::Table;
 
 /// The first word of each event, and its form.
-static FORMS: [(&str, &str); 10] = [
+static FORMS: [(&str, &str); 11] = [
     ("tick", "tick N T"),
     ("emit", "emit N T"),
     ("deliver", "deliver K N I T"),
@@ -26,6 +26,7 @@ static FORMS: [(&str, &str); 10] = [
     ("withdraw", "withdraw N P"),
     ("restart", "restart N T"),
     ("request", "request N T"),
+    ("lose", "lose N I T"),
     ("hear", "hear N I A T HEX"),
 ];
 
@@ -46,7 +47,7 @@ pub(crate) fn event_text_problem<'a>(alloc: Global, text: &'a str) -> Sentence<'
         },
         None => Sentence {
             text: "unknown event '{}'; the events are tick, emit, deliver, cost, raise, announce, \
-                withdraw, restart, request and hear",
+                withdraw, restart, request, lose and hear",
             words: [Word::Text(name), Word::Empty, Word::Empty],
         },
     }
@@ -289,6 +290,7 @@ fn node_of(event: &Event) -> usize {
         | Event::SetCost { node, .. }
         | Event::Raise { node }
         | Event::RequestSeqnos { node, .. }
+        | Event::LoseLinks { node, .. }
         | Event::Announce { node, .. }
         | Event::Withdraw { node, .. }
         | Event::Restart { node, .. } => *node,

@@ -38,6 +38,13 @@ pub enum Event {
         node: usize,
         now: u64,
     },
+    /// An interface of the node is down: its links cost infinity until its neighbours report another
+    /// cost (RFC 8966, section 3.4.3).
+    LoseLinks {
+        node: usize,
+        iface: u8,
+        now: u64,
+    },
     /// The node announces a prefix of its configuration.
     Announce {
         node: usize,

@@ -39,6 +39,7 @@ pub fn node_of(event: &Event) -> usize
         Event::SetCost { node, .. } => node,
         Event::Raise { node } => node,
         Event::RequestSeqnos { node, .. } => node,
+        Event::LoseLinks { node, .. } => node,
         Event::Announce { node, .. } => node,
         Event::Withdraw { node, .. } => node,
         Event::Restart { node, .. } => node,
@@ -69,6 +70,10 @@ pub(crate) fn call(
         }
         Event::RequestSeqnos { now, .. } => {
             speaker.request_seqnos(now);
+            Ok(())
+        }
+        Event::LoseLinks { iface, now, .. } => {
+            speaker.lose_links(now, iface);
             Ok(())
         }
         Event::Announce { prefix, .. } => announce(speaker, config, prefix),

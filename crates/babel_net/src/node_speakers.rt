@@ -6,6 +6,7 @@ ghost use Rattle.babel_state.specs.Addresses.{transport_at};
 ghost use Rattle.babel_state.specs.Calls.{set_cost_fault, cost_set, first_state, is_prefix_too_many, announced_also, withdrawn, selected_route};
 ghost use Rattle.babel_state.specs.Configs.{config_fault};
 ghost use Rattle.babel_state.specs.CurrentSelections.{AreCurrent};
+ghost use Rattle.babel_state.specs.LostLinks.{links_lost};
 ghost use Rattle.babel_state.specs.Messages.{arrival_of, Receives, IsRecvFault};
 ghost use Rattle.babel_state.specs.Restarts.{restarted};
 ghost use Rattle.babel_state.specs.Requesting.{is_wanted, seqnos_requested};
@@ -93,6 +94,12 @@ impl NodeSpeaker {
         ensures { self.new ≡ seqnos_requested now self.old }
     {
         self.speaker.request_seqnos(now);
+    }
+
+    pub(crate) fn lose_links(&mut self, now: u64, iface: u8)
+        ensures { self.new ≡ links_lost now iface self.old }
+    {
+        self.speaker.lose_links(now, iface);
     }
 
     pub(crate) fn set_cost(&mut self, iface: u8, cost: u16) -> Result<(), SetCostFault>

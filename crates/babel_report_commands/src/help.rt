@@ -318,6 +318,8 @@ Events:
   raise N           the seqno of node N grows by 1
   request N T       node N requests greater seqnos for routes that it would
                     select if they were feasible
+  lose N I T        interface I of node N is down: its links cost infinity until
+                    its neighbours report another cost
   announce N P      node N announces the prefix P, which its configuration lists
   withdraw N P      node N announces the prefix P no longer
   restart N T       node N is saved, and restored at the moment T

@@ -19,6 +19,8 @@ use std::io::{self, Write};
 pub(crate) enum Note {
     /// It can't be used any more.
     Lost(DeviceFault),
+    /// It has lost its carrier.
+    NoCarrier,
     /// Its sockets were opened for the first time, after the start.
     Used,
     /// Its sockets were opened again.
@@ -31,6 +33,7 @@ impl fmt::Display for Note {
     fn fmt<W: fmt::Write>(&self, f: &mut fmt::Formatter<W>) -> fmt::Result {
         f.write_str(match *self {
             Note::Lost(fault) => return fault.fmt(f),
+            Note::NoCarrier => "has no carrier: its links are lost",
             Note::Used => "is used",
             Note::Opened => "is used again",
             Note::Moved => "has another address: the speaker starts again from its snapshot",

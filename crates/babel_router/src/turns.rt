@@ -16,7 +16,7 @@ use babel_speaker::Speaker;
 use babel_state::MAX_HELLO_INTERVAL;
 use babel_text::LineFault;
 use babel_wire::{
-    DurableDriver, DurableReport, Keeper, Wire, drive_durable, request_seqnos, take_in,
+    DurableDriver, DurableReport, Keeper, Wire, drive_durable, lose_links, request_seqnos, take_in,
 };
 use std::alloc::{AllocError, Global};
 use std::fs::Files;
@@ -82,7 +82,7 @@ impl Router<'_, '_> {
                 break;
             }
             if wire.wire.has_to_look() {
-                self.look_at_devices(&mut wire.wire, printer)?;
+                self.look_at_devices(wire, printer)?;
             }
             let place = place_of(number, turns);
             let Some(counted) = self.take_step(wire, printer, place) else {
@@ -213,22 +213,50 @@ impl Router<'_, '_> {
 
     /// Opens and closes the sockets of devices that have changed. If an address is another one, the
     /// speaker starts again.
-    fn look_at_devices<R: Net + Clock + Files, I: Read + AsRawFd, W: Write, E: Write>(
+    fn look_at_devices<'r, R: Net + Clock + Files, I: Read + AsRawFd, W: Write, E: Write>(
         &mut self,
-        wire: &mut LinkWire<'_, R, I>,
+        wire: &mut KeptWire<'r, LinkWire<'r, R, I>, R>,
         printer: &mut Printer<'_, '_, W, E>,
-    ) -> Result<(), RunFault> {
-        hear(self.devices, wire.heard());
+    ) -> Result<(), RunFault>
+    where
+        R::File: LockFile,
+    {
+        hear(self.devices, wire.wire.heard());
         // If the system's lists can't be read now, they are at the next look.
-        if let Ok(lists) = Lists::read(self.alloc, wire.system) {
-            look_at_each(self.devices, &lists, wire, printer);
+        if let Ok(lists) = Lists::read(self.alloc, wire.wire.system) {
+            self.look_at_each(&lists, wire, printer);
         }
-        wire.note_look();
+        wire.wire.note_look();
         if self.take_addresses(printer) {
             printer.note_restart();
             return self.restart(wire.now());
         }
         Ok(())
+    }
+
+    /// Looks at each device. Of one that can't be used any more, or has lost its carrier, the links
+    /// are lost at once, before any Hello is missed.
+    fn look_at_each<'r, R: Net + Clock + Files, I: Read + AsRawFd, W: Write, E: Write>(
+        &mut self,
+        lists: &Lists,
+        wire: &mut KeptWire<'r, LinkWire<'r, R, I>, R>,
+        printer: &mut Printer<'_, '_, W, E>,
+    )
+    where
+        R::File: LockFile,
+    {
+        for (number, device) in self.devices.iter_mut().enumerate() {
+            let step = device.look(lists);
+            if let Step::Close(_) | Step::LoseCarrier = step {
+                lose_links(self.speaker, wire, u8::try_from(number).unwrap_or(u8::MAX));
+            }
+            if let Some(note) = take_device_step(number, device, step, &mut wire.wire) {
+                printer.note_device(number, device.settings.name, note);
+            }
+            if device.take_report() {
+                printer.doubt(number);
+            }
+        }
     }
 
     /// Takes the addresses that the devices have now. Returns whether one is another.
@@ -293,24 +321,6 @@ fn note_unused<W: Write, E: Write>(devices: &[Tracked<'_>], printer: &mut Printe
     }
 }
 
-/// Looks at each device.
-fn look_at_each<R: Clock + Net, I: Read + AsRawFd, W: Write, E: Write>(
-    devices: &mut [Tracked<'_>],
-    lists: &Lists,
-    wire: &mut LinkWire<'_, R, I>,
-    printer: &mut Printer<'_, '_, W, E>,
-) {
-    for (number, device) in devices.iter_mut().enumerate() {
-        let step = device.look(lists);
-        if let Some(note) = take_device_step(number, device, step, wire) {
-            printer.note_device(number, device.settings.name, note);
-        }
-        if device.take_report() {
-            printer.doubt(number);
-        }
-    }
-}
-
 /// Opens or closes the sockets of a device, and returns what became of it.
 fn take_device_step<R: Clock + Net, I: Read + AsRawFd>(
     number: usize,
@@ -324,6 +334,7 @@ fn take_device_step<R: Clock + Net, I: Read + AsRawFd>(
             wire.close_link(number);
             Some(Note::Lost(fault))
         }
+        Step::LoseCarrier => Some(Note::NoCarrier),
         Step::Open(opened) => match wire.open_link(number, opened) {
             Ok(()) => {
                 device.note_opened();

@@ -10,6 +10,7 @@ use Rattle.babel_message.specs.declared.placements.Placed.{Placed}
 use Rattle.babel_state.specs.declared.interfaces.InterfaceEntry.{InterfaceEntry}
 use Rattle.babel_state.specs.declared.notes.Note.{Note}
 use Rattle.babel_state.specs.Calls.{cost_set, announced_also, withdrawn}
+use Rattle.babel_state.specs.LostLinks.{links_lost}
 use Rattle.babel_state.specs.Messages.{Arrival, handle_message, handle_content, after_places, Receives}
 use Rattle.babel_state.specs.NextDatagram.{left_out_more}
 use Rattle.babel_state.specs.Restarts.{Snapshot, snapshot_of}
@@ -17,6 +18,7 @@ use Rattle.babel_state.specs.SeqnoRequests.{raised}
 use Rattle.babel_state.specs.State.{State, interface_at, announces}
 use Rattle.babel_state.specs.StepLaws.{OwnValue, own_of, KeepsOwn, GrowsOnce}
 use Rattle.babel_state.proofs.Keeping.{message_own}
+use Rattle.babel_state.proofs.LostLinks.{losing_own}
 use Rattle.babel_speaker.specs.SentMessages.{without_front}
 use Rattle.babel_speaker.specs.Versions.{KeepsSnapshot}
 
@@ -94,6 +96,14 @@ announced_snapshot prefix s t is = ap snapshot_of is ∙ if_snapshot (announces 
 pub withdrawn_snapshot : (prefix : PrefixValue) (s t : State) → t ≡ withdrawn prefix s → snapshot_of t ≡ snapshot_of s
 unfolding withdrawn snapshot_of
 withdrawn_snapshot prefix s t is = ap snapshot_of is
+
+own_snapshot : (s t : State) → KeepsOwn s t → snapshot_of t ≡ snapshot_of s
+unfolding own_of
+own_snapshot s t own =
+    same_parts s t (ap (λ (o : OwnValue). o.router) own, ap (λ (o : OwnValue). o.sources) own) (ap (λ (o : OwnValue). o.seqno) own) (ap (λ (o : OwnValue). o.raises) own)
+
+pub lost_snapshot : (now iface : ℕ) (s t : State) → t ≡ links_lost now iface s → snapshot_of t ≡ snapshot_of s
+lost_snapshot now iface s t is = ap snapshot_of is ∙ own_snapshot s (links_lost now iface s) (losing_own now iface s)
 
 -- ---- what the same snapshot says
 

@@ -3,6 +3,7 @@
 pub mod causes;
 pub mod hellos;
 pub mod losses;
+pub mod lost_links;
 pub mod messages;
 pub mod receiving;
 pub mod records;

@@ -13,6 +13,7 @@ ghost use Rattle.babel_state.specs.Configs.{config_fault};
 ghost use Rattle.babel_state.specs.Limits.{most_pending};
 ghost use Rattle.babel_state.specs.Invariants.{IsWellFormed};
 ghost use Rattle.babel_state.specs.KeptRoutes.{KeepsRoutes};
+ghost use Rattle.babel_state.specs.LostLinks.{links_lost};
 ghost use Rattle.babel_state.specs.Messages.{arrival_of, Receives, IsRecvFault};
 ghost use Rattle.babel_state.specs.CurrentSelections.{AreCurrent, AreInHalf, IsCurrentAt, KeepsCurrent, KeepsSelections};
 ghost use Rattle.babel_state.specs.QueueLaws.{is_silent};
@@ -35,6 +36,7 @@ ghost use Rattle.babel_speaker.specs.Versions.{CountsChanges, CountsRoutes, Coun
 
 use crate::decoded::{Decoded, decoded_are_encodable, is_encodable_again};
 use crate::hints::Hints;
+use crate::input::lost_links::lose_links;
 use crate::input::receiving::{receive, receive_decoded};
 use crate::input::records::Arrival;
 use crate::output::datagrams::next_datagram;
@@ -442,6 +444,25 @@ impl Speaker {
         ensures none { IsFalse result → (now : ℕ) → seqnos_requested now self.now.state ≡ self.now.state }
     {
         self.core.wants_seqnos()
+    }
+
+    /// The interface is down, as the system says: its links cost infinity, whatever Hellos were
+    /// heard (RFC 8966, section 3.4.3), and routes are selected again. So a caller need not wait
+    /// until Hellos are missed. Each neighbour is kept, and its link has a finite cost again once
+    /// it reports one in an IHU.
+    pub fn lose_links(&mut self, now: u64, iface: u8)
+        ensures state { self.new.state ≡ links_lost now iface self.old.state }
+        ensures moves { MovesAlone 0 (seen self.old.state).announces self.old.state self.new.state }
+        ensures current { KeepsCurrent self.old.state self.new.state }
+        ensures counted { CountsChanges self.old self.new }
+        ensures snapshots { CountsSnapshots self.old self.new }
+    {
+        states_are_well_formed();
+        calls_move();
+        selections_stay_current();
+        self.hints.changed = false;
+        lose_links(&mut self.core, now, iface, &mut self.hints);
+        self.routes = counted(self.routes, self.hints.changed);
     }
 
     /// Sets the nominal cost of an interface (RFC 8966, appendix A.2.1): E1 or E2 is the first

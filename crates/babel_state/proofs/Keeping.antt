@@ -36,7 +36,7 @@ if_state : (b : Bool) (x y : State) (o : OwnValue) → own_of x ≡ o → own_of
 if_state true x y o p q = p
 if_state false x y o p q = q
 
-if_step : (b : Bool) (x y : Step) (o : OwnValue) → own_of x.0 ≡ o → own_of y.0 ≡ o → own_of (if b then x else y).0 ≡ o
+pub if_step : (b : Bool) (x y : Step) (o : OwnValue) → own_of x.0 ≡ o → own_of y.0 ≡ o → own_of (if b then x else y).0 ≡ o
 if_step true x y o p q = p
 if_step false x y o p q = q
 
@@ -109,7 +109,7 @@ unfolding handle_hello
 hello_own now peer unicast seqno interval s =
     if_step _ _ _ _ (all_own now s) (all_own now (hears now peer unicast seqno interval s) ∙ hears_own now peer unicast seqno interval s)
 
-ihu_own : (now : ℕ) (peer : Peer) (to : Option Addr) (rxcost interval : ℕ) (s : State) → own_of (handle_ihu now peer to rxcost interval s).0 ≡ own_of s
+pub ihu_own : (now : ℕ) (peer : Peer) (to : Option Addr) (rxcost interval : ℕ) (s : State) → own_of (handle_ihu now peer to rxcost interval s).0 ≡ own_of s
 unfolding handle_ihu
 ihu_own now peer to rxcost interval s = if_step _ _ _ _ (all_own now _ ∙ neighbours_own s _) refl
 

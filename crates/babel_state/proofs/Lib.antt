@@ -17,6 +17,7 @@ pub mod WellFormed
 pub mod OwnRouters
 pub mod Moving
 pub mod Requesting
+pub mod LostLinks
 pub mod DatagramsSent
 pub mod Meanings
 pub mod SettledLemmas

@@ -21,7 +21,7 @@ use Rattle.babel_state.proofs.Hearing.{messages_heard}
 use Rattle.babel_state.proofs.Keeping.{message_own}
 use Rattle.babel_state.proofs.SettledLemmas.{same_router}
 
-nothing_in : {X : Type 0} → (x : X) → Contains [] x → ⊥
+pub nothing_in : {X : Type 0} → (x : X) → Contains [] x → ⊥
 nothing_in x h = omega (arith, h.1)
 
 only_one : {X : Type 0} → (y x : X) → Contains (y ∷ []) x → y ≡ x

@@ -21,6 +21,7 @@ use Rattle.babel_state.specs.Ticks.{ticked}
 use Rattle.babel_state.specs.Requesting.{seqnos_requested}
 use Rattle.babel_state.specs.SeqnoRequests.{raised}
 use Rattle.babel_state.specs.Messages.{handle_message, after_places}
+use Rattle.babel_state.specs.LostLinks.{links_lost}
 use Rattle.babel_state.specs.Calls.{first_state, announced_also, withdrawn}
 use Rattle.babel_state.specs.State.{State, announces, cost_at, pair_at, entry_at, selected_at}
 
@@ -103,3 +104,6 @@ RaisingKeepsCurrent = (s : State) → KeepsCurrent s (raised s)
 
 abbrev pub RequestingKeepsCurrent : Type 0
 RequestingKeepsCurrent = (now : ℕ) (s : State) → KeepsCurrent s (seqnos_requested now s)
+
+abbrev pub LosingKeepsCurrent : Type 0
+LosingKeepsCurrent = (now iface : ℕ) (s : State) → AreRoutesInOrder s → KeepsCurrent s (links_lost now iface s)

@@ -29,6 +29,7 @@ use Rattle.babel_state.specs.PendingRequests.{PendingRequests}
 use Rattle.babel_state.specs.State.{State, PrefixSet, entry_at, selected_at}
 use Rattle.babel_state.specs.Addresses.{transport_of}
 use Rattle.babel_state.specs.Messages.{handle_message}
+use Rattle.babel_state.specs.LostLinks.{links_lost}
 use Rattle.babel_state.specs.Ticks.{ticked}
 use Rattle.babel_state.specs.NextDatagram.{Fits, next_datagram}
 use Rattle.babel_state.specs.Requesting.{seqnos_requested}
@@ -156,6 +157,9 @@ RaisingKeepsWellFormed = (s : State) → IsWellFormed s → IsWellFormed (raised
 
 abbrev pub RequestingKeepsWellFormed : Type 0
 RequestingKeepsWellFormed = (now : ℕ) (s : State) → IsWellFormed s → IsWellFormed (seqnos_requested now s)
+
+abbrev pub LosingKeepsWellFormed : Type 0
+LosingKeepsWellFormed = (now iface : ℕ) (s : State) → IsWellFormed s → IsWellFormed (links_lost now iface s)
 
 -- A change of a nominal cost changes no link's cost, so that what is current stays current.
 abbrev pub CostsKeepCurrent : Type 0

@@ -12,6 +12,7 @@ pub mod Updates
 pub mod SeqnoRequests
 pub mod Requesting
 pub mod Messages
+pub mod LostLinks
 pub mod Ticks
 pub mod OutgoingMessages
 pub mod NextDatagram

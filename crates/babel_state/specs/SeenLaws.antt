@@ -13,6 +13,7 @@ use Rattle.babel_state.specs.State.{State, cost_at}
 use Rattle.babel_state.specs.Requesting.{seqnos_requested}
 use Rattle.babel_state.specs.SeqnoRequests.{raised}
 use Rattle.babel_state.specs.Messages.{handle_message, after_places}
+use Rattle.babel_state.specs.LostLinks.{links_lost}
 use Rattle.babel_state.specs.Ticks.{ticked}
 use Rattle.babel_state.specs.NextDatagram.{Fits, next_datagram}
 use Rattle.babel_state.specs.Calls.{first_state, set_cost_fault, cost_set, is_prefix_too_many, announced_also, withdrawn}
@@ -94,6 +95,9 @@ RaisingMoves = (s : State) → IsWellFormed s → MovesAlone 1 (seen s).announce
 
 abbrev pub RequestingMoves : Type 0
 RequestingMoves = (now : ℕ) (s : State) → IsWellFormed s → MovesAlone 0 (seen s).announces s (seqnos_requested now s)
+
+abbrev pub LosingMoves : Type 0
+LosingMoves = (now iface : ℕ) (s : State) → IsWellFormed s → MovesAlone 0 (seen s).announces s (links_lost now iface s)
 
 -- The next datagram sends its updates over its target's interface.
 abbrev pub DatagramsSend : Type 0

@@ -16,6 +16,7 @@ use Rattle.babel_state.specs.State.{State, PrefixSet, pair_at}
 use Rattle.babel_state.specs.Reselection.{UnfeasibleUpdate, reselect, reselect_all}
 use Rattle.babel_state.specs.Calls.{cost_set, announced_also, withdrawn}
 use Rattle.babel_state.specs.Messages.{handle_message}
+use Rattle.babel_state.specs.LostLinks.{links_lost}
 use Rattle.babel_state.specs.Ticks.{ticked}
 use Rattle.babel_state.specs.NextDatagram.{Fits, next_datagram}
 use Rattle.babel_state.specs.Requesting.{seqnos_requested}
@@ -71,6 +72,10 @@ MessagesKeepOwn =
 -- A tick keeps it, with collection off.
 abbrev pub TicksKeepOwn : Type 0
 TicksKeepOwn = (now : ℕ) (s : State) → s.collects ≡ false → KeepsOwn s (ticked now s)
+
+-- So do links that are lost.
+abbrev pub LosingKeepsOwn : Type 0
+LosingKeepsOwn = (now iface : ℕ) (s : State) → KeepsOwn s (links_lost now iface s)
 
 -- ---- sending
 
@@ -163,6 +168,9 @@ RaisingKeepsSettings = (s : State) → KeepsSettings s (raised s)
 
 abbrev pub RequestingKeepsSettings : Type 0
 RequestingKeepsSettings = (now : ℕ) (s : State) → KeepsSettings s (seqnos_requested now s)
+
+abbrev pub LosingKeepsSettings : Type 0
+LosingKeepsSettings = (now iface : ℕ) (s : State) → KeepsSettings s (links_lost now iface s)
 
 -- And `set_cost` changes the cost of its interface alone.
 abbrev pub with_cost_at : ℕ → ℕ → List InterfaceEntry → List InterfaceEntry

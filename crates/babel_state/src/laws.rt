@@ -3,14 +3,14 @@
 ghost use Rattle.std.specs.Prelude.{◌≡◌, ◌<◌, ◌≤◌, ◌^◌, List, length};
 ghost use Rattle.babel_state.specs.declared.items.Item.{Item};
 ghost use Rattle.babel_state.specs.Limits.{most_pending};
-ghost use Rattle.babel_state.specs.Invariants.{CostsKeepCurrent, CostsKeepRoutes, SendingKeepsSelected, SendingKeepsSelections, SendingKeepsCurrentInHalf, NewSpeakersAreWellFormed, MessagesKeepWellFormed, TicksKeepWellFormed, SendingKeepsWellFormed, CostsKeepWellFormed, AnnouncingKeepsWellFormed, WithdrawingKeepsWellFormed, RaisingKeepsWellFormed, RequestingKeepsWellFormed};
+ghost use Rattle.babel_state.specs.Invariants.{CostsKeepCurrent, CostsKeepRoutes, SendingKeepsSelected, SendingKeepsSelections, SendingKeepsCurrentInHalf, NewSpeakersAreWellFormed, MessagesKeepWellFormed, TicksKeepWellFormed, SendingKeepsWellFormed, CostsKeepWellFormed, AnnouncingKeepsWellFormed, WithdrawingKeepsWellFormed, RaisingKeepsWellFormed, RequestingKeepsWellFormed, LosingKeepsWellFormed};
 ghost use Rattle.babel_state.specs.Queueing.{Pending, queued, queued_at_once};
 ghost use Rattle.babel_state.specs.QueueLaws.{QueueingAppends, NothingIsSkipped, NoneIfNothingPending, ItemsAreEncodable, DatagramsAreEncodable, ItemsHaveInterfaces};
 ghost use Rattle.babel_state.specs.Restarts.{SnapshotsAreSeen, RestartsAreSeen, SnapshotsAreWhole, RestoredAreWellFormed, RestartsAreWellFormed, RestoredAreCurrent};
 ghost use Rattle.babel_state.specs.SettledLaws.{SettledReselectsNothing, HellosKeepCurrent, IhusKeepCurrent, TimersKeepCurrent};
-ghost use Rattle.babel_state.specs.SeenLaws.{DatagramsSend, NoDatagramChangesNothing, PlacesMove, TicksMove, CostsMove, AnnouncingMoves, WithdrawingMoves, RaisingMoves, RequestingMoves, MessagesAreHeard, NewSpeakersAreNew, CurrentIsSelecting, TicksHearNothing};
-ghost use Rattle.babel_state.specs.CurrentSelections.{MessagesKeepCurrent, PlacesKeepCurrent, AnnouncingKeepsCurrent, WithdrawingKeepsCurrent, RaisingKeepsCurrent, RequestingKeepsCurrent, NewSpeakersAreCurrent, ReselectionsMakeCurrent, TicksMakeCurrent};
-ghost use Rattle.babel_state.specs.StepLaws.{ReselectionKeepsBase, ReselectionOfAllKeepsBase, RequestingKeepsTheRest, MessagesKeepOwn, TicksKeepOwn, SendingKeepsKnown, SendingLowersSources, MessagesKeepSettings, TicksKeepSettings, SendingKeepsSettings, AnnouncingKeepsSettings, WithdrawingKeepsSettings, RaisingKeepsSettings, RequestingKeepsSettings, CostsSetOneCost};
+ghost use Rattle.babel_state.specs.SeenLaws.{DatagramsSend, NoDatagramChangesNothing, PlacesMove, TicksMove, CostsMove, AnnouncingMoves, WithdrawingMoves, RaisingMoves, RequestingMoves, LosingMoves, MessagesAreHeard, NewSpeakersAreNew, CurrentIsSelecting, TicksHearNothing};
+ghost use Rattle.babel_state.specs.CurrentSelections.{MessagesKeepCurrent, PlacesKeepCurrent, AnnouncingKeepsCurrent, WithdrawingKeepsCurrent, RaisingKeepsCurrent, RequestingKeepsCurrent, LosingKeepsCurrent, NewSpeakersAreCurrent, ReselectionsMakeCurrent, TicksMakeCurrent};
+ghost use Rattle.babel_state.specs.StepLaws.{ReselectionKeepsBase, ReselectionOfAllKeepsBase, RequestingKeepsTheRest, MessagesKeepOwn, TicksKeepOwn, LosingKeepsOwn, SendingKeepsKnown, SendingLowersSources, MessagesKeepSettings, TicksKeepSettings, SendingKeepsSettings, AnnouncingKeepsSettings, WithdrawingKeepsSettings, RaisingKeepsSettings, RequestingKeepsSettings, LosingKeepsSettings, CostsSetOneCost};
 
 /// Items that are queued one after the other leave what they leave all at once: the last 4,096 of
 /// the old items followed by the new ones, and a count of what was cut.
@@ -28,6 +28,11 @@ pub fn messages_keep_what_is_own()
 /// So does a tick, which doesn't raise the seqno either, where collection is off.
 pub fn ticks_keep_what_is_own()
     ensures { TicksKeepOwn }
+{}
+
+/// So do links that are lost.
+pub fn lost_links_keep_what_is_own()
+    ensures { LosingKeepsOwn }
 {}
 
 /// Sending changes nothing that the speaker knows, no selection above all, and lowers each source
@@ -83,6 +88,7 @@ pub fn states_are_well_formed()
     ensures withdraw { WithdrawingKeepsWellFormed }
     ensures raise { RaisingKeepsWellFormed }
     ensures request_seqnos { RequestingKeepsWellFormed }
+    ensures lose_links { LosingKeepsWellFormed }
 {}
 
 /// What a network sees of each call but `next_datagram`: the updates that were heard, how often the
@@ -96,6 +102,7 @@ pub fn calls_move()
     ensures withdraw { WithdrawingMoves }
     ensures raise { RaisingMoves }
     ensures request_seqnos { RequestingMoves }
+    ensures lose_links { LosingMoves }
 {}
 
 /// What a network sees of the next datagram: what its updates advertise, the own address that each
@@ -107,12 +114,12 @@ pub fn datagrams_send()
     ensures none { NoDatagramChangesNothing }
 {}
 
-/// Messages, new nominal costs, own prefixes, raises and requests for a seqno keep each selection
-/// that is current. A new nominal cost changes nothing that is reported of a selected route: a link that is up costs what
-/// its neighbour reports (RFC 8966, appendix A.2.1). The next datagram changes no selection, and
-/// leaves each selected route a candidate. It keeps a current selection, unless an unfeasible route
-/// of the prefix becomes feasible. That can't be while the seqnos of the prefix lie in one half of
-/// the circle.
+/// Messages, new nominal costs, own prefixes, raises, requests for a seqno and lost links keep each
+/// selection that is current. A new nominal cost changes nothing that is reported of a selected
+/// route: a link that is up costs what its neighbour reports (RFC 8966, appendix A.2.1). The next
+/// datagram changes no selection, and leaves each selected route a candidate. It keeps a current
+/// selection, unless an unfeasible route of the prefix becomes feasible. That can't be while the
+/// seqnos of the prefix lie in one half of the circle.
 #[inline]
 pub fn selections_stay_current()
     ensures messages { MessagesKeepCurrent }
@@ -123,6 +130,7 @@ pub fn selections_stay_current()
     ensures withdraw { WithdrawingKeepsCurrent }
     ensures raise { RaisingKeepsCurrent }
     ensures request_seqnos { RequestingKeepsCurrent }
+    ensures lose_links { LosingKeepsCurrent }
     ensures next_datagram { SendingKeepsSelected }
     ensures sending { SendingKeepsSelections }
     ensures half { SendingKeepsCurrentInHalf }
@@ -150,6 +158,7 @@ pub fn settings_stay()
     ensures withdraw { WithdrawingKeepsSettings }
     ensures raise { RaisingKeepsSettings }
     ensures request_seqnos { RequestingKeepsSettings }
+    ensures lose_links { LosingKeepsSettings }
     ensures set_cost { CostsSetOneCost }
 {}
 

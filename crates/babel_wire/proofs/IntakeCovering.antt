@@ -2,13 +2,14 @@
 use Rattle.std.proofs.Common.{◌≡◌, ◌⊎◌, ℕ, suc, List, [], ◌∷◌, ◌++◌, take, Contains, Option, Some, refl, sym, ap, ◌∙◌, subst, inl, inr, append_assoc}
 use Rattle.std.proofs.lemmas.List.{append-nil}
 use Rattle.std.proofs.lemmas.List.Elements.{Contains-append_left}
+use Rattle.babel_state.specs.LostLinks.{links_lost}
 use Rattle.babel_state.specs.Requesting.{seqnos_requested}
 use Rattle.babel_state.specs.Restarts.{Snapshot, snapshot_of, restored}
 use Rattle.babel_state.specs.State.{State}
 use Rattle.babel_wire.specs.Calls.{Call, Now, Sending}
 use Rattle.babel_wire.specs.Keeping.{DurableTurn, AreOctetsOf, IsDurableTurn, last_kept, given_in, calls_of_turn}
 use Rattle.babel_wire.specs.Cuts.{File, IsCutOf, on_disk, sent_in}
-use Rattle.babel_wire.specs.Intakes.{DurableStep, Turning, TakingIn, Requesting, calls_of_intake, calls_of_steps, AreDurableSteps, taken_by, IsCoveredBySteps, TurnsAreSteps, StepsGoOn, WhatIsKeptCoversWithIntakes, CrashesWithIntakesAreRestarts}
+use Rattle.babel_wire.specs.Intakes.{DurableStep, Turning, TakingIn, Requesting, Losing, calls_of_intake, calls_of_steps, AreDurableSteps, AreSteps, taken_by, IsCoveredBySteps, TurnsAreSteps, StepsGoOn, WhatIsKeptCoversWithIntakes, CrashesWithIntakesAreRestarts}
 use Rattle.babel_wire.proofs.Covering.{After, cut_in, whole_cut, sent_joined, Same, after_recv, after_now, IsOf, turn_cut, disk_after_keeping, sent_given}
 use Rattle.babel_wire.proofs.Files.{disk_joined}
 use Rattle.babel_wire.proofs.Members.{AreIn, none_in, joined_in}
@@ -30,6 +31,8 @@ joined last mid later old state new (TakingIn i ∷ ss) rest (next, intake, firs
     (next, intake, joined last mid later next state new ss rest first after)
 joined last mid later old state new (Requesting now ∷ ss) rest first after =
     joined last mid later (seqnos_requested now old) state new ss rest first after
+joined last mid later old state new (Losing now iface ∷ ss) rest first after =
+    joined last mid later (links_lost now iface old) state new ss rest first after
 
 calls_joined : (first rest : List DurableStep) → calls_of_steps (first ++ rest) ≡ calls_of_steps first ++ calls_of_steps rest
 calls_joined [] rest = refl
@@ -37,6 +40,7 @@ calls_joined (Turning t ∷ ss) rest =
     ap (λ cs. calls_of_turn t ++ cs) (calls_joined ss rest) ∙ sym (append_assoc (calls_of_turn t) (calls_of_steps ss) (calls_of_steps rest))
 calls_joined (TakingIn i ∷ ss) rest = ap (λ cs. calls_of_intake i ++ cs) (calls_joined ss rest)
 calls_joined (Requesting now ∷ ss) rest = ap (λ cs. Now now ∷ cs) (calls_joined ss rest)
+calls_joined (Losing now iface ∷ ss) rest = ap (λ cs. Now now ∷ cs) (calls_joined ss rest)
 
 pub steps_go_on : StepsGoOn
 steps_go_on last mid later old state new first rest one other =
@@ -71,46 +75,39 @@ by_more last old mid t steps cut later octets turn is more = record {
       (joined_in (sent_in (calls_of_turn t)) (sent_in later) t.turn.sendings (taken_by (take more.count steps)) (sent_given t) more.covers);
 }
 
+-- By a step in which nothing is taken from the speaker.
+by_other : (old mid : State) (step : DurableStep) (steps : List DurableStep) (files : List File) (cut after : List Call) (file : File) →
+    ((state : State) (count : ℕ) → AreSteps mid (take count steps) state → AreSteps old (step ∷ take count steps) state) →
+    ((rest : List DurableStep) → taken_by (step ∷ rest) ≡ taken_by rest) → sent_in cut ≡ sent_in after → Covers mid steps files after file → Covers old (step ∷ steps) files cut file
+by_other old mid step steps files cut after file leads silent same (inl (old_file, none)) = inl (old_file, same ∙ none)
+by_other old mid step steps files cut after file leads silent same (inr (octets, is, more)) = inr (
+  octets,
+  is,
+  record {
+    count = suc more.count;
+    state = more.state;
+    reached = leads more.state more.count more.reached;
+    octets_of = more.octets_of;
+    covers = subst (λ xs. AreIn xs (taken_by (step ∷ take more.count steps))) (sym same) (subst (AreIn (sent_in after)) (sym (silent (take more.count steps))) more.covers);
+  },
+)
+
 pub steps_cover : WhatIsKeptCoversWithIntakes
 steps_cover last later old new [] files [] file steps disk is_cut at = inl (at, refl)
 steps_cover last later old new [] files (c ∷ cs) file steps disk is_cut at = absurd is_cut
 steps_cover last later old new (TakingIn i ∷ ss) files cut file (mid, intake, rest) disk is_cut at =
     let one : Same (Now i.now ∷ calls_of_steps ss) cut = after_recv i.receipt (Now i.now ∷ calls_of_steps ss) cut is_cut in
     let two : Same (calls_of_steps ss) one.0 = after_now i.now (calls_of_steps ss) one.0 one.1 in
-    later_on two.0 (one.3 ∙ two.3)
+    by_other old mid (TakingIn i) ss files cut two.0 file (λ state count reached. (mid, intake, reached)) (λ rest. refl) (one.3 ∙ two.3)
     (steps_cover last later mid new ss files two.0 file rest disk two.1 (subst (λ fs. Contains fs file) (one.2 files ∙ two.2 files) at))
-  where
-    later_on : (after : List Call) → sent_in cut ≡ sent_in after → Covers mid ss files after file → Covers old (TakingIn i ∷ ss) files cut file
-    later_on after same (inl (old_file, none)) = inl (old_file, same ∙ none)
-    later_on after same (inr (octets, is, more)) = inr (
-      octets,
-      is,
-      record {
-        count = suc more.count;
-        state = more.state;
-        reached = (mid, intake, more.reached);
-        octets_of = more.octets_of;
-        covers = subst (λ xs. AreIn xs (taken_by (take more.count ss))) (sym same) more.covers;
-      },
-    )
 steps_cover last later old new (Requesting now ∷ ss) files cut file rest disk is_cut at =
     let one : Same (calls_of_steps ss) cut = after_now now (calls_of_steps ss) cut is_cut in
-    later_on one.0 one.3
+    by_other old (seqnos_requested now old) (Requesting now) ss files cut one.0 file (λ state count reached. reached) (λ rest. refl) one.3
     (steps_cover last later (seqnos_requested now old) new ss files one.0 file rest disk one.1 (subst (λ fs. Contains fs file) (one.2 files) at))
-  where
-    later_on : (after : List Call) → sent_in cut ≡ sent_in after → Covers (seqnos_requested now old) ss files after file → Covers old (Requesting now ∷ ss) files cut file
-    later_on after same (inl (old_file, none)) = inl (old_file, same ∙ none)
-    later_on after same (inr (octets, is, more)) = inr (
-      octets,
-      is,
-      record {
-        count = suc more.count;
-        state = more.state;
-        reached = more.reached;
-        octets_of = more.octets_of;
-        covers = subst (λ xs. AreIn xs (taken_by (take more.count ss))) (sym same) more.covers;
-      },
-    )
+steps_cover last later old new (Losing now iface ∷ ss) files cut file rest disk is_cut at =
+    let one : Same (calls_of_steps ss) cut = after_now now (calls_of_steps ss) cut is_cut in
+    by_other old (links_lost now iface old) (Losing now iface) ss files cut one.0 file (λ state count reached. reached) (λ rest. refl) one.3
+    (steps_cover last later (links_lost now iface old) new ss files one.0 file rest disk one.1 (subst (λ fs. Contains fs file) (one.2 files) at))
 steps_cover last later old new (Turning t ∷ ss) files cut file (mid, turn, rest) disk is_cut at =
     by (λ after cut_after there. steps_cover (last_kept last (snapshot_of mid) t.keeping) later mid new ss (on_disk files (calls_of_turn t)) after file rest
     (disk_after_keeping last (snapshot_of mid) t.keeping (given_in t) files turn.keeps disk) cut_after there)

@@ -1,6 +1,7 @@
--- Datagrams that are taken in between turns, and requests that are made there, while nothing is sent (profile). RFC 8966, section 3.1, lets a speaker buffer what it sends for a short time.
+-- Datagrams that are taken in between turns, and requests that are made and links that are lost there, while nothing is sent (profile). RFC 8966, section 3.1, lets a speaker buffer what it sends for a short time.
 use Rattle.std.specs.Prelude.{◌≡◌, ◌⊎◌, ℕ, Bool, List, [], ◌∷◌, ◌++◌, map, take, Contains, Option, Some}
 use Rattle.babel_state.specs.declared.configs.Config.{Config}
+use Rattle.babel_state.specs.LostLinks.{links_lost}
 use Rattle.babel_state.specs.Requesting.{seqnos_requested}
 use Rattle.babel_state.specs.Restarts.{Snapshot, snapshot_of, restored, restarted}
 use Rattle.babel_state.specs.State.{State}
@@ -48,26 +49,37 @@ pub record IsOneRequest (old : State) (history : Option (List Call)) (new : Stat
   pub speaker : new ≡ seqnos_requested now old
   pub calls : Grows history (Now now ∷ []) later
 
--- ---- turns, and intakes and requests between them
+-- ---- an interface that is down
+
+-- The wire is asked for the moment, and the links of the interface are lost (RFC 8966, section 3.4.3). What follows from that stays pending.
+pub record IsOneLoss (iface : ℕ) (old : State) (history : Option (List Call)) (new : State) (later : Option (List Call)) : Type 0 where
+  pub now : ℕ
+  pub speaker : new ≡ links_lost now iface old
+  pub calls : Grows history (Now now ∷ []) later
+
+-- ---- turns, and intakes, requests and losses between them
 
 pub data DurableStep : Type 0 where
   Turning : DurableTurn → DurableStep
   TakingIn : Intake → DurableStep
   Requesting : ℕ → DurableStep
+  Losing : ℕ → ℕ → DurableStep
 
 abbrev pub calls_of_steps : List DurableStep → List Call
 calls_of_steps [] = []
 calls_of_steps (Turning t ∷ steps) = calls_of_turn t ++ calls_of_steps steps
 calls_of_steps (TakingIn i ∷ steps) = calls_of_intake i ++ calls_of_steps steps
 calls_of_steps (Requesting now ∷ steps) = Now now ∷ calls_of_steps steps
+calls_of_steps (Losing now iface ∷ steps) = Now now ∷ calls_of_steps steps
 
--- Steps one after another, with the snapshot that was kept last before and after them. An intake keeps none, and neither do requests.
+-- Steps one after another, with the snapshot that was kept last before and after them. An intake keeps none, and neither do requests and losses.
 abbrev pub AreDurableSteps : Option Snapshot → State → List DurableStep → Option Snapshot → State → Type 0
 AreDurableSteps last old [] later new = (later ≡ last) × (new ≡ old)
 AreDurableSteps last old (Turning t ∷ steps) later new =
     (mid : State) × IsDurableTurn last old t mid × AreDurableSteps (last_kept last (snapshot_of mid) t.keeping) mid steps later new
 AreDurableSteps last old (TakingIn i ∷ steps) later new = (mid : State) × IsIntake old i mid × AreDurableSteps last mid steps later new
 AreDurableSteps last old (Requesting now ∷ steps) later new = AreDurableSteps last (seqnos_requested now old) steps later new
+AreDurableSteps last old (Losing now iface ∷ steps) later new = AreDurableSteps last (links_lost now iface old) steps later new
 
 -- The same without what became of the snapshots.
 abbrev pub AreSteps : State → List DurableStep → State → Type 0
@@ -75,6 +87,7 @@ AreSteps old [] new = new ≡ old
 AreSteps old (Turning t ∷ steps) new = (mid : State) × IsTurn old t.turn mid × AreSteps mid steps new
 AreSteps old (TakingIn i ∷ steps) new = (mid : State) × IsIntake old i mid × AreSteps mid steps new
 AreSteps old (Requesting now ∷ steps) new = AreSteps (seqnos_requested now old) steps new
+AreSteps old (Losing now iface ∷ steps) new = AreSteps (links_lost now iface old) steps new
 
 -- What came in these steps.
 abbrev pub receipts_in : List DurableStep → List Receipt
@@ -82,6 +95,7 @@ receipts_in [] = []
 receipts_in (Turning t ∷ steps) = t.turn.receipt ∷ receipts_in steps
 receipts_in (TakingIn i ∷ steps) = i.receipt ∷ receipts_in steps
 receipts_in (Requesting now ∷ steps) = receipts_in steps
+receipts_in (Losing now iface ∷ steps) = receipts_in steps
 
 -- All datagrams that were taken from the speaker in these steps.
 abbrev pub taken_by : List DurableStep → List Sending
@@ -89,6 +103,7 @@ taken_by [] = []
 taken_by (Turning t ∷ steps) = t.turn.sendings ++ taken_by steps
 taken_by (TakingIn i ∷ steps) = taken_by steps
 taken_by (Requesting now ∷ steps) = taken_by steps
+taken_by (Losing now iface ∷ steps) = taken_by steps
 
 -- ---- their laws
 
@@ -112,7 +127,7 @@ StepsGoOn =
     AreDurableSteps last old first mid state → AreDurableSteps mid state rest later new →
     AreDurableSteps last old (first ++ rest) later new × (calls_of_steps (first ++ rest) ≡ calls_of_steps first ++ calls_of_steps rest)
 
--- What is kept covers what was sent also if datagrams are taken in, and requests made, between turns.
+-- What is kept covers what was sent also if datagrams are taken in, requests made and links lost between turns.
 abbrev pub WhatIsKeptCoversWithIntakes : Type 0
 WhatIsKeptCoversWithIntakes =
     (last later : Option Snapshot) (old new : State) (steps : List DurableStep) (files : List File) (cut : List Call) (file : File) →

@@ -4,6 +4,7 @@
 mod driving;
 mod intake;
 mod keeper;
+mod losing;
 mod outbox;
 mod report;
 mod requesting;
@@ -12,6 +13,7 @@ mod store;
 pub use driving::{DurableDriver, Observer, drive_durable};
 pub use intake::take_in;
 pub use keeper::Keeper;
+pub use losing::lose_links;
 pub use report::DurableReport;
 pub use requesting::request_seqnos;
 pub use store::{DurableWire, StoreFault};

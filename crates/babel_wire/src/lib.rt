@@ -4,7 +4,8 @@
 //!
 //! A speaker that may be killed at any moment is driven by [`drive_durable`], which keeps its
 //! snapshot before the datagrams of a turn are sent, [`take_in`], which takes in datagrams between
-//! turns, and [`request_seqnos`]. What is on disk when the process is killed is the subject of [`laws`].
+//! turns, [`request_seqnos`] and [`lose_links`]. What is on disk when the process is killed is the
+//! subject of [`laws`].
 //!
 //! - `wire`: what a speaker is driven over. `driving`: turns over a wire.
 //! - `durable`: turns over a wire and a store. `laws` and `examples` are about these.
@@ -22,7 +23,7 @@ mod wire;
 pub use driving::drive;
 pub use durable::{
     DurableDriver, DurableReport, DurableWire, Keeper, Observer, StoreFault, drive_durable,
-    request_seqnos, take_in,
+    lose_links, request_seqnos, take_in,
 };
 pub use errors::WireFault;
 pub use receipts::{NoReceipts, Receipts};

@@ -5,8 +5,9 @@
 //! - `Config` and `Interface` are the configuration, `read_config` reads it from TOML;
 //! - `Speaker` is the speaker: datagrams and moments in, datagrams and selected routes out;
 //! - `drive` gives it its turns over a `Wire`, and `drive_durable` keeps its snapshot as well;
-//!   `take_in` takes in a datagram between turns, and `request_seqnos` asks for better routes that
-//!   are not to be had without a greater seqno;
+//!   `take_in` takes in a datagram between turns, `request_seqnos` asks for better routes that are
+//!   not to be had without a greater seqno, and `lose_links` loses those of an interface that is
+//!   down;
 //! - `UdpWire` is a wire over UDP sockets;
 //! - `Addr`, `Prefix`, `Metric` and the others are the values that the calls take and return.
 //!
@@ -33,7 +34,7 @@ pub use babel_value::{
 };
 pub use babel_wire::{
     Arrival, DurableDriver, DurableReport, DurableWire, Keeper, NoReceipts, Observer, Receipts,
-    Report, StoreFault, Wire, WireFault, drive, drive_durable, request_seqnos, take_in,
+    Report, StoreFault, Wire, WireFault, drive, drive_durable, lose_links, request_seqnos, take_in,
 };
 pub use errors::{SpeakCode, SpeakFault};
 pub use links::Links;

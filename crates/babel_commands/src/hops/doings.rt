@@ -75,6 +75,7 @@ fn word_of(event: Option<&Event>) -> &'static str {
         Some(Event::SetCost { .. }) => "cost",
         Some(Event::Raise { .. }) => "raise",
         Some(Event::RequestSeqnos { .. }) => "request",
+        Some(Event::LoseLinks { .. }) => "lose",
         Some(Event::Announce { .. }) => "announce",
         Some(Event::Withdraw { .. }) => "withdraw",
         Some(Event::Restart { .. }) => "restart",

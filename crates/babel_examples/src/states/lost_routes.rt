@@ -5,6 +5,7 @@ ghost use Rattle.babel_message.specs.declared.messages.Message.TheVariants as me
 ghost use Rattle.babel_state.specs.declared.items.Item.TheVariants as items;
 ghost use Rattle.babel_state.specs.declared.notes.Verdict.TheVariants as verdicts;
 ghost use Rattle.babel_state.specs.declared.requests.Resend.TheVariants.{Unfeasible, Neighbour};
+ghost use Rattle.babel_state.specs.LostLinks.{links_lost};
 ghost use Rattle.babel_state.specs.Requesting.{seqnos_requested};
 ghost use Rattle.babel_state.specs.State.{selected_at};
 ghost use Rattle.babel_state.specs.CurrentSelections.{has_revived_route};
@@ -118,6 +119,17 @@ pub fn answered_request()
     ensures selected { selected_peer (after 50 1 (update 1 1 6 0) waiting) ≡ Some (peer 1) }
     ensures pending { (after 50 1 (update 1 1 6 0) waiting).requests ≡ [] }
     ensures queued { queued_items (after 50 1 (update 1 1 6 0) waiting) ≡ items.Update (to_all 0) ten ∷ items.Update (to_all 0) ten ∷ [] }
+{}
+
+/// An interface is down: the routes over it stay in the table, but none is selected, which is
+/// advertised to all. Once a neighbour reports a cost again, its route is selected again. Of an
+/// interface without neighbours nothing is lost.
+pub fn interface_that_is_down()
+    ensures selected { selected_peer (links_lost 20 0 with_other) ≡ None }
+    ensures entries { (links_lost 20 0 with_other).routes.entries ≡ with_other.routes.entries }
+    ensures queued { queued_items (links_lost 20 0 with_other) ≡ items.Update (to_all 0) ten ∷ [] }
+    ensures again { selected_peer (after 30 3 (messages.Ihu None 96 1200) (links_lost 20 0 with_other)) ≡ Some (peer 3) }
+    ensures other { links_lost 20 1 with_other ≡ with_other }
 {}
 
 /// Sending can make a route feasible that wasn't, since the order of seqnos isn't transitive. The

@@ -3,7 +3,7 @@ use Rattle.std.proofs.Common.{◌≡◌, true, codes, refl, rules}
 use Rattle.std.proofs.lemmas.Slice.Eq.{bytes_eq-Decides}
 use Rattle.std.specs.Str.{bytes_eq}
 use Rattle.babel_text.specs.Fields.{after_blank}
-use Rattle.babel_config.proofs.EventTexts.{no_tick, no_emit, no_deliver, no_cost, no_announce, no_withdraw, no_restart, no_request}
+use Rattle.babel_config.proofs.EventTexts.{no_tick, no_emit, no_deliver, no_cost, no_announce, no_withdraw, no_restart, no_request, no_lose}
 use Rattle.babel_config.proofs.events.parse_event.Goals as goal
 
 pub returns-in_err-node : goal.returns-in_err-node
@@ -61,3 +61,10 @@ returns-in_err-node-8 c =
     let word = (bytes_eq-Decides c.args.word.now (codes "request")).0 same in
     rw c.from_residual-in_err-node-8.ensures
     (no_request c.args.text.now c.args.word.now c.args.fields.now c.requires.word c.requires.fields word c.in_err-node-8.ensures)
+
+pub returns-in_err-node-9 : goal.returns-in_err-node-9
+returns-in_err-node-9 c =
+    let same : bytes_eq c.args.word.now (codes "lose") ≡ true = search rules in
+    let word = (bytes_eq-Decides c.args.word.now (codes "lose")).0 same in
+    rw c.from_residual-in_err-node-9.ensures
+    (no_lose c.args.text.now c.args.word.now c.args.fields.now c.requires.word c.requires.fields word c.in_err-node-9.ensures)

@@ -7,4 +7,5 @@ returns c = steps_are_events (record {
   tick = c.settings_stay.ensures.tick;
   sending = c.settings_stay.ensures.next_datagram;
   requesting = c.settings_stay.ensures.request_seqnos;
+  losing = c.settings_stay.ensures.lose_links;
 })

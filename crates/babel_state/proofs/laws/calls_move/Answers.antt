@@ -1,5 +1,6 @@
 use Rattle.babel_state.proofs.Moving.{places_move, tick_moves, cost_moves, announced_moves, withdrawn_moves, raised_moves}
 use Rattle.babel_state.proofs.Requesting.{requested_moves}
+use Rattle.babel_state.proofs.LostLinks.{losing_moves}
 use Rattle.babel_state.proofs.laws.calls_move.Goals as goal
 
 pub returns-clause-datagrams : goal.returns-clause-datagrams
@@ -22,3 +23,6 @@ returns-clause-raise c = raised_moves
 
 pub returns-clause-request_seqnos : goal.returns-clause-request_seqnos
 returns-clause-request_seqnos c = requested_moves
+
+pub returns-clause-lose_links : goal.returns-clause-lose_links
+returns-clause-lose_links c = losing_moves

@@ -2,6 +2,7 @@ use Rattle.babel_state.proofs.WellFormed.{message_current, cost_current, cost_ro
 use Rattle.babel_state.proofs.DatagramsSent.{selected_stay}
 use Rattle.babel_state.proofs.HalfCircle.{half_current, sending_selections}
 use Rattle.babel_state.proofs.PlacesCurrent.{places_current}
+use Rattle.babel_state.proofs.LostLinks.{losing_current}
 use Rattle.babel_state.proofs.Requesting.{requested_current}
 use Rattle.babel_state.proofs.laws.selections_stay_current.Goals as goal
 
@@ -37,3 +38,6 @@ returns-clause-datagrams c = places_current
 
 pub returns-clause-request_seqnos : goal.returns-clause-request_seqnos
 returns-clause-request_seqnos c = requested_current
+
+pub returns-clause-lose_links : goal.returns-clause-lose_links
+returns-clause-lose_links c = losing_current

@@ -1,4 +1,5 @@
 use Rattle.babel_state.proofs.SettingsKept.{message_settings, tick_settings, sending_settings, announced_settings, withdrawn_settings, raised_settings, cost_settings}
+use Rattle.babel_state.proofs.LostLinks.{losing_settings}
 use Rattle.babel_state.proofs.Requesting.{requested_settings}
 use Rattle.babel_state.proofs.laws.settings_stay.Goals as goal
 
@@ -25,3 +26,6 @@ returns-clause-set_cost c = cost_settings
 
 pub returns-clause-request_seqnos : goal.returns-clause-request_seqnos
 returns-clause-request_seqnos c = requested_settings
+
+pub returns-clause-lose_links : goal.returns-clause-lose_links
+returns-clause-lose_links c = losing_settings

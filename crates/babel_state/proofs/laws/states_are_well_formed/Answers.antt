@@ -1,3 +1,4 @@
+use Rattle.babel_state.proofs.LostLinks.{losing_well}
 use Rattle.babel_state.proofs.NewState.{new_well}
 use Rattle.babel_state.proofs.Requesting.{requested_well}
 use Rattle.babel_state.proofs.SendingTables.{sending_well}
@@ -30,3 +31,6 @@ returns-clause-raise c = raised_well
 
 pub returns-clause-request_seqnos : goal.returns-clause-request_seqnos
 returns-clause-request_seqnos c = requested_well
+
+pub returns-clause-lose_links : goal.returns-clause-lose_links
+returns-clause-lose_links c = losing_well
