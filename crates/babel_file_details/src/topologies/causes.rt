@@ -1,4 +1,4 @@
-//! Which of the causes of T9 and T14 it is.
+//! Which of the causes of T9, T14 and T18 it is.
 
 use crate::sentences::{Sentence, Word};
 use babel_text::{parse_prefix, parse_router_id, parse_u16};
@@ -30,13 +30,19 @@ impl<'t> KnownCause<'t> {
     }
 }
 
-/// The cause of T9 or T14, if it is found.
+/// The cause of T9, T14 or T18, if it is found.
 pub(crate) fn cause_of(file: &Table, fault: TopologyFault) -> Option<KnownCause<'_>> {
     match fault {
         TopologyFault::BadRouterId(number) => router_id_cause(file, number),
         TopologyFault::BadStep(number) => {
             let text = file.get("plan")?.get(number)?.as_str()?;
-            step_cause(Plan { file, number }, text)
+            let kind = ItemKind::Step;
+            step_cause(Item { file, kind, number }, text)
+        }
+        TopologyFault::BadExpectation(number) => {
+            let text = file.get("expect")?.get(number)?.as_str()?;
+            let kind = ItemKind::Expectation;
+            expectation_cause(Item { file, kind, number }, text)
         }
         _ => None,
     }
@@ -72,47 +78,103 @@ fn router_id_of(file: &Table, number: usize) -> Option<[u8; 8]> {
     }
 }
 
-/// A step of the plan of a file.
+/// Of which list of a file an item is.
 #[derive(Clone, Copy)]
-struct Plan<'t> {
+enum ItemKind {
+    Step,
+    Expectation,
+}
+
+impl ItemKind {
+    fn name(self) -> &'static str {
+        match self {
+            ItemKind::Step => "step",
+            ItemKind::Expectation => "expectation",
+        }
+    }
+}
+
+/// A step of the plan of a file, or what the file expects.
+#[derive(Clone, Copy)]
+struct Item<'t> {
     file: &'t Table,
-    /// The number of the step.
+    kind: ItemKind,
+    /// Its number in the list.
     number: usize,
 }
 
-impl<'t> Plan<'t> {
-    /// A cause that names the step and what is wrong of it.
+impl<'t> Item<'t> {
+    /// A cause that names the item and what is wrong of it.
     fn names(self, text: &'static str, wrong: &'t str, advice: Advice) -> KnownCause<'t> {
-        let words = [Word::Count(self.number), Word::Excerpt(wrong), Word::Empty];
+        let words = [
+            Word::Text(self.kind.name()),
+            Word::Count(self.number),
+            Word::Excerpt(wrong),
+        ];
         KnownCause::new(text, words, advice)
+    }
+
+    /// The item does not begin with a time.
+    fn has_no_time(self, text: &'static str) -> KnownCause<'t> {
+        let words = [Word::Count(self.number), Word::Empty, Word::Empty];
+        KnownCause::new(text, words, Advice::OfCode)
     }
 }
 
 /// The first thing that is wrong with the text of a step.
-fn step_cause<'t>(plan: Plan<'t>, text: &'t str) -> Option<KnownCause<'t>> {
-    let Some(action) = after_time(text) else {
-        return Some(plan.names(
-            "step {} does not begin with a time, as 'at 20 s'",
-            text,
-            Advice::OfCode,
-        ));
+fn step_cause<'t>(item: Item<'t>, text: &'t str) -> Option<KnownCause<'t>> {
+    let Some(action) = after_moment(text) else {
+        return Some(item.has_no_time("step {} does not begin with a time, as 'at 20 s'"));
     };
     let (verb, fields) = split_word(action);
     let (subject, amount) = split_word(fields);
     match verb {
-        "cut" | "join" => link_cause(plan, fields),
-        "cost" => link_cause(plan, subject).or(cost_cause(plan, amount)),
-        "lossy" => link_cause(plan, subject).or(loss_cause(plan, amount)),
-        "announce" | "withdraw" => node_cause(plan, subject).or(prefix_cause(plan, amount)),
-        "restart" | "crash" => node_cause(plan, fields),
+        "cut" | "join" => link_cause(item, fields),
+        "cost" => link_cause(item, subject).or(cost_cause(item, amount)),
+        "lossy" => link_cause(item, subject).or(loss_cause(item, amount)),
+        "announce" | "withdraw" => node_cause(item, subject).or(prefix_cause(item, amount)),
+        "restart" | "crash" => node_cause(item, fields),
         "" => None,
-        _ => Some(plan.names("step {}: nothing is called {}", verb, Advice::OfCode)),
+        _ => Some(item.names("{} {}: nothing is called {}", verb, Advice::OfCode)),
     }
 }
 
+/// The first thing that is wrong with the text of what is expected.
+fn expectation_cause<'t>(item: Item<'t>, text: &'t str) -> Option<KnownCause<'t>> {
+    let Some(fields) = after_time(text) else {
+        return Some(item.has_no_time("expectation {} does not begin with a time, as '30 s'"));
+    };
+    let (node, rest) = split_word(fields);
+    let (prefix, way) = split_word(rest);
+    node_cause(item, node)
+        .or(prefix_cause(item, prefix))
+        .or(way_cause(item, way))
+}
+
+/// A way is `via NODE`, or `none`.
+fn way_cause<'t>(item: Item<'t>, way: &'t str) -> Option<KnownCause<'t>> {
+    let (word, next) = split_word(way);
+    if word == "via" {
+        return node_cause(item, next);
+    }
+    if way.is_empty() || way == "none" {
+        return None;
+    }
+    Some(item.names(
+        "{} {}: {} is neither 'via' and a node nor 'none'",
+        way,
+        Advice::InSentence,
+    ))
+}
+
 /// What follows `at TIME`, if the step begins with it.
+fn after_moment(text: &str) -> Option<&str> {
+    after_time(text.strip_prefix("at ")?)
+}
+
+/// What follows TIME, if the text begins with it.
 fn after_time(text: &str) -> Option<&str> {
-    let (count, after_count) = split_word(text.strip_prefix("at ")?);
+    let (count, after_count) = split_word(text);
     let (unit, action) = split_word(after_count);
     let _ = parse_u16(count)?;
     match unit {
@@ -126,52 +188,52 @@ fn split_word(text: &str) -> (&str, &str) {
     text.split_once(' ').unwrap_or((text, ""))
 }
 
-fn node_cause<'t>(plan: Plan<'t>, name: &'t str) -> Option<KnownCause<'t>> {
-    if name.is_empty() || has_node(plan.file, name) {
+fn node_cause<'t>(item: Item<'t>, name: &'t str) -> Option<KnownCause<'t>> {
+    if name.is_empty() || has_node(item.file, name) {
         return None;
     }
-    Some(plan.names("step {}: no node is called {}", name, Advice::InSentence))
+    Some(item.names("{} {}: no node is called {}", name, Advice::InSentence))
 }
 
 /// A link is named as `A-B`.
-fn link_cause<'t>(plan: Plan<'t>, link: &'t str) -> Option<KnownCause<'t>> {
+fn link_cause<'t>(item: Item<'t>, link: &'t str) -> Option<KnownCause<'t>> {
     let (a, b) = link.split_once('-')?;
-    let cause = node_cause(plan, a).or(node_cause(plan, b));
-    if cause.is_some() || has_link(plan.file, a, b) {
+    let cause = node_cause(item, a).or(node_cause(item, b));
+    if cause.is_some() || has_link(item.file, a, b) {
         return cause;
     }
-    Some(plan.names("step {}: there is no link {}", link, Advice::InSentence))
+    Some(item.names("{} {}: there is no link {}", link, Advice::InSentence))
 }
 
-fn cost_cause<'t>(plan: Plan<'t>, cost: &'t str) -> Option<KnownCause<'t>> {
+fn cost_cause<'t>(item: Item<'t>, cost: &'t str) -> Option<KnownCause<'t>> {
     if cost.is_empty() || matches!(parse_u16(cost), Some(1..=65534)) {
         return None;
     }
-    Some(plan.names(
-        "step {}: the cost {} is not a number from 1 to 65534",
+    Some(item.names(
+        "{} {}: the cost {} is not a number from 1 to 65534",
         cost,
         Advice::InSentence,
     ))
 }
 
-fn loss_cause<'t>(plan: Plan<'t>, loss: &'t str) -> Option<KnownCause<'t>> {
+fn loss_cause<'t>(item: Item<'t>, loss: &'t str) -> Option<KnownCause<'t>> {
     let (percent, _sign) = split_word(loss);
     if percent.is_empty() || matches!(parse_u16(percent), Some(0..=100)) {
         return None;
     }
-    Some(plan.names(
-        "step {}: the loss {} is not a number from 0 to 100, a blank and %",
+    Some(item.names(
+        "{} {}: the loss {} is not a number from 0 to 100, a blank and %",
         loss,
         Advice::InSentence,
     ))
 }
 
-fn prefix_cause<'t>(plan: Plan<'t>, prefix: &'t str) -> Option<KnownCause<'t>> {
+fn prefix_cause<'t>(item: Item<'t>, prefix: &'t str) -> Option<KnownCause<'t>> {
     if prefix.is_empty() || parse_prefix(prefix).is_some() {
         return None;
     }
-    Some(plan.names(
-        "step {}: {} is not a prefix, as 10.0.0.0/8 or 2001:db8::/32",
+    Some(item.names(
+        "{} {}: {} is not a prefix, as 10.0.0.0/8 or 2001:db8::/32",
         prefix,
         Advice::InSentence,
     ))
