@@ -224,7 +224,8 @@ impl Router<'_, '_> {
         hear(self.devices, wire.wire.heard());
         // If the system's lists can't be read now, they are at the next look.
         if let Ok(lists) = Lists::read(self.alloc, wire.wire.system) {
-            self.look_at_each(&lists, wire, printer);
+            let lost = look_at_each(self.devices, &lists, &mut wire.wire, printer);
+            self.lose_links(lost, wire);
         }
         wire.wire.note_look();
         if self.take_addresses(printer) {
@@ -234,27 +235,18 @@ impl Router<'_, '_> {
         Ok(())
     }
 
-    /// Looks at each device. Of one that can't be used any more, or has lost its carrier, the links
-    /// are lost at once, before any Hello is missed.
-    fn look_at_each<'r, R: Net + Clock + Files, I: Read + AsRawFd, W: Write, E: Write>(
+    /// The links of these devices are lost, at once, before any Hello is missed.
+    fn lose_links<'r, R: Net + Clock + Files, I: Read + AsRawFd>(
         &mut self,
-        lists: &Lists,
+        lost: DeviceSet,
         wire: &mut KeptWire<'r, LinkWire<'r, R, I>, R>,
-        printer: &mut Printer<'_, '_, W, E>,
     )
     where
         R::File: LockFile,
     {
-        for (number, device) in self.devices.iter_mut().enumerate() {
-            let step = device.look(lists);
-            if let Step::Close(_) | Step::LoseCarrier = step {
+        for number in 0..self.devices.len() {
+            if lost.has(number) {
                 lose_links(self.speaker, wire, u8::try_from(number).unwrap_or(u8::MAX));
-            }
-            if let Some(note) = take_device_step(number, device, step, &mut wire.wire) {
-                printer.note_device(number, device.settings.name, note);
-            }
-            if device.take_report() {
-                printer.doubt(number);
             }
         }
     }
@@ -319,6 +311,51 @@ fn note_unused<W: Write, E: Write>(devices: &[Tracked<'_>], printer: &mut Printe
             printer.note(device.settings.name, Note::Lost(fault));
         }
     }
+}
+
+/// Some of the devices, a bit for each.
+#[derive(Clone, Copy)]
+struct DeviceSet(u64);
+
+impl DeviceSet {
+    /// The bit of a device. There are at most 8.
+    fn bit_of(number: usize) -> u64 {
+        match number {
+            number @ 0..64 => 1 << number,
+            _ => 0,
+        }
+    }
+
+    fn insert(&mut self, number: usize) {
+        self.0 |= DeviceSet::bit_of(number);
+    }
+
+    fn has(self, number: usize) -> bool {
+        self.0 & DeviceSet::bit_of(number) != 0
+    }
+}
+
+/// Looks at each device. Returns those that can't be used any more, or have lost their carriers.
+fn look_at_each<R: Clock + Net, I: Read + AsRawFd, W: Write, E: Write>(
+    devices: &mut [Tracked<'_>],
+    lists: &Lists,
+    wire: &mut LinkWire<'_, R, I>,
+    printer: &mut Printer<'_, '_, W, E>,
+) -> DeviceSet {
+    let mut lost = DeviceSet(0);
+    for (number, device) in devices.iter_mut().enumerate() {
+        let step = device.look(lists);
+        if let Step::Close(_) | Step::LoseCarrier = step {
+            lost.insert(number);
+        }
+        if let Some(note) = take_device_step(number, device, step, wire) {
+            printer.note_device(number, device.settings.name, note);
+        }
+        if device.take_report() {
+            printer.doubt(number);
+        }
+    }
+    lost
 }
 
 /// Opens or closes the sockets of a device, and returns what became of it.
