@@ -1,5 +1,5 @@
-"""The Hellos that come over a link, with the kernel's times of arrival, and how long this machine
-stalls meanwhile.
+"""The Hellos and datagrams that come over a link, with the kernel's times of arrival, and how long
+this machine stalls meanwhile.
 
 A peer that counts a Hello as missed doesn't tell whether it wasn't sent, or came late since the
 machine was busy. On the wire both can be seen: a Hello that wasn't sent is a seqno that is missing,
@@ -19,17 +19,20 @@ IPV6, UDP = 0x86DD, 17
 # The kernel's time of arrival (SO_TIMESTAMPNS): the option, and the kind of its control message.
 TIMESTAMPS = 35
 HELLO = 4
+UPDATE = 8
 PERIOD = 0.02
 
 
 class Listener(threading.Thread):
-    """Takes each Hello that comes to a node's interface from an address."""
+    """Takes each datagram that comes to a node's interface from an address."""
 
     def __init__(self, lab, node, iface, address):
         super().__init__(daemon=True)
         self.address = socket.inet_pton(socket.AF_INET6, address)
         # Of each Hello: the time in seconds, the seqno, and the interval in seconds.
         self.hellos = []
+        # Of each datagram: the time in seconds, and how many Updates it has.
+        self.datagrams = []
         self.ended = threading.Event()
         with lab.inside(node):
             self.socket = socket.socket(socket.AF_PACKET, socket.SOCK_DGRAM, socket.htons(IPV6))
@@ -44,10 +47,11 @@ class Listener(threading.Thread):
                 octets, controls, _, _ = self.socket.recvmsg(1 << 16, 256)
                 times = [struct.unpack("=qq", data) for level, kind,
                          data in controls if (level, kind) == (socket.SOL_SOCKET, TIMESTAMPS)]
-                if times and octets[8:24] == self.address:
-                    self.hellos += [
-                        (times[0][0] + times[0][1] / 1e9, *hello) for hello in hellos_in(octets)
-                    ]
+                if times and octets[8:24] == self.address and is_babel(octets):
+                    came = times[0][0] + times[0][1] / 1e9
+                    self.hellos += [(came, *hello) for hello in hellos_in(octets)]
+                    updates = sum(kind == UPDATE for kind, _ in tlvs_in(octets))
+                    self.datagrams.append((came, updates))
         self.socket.close()
 
     def end(self):
@@ -68,22 +72,31 @@ class Listener(threading.Thread):
         )
 
 
-def hellos_in(octets):
-    """The seqno and the interval of each Hello of an IPv6 packet with a Babel datagram."""
-    if (
-        len(octets) < 52
-        or octets[6] != UDP
-        or struct.unpack_from(">H", octets, 42)[0] != PORT
-        or octets[48:50] != b"\x2a\x02"
-    ):
-        return
+def is_babel(octets):
+    """Whether an IPv6 packet has a Babel datagram."""
+    return (
+        len(octets) >= 52
+        and octets[6] == UDP
+        and struct.unpack_from(">H", octets, 42)[0] == PORT
+        and octets[48:50] == b"\x2a\x02"
+    )
+
+
+def tlvs_in(octets):
+    """The type and the body of each TLV of an IPv6 packet with a Babel datagram. Pad1 has none."""
     at, end = 52, 52 + struct.unpack_from(">H", octets, 50)[0]
     while at + 2 <= min(end, len(octets)):
         kind, length = octets[at], octets[at + 1] if octets[at] else -1
-        if kind == HELLO and length >= 6:
-            _, seqno, interval = struct.unpack_from(">HHH", octets, at + 2)
-            yield seqno, interval / 100
+        yield kind, octets[at + 2:at + 2 + max(length, 0)]
         at += 2 + length
+
+
+def hellos_in(octets):
+    """The seqno and the interval of each Hello of such a packet."""
+    for kind, body in tlvs_in(octets):
+        if kind == HELLO and len(body) >= 6:
+            _, seqno, interval = struct.unpack_from(">HHH", body)
+            yield seqno, interval / 100
 
 
 class Stalls:

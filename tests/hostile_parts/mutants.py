@@ -151,7 +151,8 @@ def make_log(chance, datagrams):
 
 
 WORDS = [b"in", b"tick", b"cost", b"-", b"#", b"", b"emit", b"deliver", b"raise", b"request",
-         b"lose", b"announce", b"withdraw", b"hear", b"10.0.0.0/8", b"2001:db8::/32", b"0.0.0.0/0"]
+         b"lose", b"group", b"announce", b"withdraw", b"hear", b"10.0.0.0/8", b"2001:db8::/32",
+         b"0.0.0.0/0"]
 WORDS += [b"::/0", b"fe80::1", b"fe80::2/64", b"192.168.0.1", b"192.168.0.9/24", b"127.0.0.1/8",
           b"255.255.255.255/32", b"::ffff:1.2.3.4", b"1:2:3:4:5:6:7::", b"1::2::3"]
 WORDS += [b"true", b"false", b"'", b'"', b'""', b"[]", b"[[]]", b"{}", b"=", b"cost = 1",

@@ -303,7 +303,7 @@ def config_codes(octets):
 
 
 EVENTS = {"tick": "nt", "emit": "nt", "deliver": "nnit", "cost": "nic", "raise": "n",
-          "request": "nt", "lose": "nit", "announce": "np", "withdraw": "np"}
+          "request": "nt", "lose": "nit", "group": "n", "announce": "np", "withdraw": "np"}
 MOST = {"n": 2**64 - 1, "t": 2**64 - 1, "i": 255, "c": 65_535}
 DATAGRAM_LEN = 65_535
 

@@ -1,5 +1,5 @@
 -- The texts of events (profile), with one blank between two words:
--- `tick N T`, `emit N T`, `deliver K N I T`, `cost N I C`, `raise N`, `request N T`, `lose N I T`, `announce N P`, `withdraw N P`, `restart N T`.
+-- `tick N T`, `emit N T`, `deliver K N I T`, `cost N I C`, `raise N`, `request N T`, `lose N I T`, `group N`, `announce N P`, `withdraw N P`, `restart N T`.
 use Rattle.std.specs.Prelude.{◌≡◌, ℕ, List, codes}
 use Rattle.babel_text.specs.Fields.{HasBlank, before_blank, after_blank}
 use Rattle.babel_text.specs.Numbers.{IsNumberText}
@@ -28,6 +28,7 @@ word_of (events.SetCost node iface cost) = codes "cost"
 word_of (events.Raise node) = codes "raise"
 word_of (events.RequestSeqnos node now) = codes "request"
 word_of (events.LoseLinks node iface now) = codes "lose"
+word_of (events.GroupItems node) = codes "group"
 word_of (events.Announce node prefix) = codes "announce"
 word_of (events.Withdraw node prefix) = codes "withdraw"
 word_of (events.Restart node now) = codes "restart"
@@ -40,6 +41,7 @@ HasFields text (events.SetCost node iface cost) = IsPair IsLong (IsPair (IsNumbe
 HasFields text (events.Raise node) = IsLong text node
 HasFields text (events.RequestSeqnos node now) = IsPair IsLong IsLong text (node, now)
 HasFields text (events.LoseLinks node iface now) = IsPair IsLong (IsPair (IsNumberText 8) IsLong) text (node, (iface, now))
+HasFields text (events.GroupItems node) = IsLong text node
 HasFields text (events.Announce node prefix) = IsPair IsLong IsPrefixText text (node, prefix)
 HasFields text (events.Withdraw node prefix) = IsPair IsLong IsPrefixText text (node, prefix)
 HasFields text (events.Restart node now) = IsPair IsLong IsLong text (node, now)

@@ -32,6 +32,8 @@ const REQUEST: &[u8] = b"request";
 
 const LOSE: &[u8] = b"lose";
 
+const GROUP: &[u8] = b"group";
+
 /// The number of a node or of a datagram.
 pub(crate) fn parse_usize(text: &str) -> Option<usize>
     ensures { Reads (IsNumberText 64) text.now result }
@@ -185,6 +187,10 @@ pub(crate) fn parse_event(text: &str, word: &[u8], fields: &[u8]) -> Option<Even
     if word == LOSE {
         let (node, (iface, now)) = parse_loss(fields)?;
         return Some(Event::LoseLinks { node, iface, now });
+    }
+    if word == GROUP {
+        let node = usize_of(fields)?;
+        return Some(Event::GroupItems { node });
     }
     None
 }

@@ -35,7 +35,7 @@ impl fmt::Display for Event {
 }
 
 /// The version of the program.
-pub const VERSION: &str = "0.9.0";
+pub const VERSION: &str = "0.10.0";
 
 /// The name of the interface's device.
 fn name_of<'v>(devices: &[DeviceView<'v>], iface: u8) -> &'v str

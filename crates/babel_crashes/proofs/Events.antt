@@ -15,11 +15,12 @@ use Rattle.babel_state.specs.declared.interfaces.InterfaceEntry.{InterfaceEntry}
 use Rattle.babel_state.specs.declared.items.Target.{Target}
 use Rattle.babel_state.specs.Addresses.{source_fault, source_fault_on, transport_at}
 use Rattle.babel_state.specs.Messages.{after_places}
+use Rattle.babel_state.specs.Grouping.{items_grouped}
 use Rattle.babel_state.specs.LostLinks.{links_lost}
 use Rattle.babel_state.specs.Requesting.{seqnos_requested}
 use Rattle.babel_state.specs.Restarts.{restarted, snapshot_of}
 use Rattle.babel_state.specs.State.{State, interface_at}
-use Rattle.babel_state.specs.StepLaws.{MessagesKeepSettings, TicksKeepSettings, SendingKeepsSettings, RequestingKeepsSettings, LosingKeepsSettings}
+use Rattle.babel_state.specs.StepLaws.{MessagesKeepSettings, TicksKeepSettings, SendingKeepsSettings, RequestingKeepsSettings, LosingKeepsSettings, GroupingKeepsSettings}
 use Rattle.babel_state.specs.Ticks.{ticked}
 use Rattle.babel_speaker.specs.Sending.{fits_by, MeansFrom, IsBuiltFrom, draft_at}
 use Rattle.babel_wire.specs.Calls.{Sending}
@@ -39,6 +40,7 @@ pub record Settings : Type 0 where
   pub sending : SendingKeepsSettings
   pub requesting : RequestingKeepsSettings
   pub losing : LosingKeepsSettings
+  pub grouping : GroupingKeepsSettings
 
 -- ---- lists of events
 
@@ -136,6 +138,12 @@ pub lose_leads : Settings → (n : NetworkState) (node now iface : ℕ) (config 
 lose_leads laws n node now iface config s is =
     leads_by (events.LoseLinks node iface now) n node config s (links_lost now iface s) is (kept_transports s (links_lost now iface s) (laws.losing now iface s))
     (record { speaker = s; is = is.speaker; next = refl }) (no_fault (events.LoseLinks node iface now) n s config is.speaker is.configured refl)
+
+pub group_leads : Settings → (n : NetworkState) (node : ℕ) (config : Config) (s : State) → IsAt n node config s →
+    LeadsTo node config (items_grouped s) n (with_speaker_state n node (items_grouped s))
+group_leads laws n node config s is =
+    leads_by (events.GroupItems node) n node config s (items_grouped s) is (kept_transports s (items_grouped s) (laws.grouping s))
+    (record { speaker = s; is = is.speaker; next = refl }) (no_fault (events.GroupItems node) n s config is.speaker is.configured refl)
 
 pub restart_made : (n : NetworkState) (node now : ℕ) (config : Config) (s : State) → IsAt n node config s →
     Makes (events.Restart node now) n (with_speaker_state n node (restarted now config s))

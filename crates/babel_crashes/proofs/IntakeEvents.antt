@@ -2,20 +2,21 @@
 use Rattle.std.proofs.Common.{◌⊎◌, ℕ, List, [], ◌∷◌, Contains, sym, subst, inl, inr}
 use Rattle.std.proofs.lemmas.List.Elements.{Contains-append_left, Contains-append_right, Contains-append_cases}
 use Rattle.babel_state.specs.declared.configs.Config.{Config}
+use Rattle.babel_state.specs.Grouping.{items_grouped}
 use Rattle.babel_state.specs.LostLinks.{links_lost}
 use Rattle.babel_state.specs.Requesting.{seqnos_requested}
 use Rattle.babel_state.specs.Restarts.{restarted}
 use Rattle.babel_state.specs.State.{State}
 use Rattle.babel_state.specs.Ticks.{ticked}
 use Rattle.babel_wire.specs.Calls.{Sending}
-use Rattle.babel_wire.specs.Intakes.{DurableStep, Turning, TakingIn, Requesting, Losing, Intake, IsIntake, receipts_in, taken_by}
+use Rattle.babel_wire.specs.Intakes.{DurableStep, Turning, TakingIn, Requesting, Losing, Grouping, Intake, IsIntake, receipts_in, taken_by}
 use Rattle.babel_wire.specs.Lives.{Steps, Restart, received, taken}
 use Rattle.babel_wire.proofs.Members.{not_in_none, first_in, later_in}
 use Rattle.babel_net.specs.Networks.{NetworkState, with_speaker_state}
 use Rattle.babel_crashes.specs.NodeSteps.{IsAt, IsFrom, IsRecorded, LeadsTo, AreStepEvents, AreEvents}
 use Rattle.babel_crashes.specs.IntakeLaws.{StepsAreEvents}
 use Rattle.babel_crashes.specs.CrashLaws.{LivesAreEvents}
-use Rattle.babel_crashes.proofs.Events.{Settings, leads_on, leads_nowhere, tick_leads, request_leads, lose_leads, restart_leads}
+use Rattle.babel_crashes.proofs.Events.{Settings, leads_on, leads_nowhere, tick_leads, request_leads, lose_leads, group_leads, restart_leads}
 use Rattle.babel_crashes.proofs.NodeTurns.{Comes, AllSent, receives, still_receipts, still_recorded, turn_made}
 
 -- An intake is what comes, and a tick.
@@ -58,6 +59,11 @@ steps_are_events laws n node config old new (Losing now iface ∷ steps) is rest
     let first = lose_leads laws n node now iface config old is in
     then_others n (with_speaker_state n node lost) node config lost new (Losing now iface) steps first (λ x h. h)
     (steps_are_events laws (with_speaker_state n node lost) node config lost new steps first.is_at rest from)
+steps_are_events laws n node config old new (Grouping ∷ steps) is rest from =
+    let grouped : State = items_grouped old in
+    let first = group_leads laws n node config old is in
+    then_others n (with_speaker_state n node grouped) node config grouped new Grouping steps first (λ x h. h)
+    (steps_are_events laws (with_speaker_state n node grouped) node config grouped new steps first.is_at rest from)
 steps_are_events laws n node config old new (Turning t ∷ steps) is (mid, turn, rest) from =
     let first : AllSent node config t.turn.sendings mid n =
     turn_made laws n node config t.turn old mid is (from t.turn.receipt (first_in t.turn.receipt (receipts_in steps))) turn in

@@ -6,7 +6,7 @@ ghost use Rattle.babel_crashes.specs.IntakeLaws.{StepsAreEvents, CrashesWithInta
 
 use babel_machine::laws::sound_networks_have_no_loop;
 use babel_net::laws::networks_go_on;
-use babel_state::laws::settings_stay;
+use babel_state::laws::{groups_keep_the_rest, settings_stay};
 use babel_wire::laws::intakes_are_covered;
 
 /// Turns of a speaker at a node of a network, and datagrams that it takes in, requests that it makes
@@ -15,6 +15,7 @@ pub fn steps_are_events()
     ensures { StepsAreEvents }
 {
     settings_stay();
+    groups_keep_the_rest();
 }
 
 /// Such steps, and restarts between them, are events of the network too.

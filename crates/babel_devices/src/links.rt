@@ -58,6 +58,8 @@ pub struct LinkWire<'a, R: Clock, I: Read + AsRawFd> {
     taken: u32,
     /// How long `recv` waits.
     wait: Duration,
+    /// Whether the next `recv` takes nothing.
+    is_passing: bool,
     /// Whether the input has ended.
     pub has_ended: bool,
     /// What came over the input.
@@ -108,6 +110,7 @@ impl<'a, R: AllocGlobal + Clock + Net, I: Read + AsRawFd> LinkWire<'a, R, I> {
             first: 0,
             taken: 0,
             wait: Duration::from_millis(0),
+            is_passing: false,
             has_ended: false,
             heard: Vec::new(alloc),
             is_disturbed: false,
@@ -236,6 +239,13 @@ impl<R: Clock, I: Read + AsRawFd> LinkWire<'_, R, I> {
             self.system.sleep(self.wait);
         }
         self.wait = Duration::from_millis(0);
+    }
+
+    /// The next `recv` takes nothing, and doesn't wait.
+    pub fn pass(&mut self)
+        ensures { self.new.faults ≡ self.old.faults }
+    {
+        self.is_passing = true;
     }
 
     /// Whether a datagram may wait at a socket.
@@ -386,6 +396,10 @@ impl<R: Clock, I: Read + AsRawFd> Wire for LinkWire<'_, R, I> {
 
     /// Waits for a datagram, unless one is there.
     fn recv(&mut self, buf: &mut [u8]) -> Result<Option<Arrival>, WireFault> {
+        if self.is_passing {
+            self.is_passing = false;
+            return Ok(None);
+        }
         match self.take_or_wait(buf) {
             Ok(came) => Ok(came),
             Err(_) => {

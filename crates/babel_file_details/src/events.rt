@@ -16,7 +16,7 @@ use std::fmt;
 use toml::Table;
 
 /// The first word of each event, and its form.
-static FORMS: [(&str, &str); 11] = [
+static FORMS: [(&str, &str); 12] = [
     ("tick", "tick N T"),
     ("emit", "emit N T"),
     ("deliver", "deliver K N I T"),
@@ -27,6 +27,7 @@ static FORMS: [(&str, &str); 11] = [
     ("restart", "restart N T"),
     ("request", "request N T"),
     ("lose", "lose N I T"),
+    ("group", "group N"),
     ("hear", "hear N I A T HEX"),
 ];
 
@@ -47,7 +48,7 @@ pub(crate) fn event_text_problem<'a>(alloc: Global, text: &'a str) -> Sentence<'
         },
         None => Sentence {
             text: "unknown event '{}'; the events are tick, emit, deliver, cost, raise, announce, \
-                withdraw, restart, request, lose and hear",
+                withdraw, restart, request, lose, group and hear",
             words: [Word::Text(name), Word::Empty, Word::Empty],
         },
     }
@@ -291,6 +292,7 @@ fn node_of(event: &Event) -> usize {
         | Event::Raise { node }
         | Event::RequestSeqnos { node, .. }
         | Event::LoseLinks { node, .. }
+        | Event::GroupItems { node }
         | Event::Announce { node, .. }
         | Event::Withdraw { node, .. }
         | Event::Restart { node, .. } => *node,

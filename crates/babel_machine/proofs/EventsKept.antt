@@ -107,6 +107,7 @@ event_kept configs (events.SetCost node iface cost) old new apart inv h = alone 
 event_kept configs (events.Raise node) old new apart inv h = alone configs node 1 _ old new apart inv (same_announced configs node old) h
 event_kept configs (events.RequestSeqnos node now) old new apart inv h = alone configs node 0 _ old new apart inv (same_announced configs node old) h
 event_kept configs (events.LoseLinks node iface now) old new apart inv h = alone configs node 0 _ old new apart inv (same_announced configs node old) h
+event_kept configs (events.GroupItems node) old new apart inv h = alone configs node 0 _ old new apart inv (same_announced configs node old) h
 event_kept configs (events.Announce node prefix) old new apart inv h = alone configs node 0 _ old new apart inv (also_announced configs node old prefix h.0) h.1
 event_kept configs (events.Withdraw node prefix) old new apart inv h = alone configs node 0 _ old new apart inv (less_announced configs node old prefix) h
 event_kept configs (events.Restart node now) old new apart inv h = restarted configs node old new apart inv h

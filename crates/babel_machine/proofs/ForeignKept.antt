@@ -136,6 +136,7 @@ kept_event configs (events.SetCost node iface cost) old new apart inv heard h = 
 kept_event configs (events.Raise node) old new apart inv heard h = alone configs node 1 _ old new inv (same_announced configs node old.ours) heard h
 kept_event configs (events.RequestSeqnos node now) old new apart inv heard h = alone configs node 0 _ old new inv (same_announced configs node old.ours) heard h
 kept_event configs (events.LoseLinks node iface now) old new apart inv heard h = alone configs node 0 _ old new inv (same_announced configs node old.ours) heard h
+kept_event configs (events.GroupItems node) old new apart inv heard h = alone configs node 0 _ old new inv (same_announced configs node old.ours) heard h
 kept_event configs (events.Announce node prefix) old new apart inv heard h = alone configs node 0 _ old new inv (also_announced configs node old.ours prefix h.0) heard h.1
 kept_event configs (events.Withdraw node prefix) old new apart inv heard h = alone configs node 0 _ old new inv (less_announced configs node old.ours prefix) heard h
 kept_event configs (events.Restart node now) old new apart inv heard h = restarted configs node old new apart inv heard h

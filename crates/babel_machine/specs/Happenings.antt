@@ -64,6 +64,7 @@ Happens configs (events.Raise node) old new = StepsAlone node 1 (speaker_at old 
 -- what is requested isn't seen before it is sent
 Happens configs (events.RequestSeqnos node now) old new = StepsAlone node 0 (speaker_at old node).announces old new
 Happens configs (events.LoseLinks node iface now) old new = StepsAlone node 0 (speaker_at old node).announces old new
+Happens configs (events.GroupItems node) old new = StepsAlone node 0 (speaker_at old node).announces old new
 Happens configs (events.Announce node prefix) old new =
     Lists configs node prefix × StepsAlone node 0 (announcing_also prefix (speaker_at old node)) old new
 Happens configs (events.Withdraw node prefix) old new =

@@ -45,6 +45,11 @@ pub enum Event {
         iface: u8,
         now: u64,
     },
+    /// What the node has pending is brought into groups, each of which goes to one target (RFC 8966,
+    /// section 4).
+    GroupItems {
+        node: usize,
+    },
     /// The node announces a prefix of its configuration.
     Announce {
         node: usize,

@@ -9,8 +9,8 @@ use babel_machine::laws::{
 };
 use babel_packet::laws::decoded_are_sendable;
 use babel_state::laws::{
-    calls_move, datagrams_send, items_mean_messages, restarts_are_seen, selected_routes_are_good,
-    states_are_well_formed,
+    calls_move, datagrams_send, groups_keep_the_rest, items_mean_messages, restarts_are_seen,
+    selected_routes_are_good, states_are_well_formed,
 };
 
 /// Accepted configurations make a network among routers of others, from which nothing was heard.
@@ -29,6 +29,7 @@ pub fn mixed_go_on()
     ensures hearing { HearingKeepsMixed }
 {
     calls_move();
+    groups_keep_the_rest();
     datagrams_send();
     states_are_well_formed();
     items_mean_messages();

@@ -41,6 +41,7 @@ same_configs (events.SetCost node iface cost) old new made = call_configs (event
 same_configs (events.Raise node) old new made = call_configs (events.Raise node) old new made
 same_configs (events.RequestSeqnos node now) old new made = call_configs (events.RequestSeqnos node now) old new made
 same_configs (events.LoseLinks node iface now) old new made = call_configs (events.LoseLinks node iface now) old new made
+same_configs (events.GroupItems node) old new made = call_configs (events.GroupItems node) old new made
 same_configs (events.Announce node prefix) old new made = call_configs (events.Announce node prefix) old new made
 same_configs (events.Withdraw node prefix) old new made = call_configs (events.Withdraw node prefix) old new made
 same_configs (events.Restart node now) old new made = ap (λ (n : NetworkState). n.configs) made.next

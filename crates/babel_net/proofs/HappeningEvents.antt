@@ -23,7 +23,7 @@ use Rattle.babel_state.specs.Queueing.{counted}
 use Rattle.babel_state.specs.Restarts.{IsRestarted, RestartsAreSeen, restarted}
 use Rattle.babel_state.specs.Sameness.{has_prefix}
 use Rattle.babel_state.specs.Seen.{Seen, UpdateValue, seen, updates_among, IsSelecting, Moves, Sends, announcing_also, announcing_without}
-use Rattle.babel_state.specs.SeenLaws.{AreEncodable, PlacesMove, MovesAlone, TicksMove, CostsMove, AnnouncingMoves, WithdrawingMoves, RaisingMoves, RequestingMoves, LosingMoves, DatagramsSend, NoDatagramChangesNothing}
+use Rattle.babel_state.specs.SeenLaws.{AreEncodable, PlacesMove, MovesAlone, TicksMove, CostsMove, AnnouncingMoves, WithdrawingMoves, RaisingMoves, RequestingMoves, LosingMoves, GroupingMoves, DatagramsSend, NoDatagramChangesNothing}
 use Rattle.babel_state.specs.State.{State, announces}
 use Rattle.babel_speaker.specs.Sending.{fits_by, draft_at}
 use Rattle.babel_speaker.proofs.FirstTables.{few_prefixes}
@@ -52,6 +52,7 @@ pub record SpeakerLaws : Type 0 where
   pub raise : RaisingMoves
   pub request_seqnos : RequestingMoves
   pub lose_links : LosingMoves
+  pub group_items : GroupingMoves
   pub sent : DatagramsSend
   pub none : NoDatagramChangesNothing
   pub restart : RestartsAreSeen
@@ -262,6 +263,8 @@ happens laws (events.RequestSeqnos node now) old new net made ok =
     alone node 0 announces_now old new made.speaker _ made.is (laws.request_seqnos now made.speaker (well_at old node made.speaker net made.is)) made.next
 happens laws (events.LoseLinks node iface now) old new net made ok =
     alone node 0 announces_now old new made.speaker _ made.is (laws.lose_links now iface made.speaker (well_at old node made.speaker net made.is)) made.next
+happens laws (events.GroupItems node) old new net made ok =
+    alone node 0 announces_now old new made.speaker _ made.is (laws.group_items made.speaker (well_at old node made.speaker net made.is)) made.next
 happens laws (events.Announce node prefix) old new net made ok =
     let allowed = allowed_at (events.Announce node prefix) old made.speaker made.is ok in
     let here = if_listed (has_prefix prefix allowed.config.prefixes.items) None allowed.allowed in

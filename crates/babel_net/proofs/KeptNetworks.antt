@@ -10,7 +10,7 @@ use Rattle.babel_state.specs.declared.items.Target.{Target}
 use Rattle.babel_state.specs.Addresses.{source_fault}
 use Rattle.babel_state.specs.Calls.{set_cost_fault}
 use Rattle.babel_state.specs.Configs.{config_fault}
-use Rattle.babel_state.specs.Invariants.{IsWellFormed, TicksKeepWellFormed, SendingKeepsWellFormed, CostsKeepWellFormed, AnnouncingKeepsWellFormed, WithdrawingKeepsWellFormed, RaisingKeepsWellFormed, RequestingKeepsWellFormed, LosingKeepsWellFormed}
+use Rattle.babel_state.specs.Invariants.{IsWellFormed, TicksKeepWellFormed, SendingKeepsWellFormed, CostsKeepWellFormed, AnnouncingKeepsWellFormed, WithdrawingKeepsWellFormed, RaisingKeepsWellFormed, RequestingKeepsWellFormed, LosingKeepsWellFormed, GroupingKeepsWellFormed}
 use Rattle.babel_state.specs.QueueLaws.{DatagramsAreEncodable}
 use Rattle.babel_state.specs.Restarts.{RestartsAreWellFormed, restarted}
 use Rattle.babel_state.specs.Sameness.{has_prefix}
@@ -41,6 +41,7 @@ pub record StateLaws : Type 0 where
   pub raise : RaisingKeepsWellFormed
   pub request_seqnos : RequestingKeepsWellFormed
   pub lose_links : LosingKeepsWellFormed
+  pub group_items : GroupingKeepsWellFormed
   pub restart : RestartsAreWellFormed
   pub encodable : DatagramsAreEncodable
 
@@ -79,6 +80,7 @@ well_called laws (events.SetCost node iface cost) old s net is ok =
 well_called laws (events.Raise node) old s net is ok = laws.raise s (well_at old node s net is)
 well_called laws (events.RequestSeqnos node now) old s net is ok = laws.request_seqnos now s (well_at old node s net is)
 well_called laws (events.LoseLinks node iface now) old s net is ok = laws.lose_links now iface s (well_at old node s net is)
+well_called laws (events.GroupItems node) old s net is ok = laws.group_items s (well_at old node s net is)
 well_called laws (events.Announce node prefix) old s net is ok =
     let allowed = allowed_at (events.Announce node prefix) old s is ok in
     laws.announce prefix s (room_to_announce old node s allowed.config prefix net is allowed.is (if_listed (has_prefix prefix allowed.config.prefixes.items) None allowed.allowed)) (well_at old node s net is)
@@ -149,6 +151,7 @@ built_from laws (events.SetCost node iface cost) old new net made ok = built_cal
 built_from laws (events.Raise node) old new net made ok = built_call laws (events.Raise node) old new net made ok
 built_from laws (events.RequestSeqnos node now) old new net made ok = built_call laws (events.RequestSeqnos node now) old new net made ok
 built_from laws (events.LoseLinks node iface now) old new net made ok = built_call laws (events.LoseLinks node iface now) old new net made ok
+built_from laws (events.GroupItems node) old new net made ok = built_call laws (events.GroupItems node) old new net made ok
 built_from laws (events.Announce node prefix) old new net made ok = built_call laws (events.Announce node prefix) old new net made ok
 built_from laws (events.Withdraw node prefix) old new net made ok = built_call laws (events.Withdraw node prefix) old new net made ok
 built_from laws (events.Restart node now) old new net made ok = built_restart laws node now old new net made

@@ -23,6 +23,7 @@ node_of (events.SetCost node iface cost) = node
 node_of (events.Raise node) = node
 node_of (events.RequestSeqnos node now) = node
 node_of (events.LoseLinks node iface now) = node
+node_of (events.GroupItems node) = node
 node_of (events.Announce node prefix) = node
 node_of (events.Withdraw node prefix) = node
 node_of (events.Restart node now) = node

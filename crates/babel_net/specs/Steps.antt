@@ -8,6 +8,7 @@ use Rattle.babel_state.specs.declared.errors.RecvFault.{RecvFault}
 use Rattle.babel_state.specs.declared.items.Target.{Target}
 use Rattle.babel_state.specs.Addresses.{source_fault, transport_at}
 use Rattle.babel_state.specs.Calls.{cost_set, announced_also, withdrawn}
+use Rattle.babel_state.specs.Grouping.{items_grouped}
 use Rattle.babel_state.specs.LostLinks.{links_lost}
 use Rattle.babel_state.specs.Messages.{after_places}
 use Rattle.babel_state.specs.NextDatagram.{Draft}
@@ -30,6 +31,7 @@ step_of (events.SetCost node iface cost) s = cost_set iface cost s
 step_of (events.Raise node) s = raised s
 step_of (events.RequestSeqnos node now) s = seqnos_requested now s
 step_of (events.LoseLinks node iface now) s = links_lost now iface s
+step_of (events.GroupItems node) s = items_grouped s
 step_of (events.Announce node prefix) s = announced_also prefix s
 step_of (events.Withdraw node prefix) s = withdrawn prefix s
 step_of event s = s
@@ -110,6 +112,7 @@ Makes (events.SetCost node iface cost) old new = MakesCall node (events.SetCost 
 Makes (events.Raise node) old new = MakesCall node (events.Raise node) old new
 Makes (events.RequestSeqnos node now) old new = MakesCall node (events.RequestSeqnos node now) old new
 Makes (events.LoseLinks node iface now) old new = MakesCall node (events.LoseLinks node iface now) old new
+Makes (events.GroupItems node) old new = MakesCall node (events.GroupItems node) old new
 Makes (events.Announce node prefix) old new = MakesCall node (events.Announce node prefix) old new
 Makes (events.Withdraw node prefix) old new = MakesCall node (events.Withdraw node prefix) old new
 Makes (events.Restart node now) old new = MakesRestart node now old new

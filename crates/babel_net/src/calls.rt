@@ -40,6 +40,7 @@ pub fn node_of(event: &Event) -> usize
         Event::Raise { node } => node,
         Event::RequestSeqnos { node, .. } => node,
         Event::LoseLinks { node, .. } => node,
+        Event::GroupItems { node } => node,
         Event::Announce { node, .. } => node,
         Event::Withdraw { node, .. } => node,
         Event::Restart { node, .. } => node,
@@ -74,6 +75,10 @@ pub(crate) fn call(
         }
         Event::LoseLinks { iface, now, .. } => {
             speaker.lose_links(now, iface);
+            Ok(())
+        }
+        Event::GroupItems { .. } => {
+            speaker.group_items();
             Ok(())
         }
         Event::Announce { prefix, .. } => announce(speaker, config, prefix),

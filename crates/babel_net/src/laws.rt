@@ -7,8 +7,8 @@ use babel_machine::laws::{
     accepted_configs_are_apart, events_keep_the_invariant, networks_begin_sound,
 };
 use babel_state::laws::{
-    calls_move, datagrams_send, items_mean_messages, restarts_are_seen, selected_routes_are_good,
-    states_are_well_formed,
+    calls_move, datagrams_send, groups_keep_the_rest, items_mean_messages, restarts_are_seen,
+    selected_routes_are_good, states_are_well_formed,
 };
 
 /// Accepted configurations make a network that keeps the invariant.
@@ -27,6 +27,7 @@ pub fn networks_go_on()
     ensures kept { EventsKeepNetworks }
 {
     calls_move();
+    groups_keep_the_rest();
     datagrams_send();
     states_are_well_formed();
     items_mean_messages();

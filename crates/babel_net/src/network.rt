@@ -224,6 +224,14 @@ impl Network {
         self.nodes.wants_seqnos(node)
     }
 
+    /// How many items the node has pending. While there are at most two, the event
+    /// [`Event::GroupItems`] changes nothing there. `None` if there is no such node.
+    pub fn pending_count(&self, node: usize) -> Option<usize>
+        ensures { result ≡ option_map (λ (s : State). length s.pending.items) (slice_get self.now.speakers node) }
+    {
+        self.nodes.pending_count(node)
+    }
+
     /// A count of the node's speaker, which grows whenever a selected route of the node may be
     /// reported otherwise, as [`Speaker::routes_version`](babel_speaker::Speaker::routes_version).
     /// A restart makes the speaker and its count again. `None` if there is no such node.

@@ -1,11 +1,12 @@
 //! The speaker of a node, of which a network sees the state.
 
-ghost use Rattle.std.specs.Prelude.{◌≡◌, ◌≢◌, ◌<◌, ◌↔◌, ℕ, [], true, false, Some, slice_get, is_some, IsOk, IsErr, IsNone, IfOk, IfErr, IfSome, OnOk, OnErr};
+ghost use Rattle.std.specs.Prelude.{◌≡◌, ◌≢◌, ◌<◌, ◌↔◌, ℕ, [], true, false, Some, length, slice_get, is_some, IsOk, IsErr, IsNone, IfOk, IfErr, IfSome, OnOk, OnErr};
 ghost use Rattle.std.specs.List.{list_any};
 ghost use Rattle.babel_state.specs.Addresses.{transport_at};
 ghost use Rattle.babel_state.specs.Calls.{set_cost_fault, cost_set, first_state, is_prefix_too_many, announced_also, withdrawn, selected_route};
 ghost use Rattle.babel_state.specs.Configs.{config_fault};
 ghost use Rattle.babel_state.specs.CurrentSelections.{AreCurrent};
+ghost use Rattle.babel_state.specs.Grouping.{items_grouped};
 ghost use Rattle.babel_state.specs.LostLinks.{links_lost};
 ghost use Rattle.babel_state.specs.Messages.{arrival_of, Receives, IsRecvFault};
 ghost use Rattle.babel_state.specs.Restarts.{restarted};
@@ -102,6 +103,12 @@ impl NodeSpeaker {
         self.speaker.lose_links(now, iface);
     }
 
+    pub(crate) fn group_items(&mut self)
+        ensures { self.new ≡ items_grouped self.old }
+    {
+        self.speaker.group_items();
+    }
+
     pub(crate) fn set_cost(&mut self, iface: u8, cost: u16) -> Result<(), SetCostFault>
         ensures refused { IsOk result ↔ IsNone (set_cost_fault iface cost self.old) }
         ensures cause { IfErr result (λ fault. set_cost_fault iface cost self.old ≡ Some fault) }
@@ -174,6 +181,12 @@ impl NodeSpeaker {
         ensures { result ≡ list_any (is_wanted self.now) self.now.routes.entries }
     {
         self.speaker.wants_seqnos()
+    }
+
+    pub(crate) fn pending_count(&self) -> usize
+        ensures { result ≡ length self.now.pending.items }
+    {
+        self.speaker.pending_count()
     }
 
     pub(crate) fn next_due(&self) -> u64

@@ -296,6 +296,16 @@ impl Nodes {
         }
     }
 
+    /// How many items the node has pending; `None` if there is no such node.
+    pub fn pending_count(&self, node: usize) -> Option<usize>
+        ensures { result ≡ option_map (λ (s : State). length s.pending.items) (slice_get self.now.speakers node) }
+    {
+        match self.speakers.get(node) {
+            Some(speaker) => Some(speaker.pending_count()),
+            None => None,
+        }
+    }
+
     /// How often the node's selected routes may have changed; `None` if there is no such node.
     pub fn routes_version(&self, node: usize) -> Option<u64>
         ensures { is_some result ≡ is_some (slice_get self.now.speakers node) }

@@ -320,6 +320,8 @@ Events:
                     select if they were feasible
   lose N I T        interface I of node N is down: its links cost infinity until
                     its neighbours report another cost
+  group N           what node N has pending is grouped by where it goes, so that
+                    the next datagrams are as few as can be
   announce N P      node N announces the prefix P, which its configuration lists
   withdraw N P      node N announces the prefix P no longer
   restart N T       node N is saved, and restored at the moment T

@@ -42,7 +42,7 @@ impl Counts {
     }
 }
 
-fn added(all: Report, turn: Report) -> Report {
+pub(crate) fn added(all: Report, turn: Report) -> Report {
     Report {
         received: all.received.saturating_add(turn.received),
         sent: all.sent.saturating_add(turn.sent),

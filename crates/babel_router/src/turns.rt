@@ -1,8 +1,10 @@
 //! The turns of a speaker on real links, and what becomes of its devices meanwhile.
 
+ghost use Rattle.std.specs.Prelude.{◌≤◌, ◌^◌};
+
 use crate::RunFault;
 use crate::controlling::{Service, counts_of, device_view};
-use crate::counting::Counts;
+use crate::counting::{Counts, added};
 use crate::keeping::KeptWire;
 use crate::limits::MAX_FAULTS;
 use crate::pacing::{self, Pace, Place};
@@ -127,7 +129,7 @@ impl Router<'_, '_> {
         match self.pace.next(wire.wire.moment, due, place) {
             pacing::Step::Turn(until) => {
                 wire.wire.wait_until(until);
-                let turn = drive_durable(self.speaker, self.driver, wire, printer, 1);
+                let turn = self.take_turn(wire, printer);
                 self.pace.note_turn(wire.wire.moment, turn);
                 self.last_turn = turn;
                 Some(turn)
@@ -142,6 +144,27 @@ impl Router<'_, '_> {
                     ..DurableReport::default()
                 })
             }
+        }
+    }
+
+    /// Takes in what comes and what is due, and sends all that is pending, in as few datagrams as
+    /// can be (RFC 8966, section 4). So the turn itself takes in nothing.
+    fn take_turn<'r, R: Net + Clock + Files, I: Read + AsRawFd, W: Write, E: Write>(
+        &mut self,
+        wire: &mut KeptWire<'r, LinkWire<'r, R, I>, R>,
+        printer: &mut Printer<'_, '_, W, E>,
+    ) -> DurableReport
+    where
+        R::File: LockFile,
+        requires { wire.old.wire.faults ≤ 2 ^ 62 }
+    {
+        let taken = take_in(self.speaker, self.driver, wire, printer);
+        self.speaker.group_items();
+        wire.wire.pass();
+        let turn = drive_durable(self.speaker, self.driver, wire, printer, 1);
+        DurableReport {
+            report: added(turn.report, taken),
+            ..turn
         }
     }
 

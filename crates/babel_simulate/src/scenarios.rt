@@ -41,6 +41,7 @@ fn write_event<W: Write>(event: &Event, out: &mut W) -> io::Result<()> {
         Event::Raise { node } => write!(out, "raise {node}"),
         Event::RequestSeqnos { node, now } => write!(out, "request {node} {now}"),
         Event::LoseLinks { node, iface, now } => write!(out, "lose {node} {iface} {now}"),
+        Event::GroupItems { node } => write!(out, "group {node}"),
         Event::Announce { node, prefix } => write!(out, "announce {node} {prefix}"),
         Event::Withdraw { node, prefix } => write!(out, "withdraw {node} {prefix}"),
         Event::Restart { node, now } => write!(out, "restart {node} {now}"),

@@ -78,6 +78,7 @@ impl Simulation<'_> {
         if self.due_at(speaker) <= now {
             self.make(Event::Tick { node: speaker, now })?;
             self.request_seqnos(node, speaker)?;
+            self.group_items(speaker)?;
             self.send_all(node, speaker)?;
         }
         self.see_hops(node, speaker)?;
@@ -109,6 +110,16 @@ impl Simulation<'_> {
         match self.network.wants_seqnos(speaker) {
             Some(true) => self.make(Event::RequestSeqnos { node: speaker, now }),
             _ => Ok(()),
+        }
+    }
+
+    /// What the node has pending goes in as few datagrams as can be, as `babel run` sends it.
+    fn group_items(&mut self, speaker: usize) -> Result<(), SimulationFault> {
+        match self.network.pending_count(speaker) {
+            None => Ok(()),
+            // These are in groups.
+            Some(0..=2) => Ok(()),
+            Some(_) => self.make(Event::GroupItems { node: speaker }),
         }
     }
 

@@ -1,15 +1,9 @@
 -- Drafts of datagrams.
 use Rattle.std.proofs.Common.{◌≡◌, ℕ, List, [], ◌∷◌, ◌++◌, Bool, true, false, refl, arith, sym, ap, ◌∙◌, subst, drop, slice_get, Some, None}
-use Rattle.std.specs.Prelude.{Option, nat_eq, ◌&&◌, cond}
-use Rattle.std.specs.declared.cmp.Ordering.{Ordering}
-use Rattle.std.specs.declared.cmp.Ordering.TheVariants.{Less, Equal, Greater}
-use Rattle.std.specs.Ordering.{is_eq}
+use Rattle.std.specs.Prelude.{◌&&◌, cond}
 use Rattle.std.proofs.lemmas.Grind.{common_steps}
 use Rattle.std.proofs.lemmas.List.Folds.{list_all-append}
 use Rattle.std.specs.Option.{option_map_or, unwrap_or}
-use Rattle.babel_value.specs.declared.addresses.Addr.{Addr}
-use Rattle.babel_value.specs.Orders.{addr_cmp}
-use Rattle.babel_value.proofs.OrderLaws.{addr_exact}
 use Rattle.babel_message.specs.declared.messages.Message.{Message}
 use Rattle.babel_build.specs.Built.{Built, HasEncoded, added, fits}
 use Rattle.babel_packet.specs.Encodable.{is_encodable}
@@ -20,33 +14,10 @@ use Rattle.babel_state.specs.declared.items.Target.{Target}
 use Rattle.babel_state.specs.Queueing.{Pending}
 use Rattle.babel_state.specs.State.{State}
 use Rattle.babel_state.specs.OutgoingMessages.{outgoing}
-use Rattle.babel_state.specs.NextDatagram.{Fits, Draft, is_same_receiver, is_same_target, draft_with, drafted, after_message, left_out_more, without_first}
+use Rattle.babel_state.specs.NextDatagram.{Fits, Draft, is_same_target, draft_with, drafted, after_message, left_out_more, without_first}
+use Rattle.babel_state.proofs.Targets.{same_target}
 use Rattle.babel_speaker.specs.Sending.{built_of, fits_at, draft_to, with_outgoing, is_encodable_outgoing, are_encodable, IsFilling, IsFilled, IsSkipped}
 use Rattle.babel_speaker.specs.SentMessages.{no_draft, without_front, IsMessageTo}
-
--- Two receivers that are the same are equal, and so are two targets.
-equal : (o : Ordering) → is_eq o ≡ true → o ≡ Equal
-equal Less e = cc
-equal Equal e = refl
-equal Greater e = cc
-
-same_receiver : (a b : Option Addr) → is_same_receiver a b ≡ true → a ≡ b
-same_receiver None None same = refl
-same_receiver None (Some b) same = cc
-same_receiver (Some a) None same = cc
-same_receiver (Some a) (Some b) same = ap Some (addr_exact a b (equal (addr_cmp a b) same))
-
-same_parts : (i j : ℕ) (a b : Option Addr) → (nat_eq i j && is_same_receiver a b) ≡ true → (i ≡ j) × (a ≡ b)
-same_parts i j a b same =
-    let iface : i ≡ j = grind (arith, common_steps) in
-    let to : is_same_receiver a b ≡ true = grind (arith, common_steps) in
-    (iface, same_receiver a b to)
-
-pub same_target : (a b : Target) → is_same_target a b ≡ true → a ≡ b
-same_target a b same =
-    let parts = same_parts a.iface b.iface a.to b.to same in
-    let built : ℕ → Option Addr → Target = λ i t. record { iface = i; to = t } in
-    ap (λ i. built i a.to) parts.0 ∙ ap (λ t. built b.iface t) parts.1
 
 -- One more message is added to the datagram that has the others.
 pub built_more : (b : Built) (ms : List Message) (m : Message) → built_of b (ms ++ m ∷ []) ≡ added (built_of b ms) m

@@ -14,6 +14,7 @@ pub mod Networks
 pub mod Gathering
 pub mod Reaching
 pub mod Runs
+pub mod Groups
 pub mod EarlyDrops
 pub mod ShortHellos
 pub mod Firing

@@ -21,9 +21,9 @@ use Rattle.babel_state.specs.Queueing.{Pending}
 use Rattle.babel_state.specs.OutgoingMessages.{outgoing}
 use Rattle.babel_state.specs.NextDatagram.{Fits, Draft, is_same_target, draft_with, drafted, after_message, without_first, with_message, next_datagram}
 use Rattle.babel_state.specs.QueueLaws.{is_silent, has_no_message, NoneIfNothingPending, HasInterface, ItemsHaveInterfaces}
+use Rattle.babel_state.proofs.Targets.{same_target}
 use Rattle.babel_speaker.specs.Sending.{HaveTransports, built_of, empty_datagram, fits_from, fits_at, fits_by, draft_to, first_message, message_of, are_encodable, MeansFrom, IsBuiltFrom, IsFilled, draft_at}
 use Rattle.babel_speaker.specs.SentMessages.{no_draft, without_front}
-use Rattle.babel_speaker.proofs.Drafts.{same_target}
 
 -- ---- the builder's own fits
 

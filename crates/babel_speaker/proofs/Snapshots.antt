@@ -10,6 +10,7 @@ use Rattle.babel_message.specs.declared.placements.Placed.{Placed}
 use Rattle.babel_state.specs.declared.interfaces.InterfaceEntry.{InterfaceEntry}
 use Rattle.babel_state.specs.declared.notes.Note.{Note}
 use Rattle.babel_state.specs.Calls.{cost_set, announced_also, withdrawn}
+use Rattle.babel_state.specs.Grouping.{items_grouped}
 use Rattle.babel_state.specs.LostLinks.{links_lost}
 use Rattle.babel_state.specs.Messages.{Arrival, handle_message, handle_content, after_places, Receives}
 use Rattle.babel_state.specs.NextDatagram.{left_out_more}
@@ -104,6 +105,10 @@ own_snapshot s t own =
 
 pub lost_snapshot : (now iface : ℕ) (s t : State) → t ≡ links_lost now iface s → snapshot_of t ≡ snapshot_of s
 lost_snapshot now iface s t is = ap snapshot_of is ∙ own_snapshot s (links_lost now iface s) (losing_own now iface s)
+
+pub grouped_snapshot : (s t : State) → t ≡ items_grouped s → snapshot_of t ≡ snapshot_of s
+unfolding items_grouped snapshot_of
+grouped_snapshot s t is = ap snapshot_of is
 
 -- ---- what the same snapshot says
 

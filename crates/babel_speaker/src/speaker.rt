@@ -12,6 +12,7 @@ ghost use Rattle.babel_state.specs.Calls.{set_cost_fault, cost_set, first_state,
 ghost use Rattle.babel_state.specs.Configs.{config_fault};
 ghost use Rattle.babel_state.specs.Limits.{most_pending};
 ghost use Rattle.babel_state.specs.Invariants.{IsWellFormed};
+ghost use Rattle.babel_state.specs.Grouping.{items_grouped};
 ghost use Rattle.babel_state.specs.KeptRoutes.{KeepsRoutes};
 ghost use Rattle.babel_state.specs.LostLinks.{links_lost};
 ghost use Rattle.babel_state.specs.Messages.{arrival_of, Receives, IsRecvFault};
@@ -40,6 +41,7 @@ use crate::input::lost_links::lose_links;
 use crate::input::receiving::{receive, receive_decoded};
 use crate::input::records::Arrival;
 use crate::output::datagrams::next_datagram;
+use crate::output::items::group_items;
 use crate::state::Core;
 use crate::state::making::make;
 use crate::state::restarts::{restart, restore, restore_in_place};
@@ -48,8 +50,9 @@ use arrayvec::ArrayVec;
 use babel_build::Builder;
 use babel_choice::{Entry, Selection};
 use babel_state::laws::{
-    calls_move, datagrams_send, items_mean_messages, restarts_are_seen, selected_routes_are_good,
-    selections_are_current, selections_stay_current, states_are_well_formed,
+    calls_move, datagrams_send, groups_keep_the_rest, items_mean_messages, restarts_are_seen,
+    selected_routes_are_good, selections_are_current, selections_stay_current,
+    states_are_well_formed,
 };
 use babel_state::{
     Choice, Config, ConfigFault, LastChoice, NotAnnounced, Note, RecvFault, RestoreFault, Selected,
@@ -463,6 +466,25 @@ impl Speaker {
         self.hints.changed = false;
         lose_links(&mut self.core, now, iface, &mut self.hints);
         self.routes = counted(self.routes, self.hints.changed);
+    }
+
+    /// Brings what is pending into groups that go to the same receivers over the same interface, so
+    /// that the next datagrams are as few as can be (RFC 8966, section 4). What goes to the same
+    /// receivers keeps its order. Of more than 64 groups those that are left stay as they were.
+    ///
+    /// Without this call what changes is sent in the order in which it was queued: after a change
+    /// of many prefixes, one of each interface in turn. A caller may make it before it takes the
+    /// datagrams of a turn.
+    pub fn group_items(&mut self)
+        ensures state { self.new.state ≡ items_grouped self.old.state }
+        ensures moves { MovesAlone 0 (seen self.old.state).announces self.old.state self.new.state }
+        ensures current { KeepsCurrent self.old.state self.new.state }
+        ensures kept { KeepsRoutes self.old.state self.new.state }
+        ensures counts { (self.new.routes_version ≡ self.old.routes_version) × (self.new.snapshot_version ≡ self.old.snapshot_version) }
+        ensures counted { CountsChanges self.old self.new }
+    {
+        groups_keep_the_rest();
+        group_items(&mut self.core);
     }
 
     /// Sets the nominal cost of an interface (RFC 8966, appendix A.2.1): E1 or E2 is the first

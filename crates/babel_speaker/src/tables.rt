@@ -3,6 +3,7 @@
 pub mod addresses;
 pub mod announced;
 pub mod first_tables;
+pub mod groups;
 pub mod interfaces;
 pub mod link_costs;
 pub mod pending_items;
@@ -22,4 +23,4 @@ pub use prefixes::Prefixes;
 pub use reachable::{Reachable, SelectedPrefixes};
 pub use requests::{RequestTable, SeqnoRequest};
 pub use scratch::Scratch;
-pub use targets::is_same_target;
+pub use targets::{is_same_target, to_all, to_peer};

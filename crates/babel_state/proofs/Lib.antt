@@ -1,3 +1,4 @@
+pub mod Targets
 pub mod Reselecting
 pub mod Keeping
 pub mod SendingLaws
@@ -16,7 +17,9 @@ pub mod NewState
 pub mod WellFormed
 pub mod OwnRouters
 pub mod Moving
+pub mod KeptStates
 pub mod Requesting
+pub mod Grouping
 pub mod LostLinks
 pub mod DatagramsSent
 pub mod Meanings

@@ -1,19 +1,14 @@
 -- Requests for a greater seqno change requests and pending items alone.
-use Rattle.std.proofs.Common.{◌≡◌, ℕ, [], ◌∷◌, refl, sym, ap, ◌∙◌, subst, arith, inl}
-use Rattle.babel_value.specs.declared.keys.Peer.{Peer}
-use Rattle.babel_value.specs.Prefixes.{PrefixValue}
+use Rattle.std.proofs.Common.{◌≡◌, ℕ, [], ◌∷◌, refl, ◌∙◌, arith}
 use Rattle.babel_choice.specs.Routes.{Route, RouteEntries}
 use Rattle.babel_state.specs.State.{State}
 use Rattle.babel_state.specs.Requesting.{request_for_wanted, request_for_each, seqnos_requested}
-use Rattle.babel_state.specs.CurrentSelections.{IsCurrentAt, RequestingKeepsCurrent}
-use Rattle.babel_state.specs.Invariants.{AreTables, AreSelectable, RequestingKeepsWellFormed}
-use Rattle.babel_state.specs.Seen.{seen, heard_at}
+use Rattle.babel_state.specs.CurrentSelections.{RequestingKeepsCurrent}
+use Rattle.babel_state.specs.Invariants.{AreTables, RequestingKeepsWellFormed}
 use Rattle.babel_state.specs.SeenLaws.{RequestingMoves}
-use Rattle.babel_state.specs.StepLaws.{settings_in, kept_of, RequestingKeepsTheRest, RequestingKeepsSettings}
-use Rattle.babel_state.proofs.Keeping.{kept_own}
-use Rattle.babel_state.proofs.Moving.{announced_in, kept_move, moves_alone}
+use Rattle.babel_state.specs.StepLaws.{kept_of, RequestingKeepsTheRest, RequestingKeepsSettings}
+use Rattle.babel_state.proofs.KeptStates.{selectable_kept, current_kept, settings_kept, moves_kept}
 use Rattle.babel_state.proofs.Reselecting.{if_kept, asks_kept, update_kept}
-use Rattle.babel_state.proofs.SeeingLaws.{well_selecting}
 use Rattle.babel_state.proofs.TableLaws.{if_tables, asks_tables, for_update_tables}
 
 -- ---- what stays
@@ -47,10 +42,6 @@ requested_tables now s t = each_tables now s.routes.entries s t
 
 -- ---- what follows
 
-selectable_kept : (s t : State) → kept_of t ≡ kept_of s → AreSelectable s → AreSelectable t
-unfolding kept_of
-selectable_kept s t same good = subst AreSelectable (sym same) good
-
 pub requested_well : RequestingKeepsWellFormed
 requested_well now s well = record {
   tables = requested_tables now s well.tables;
@@ -58,21 +49,10 @@ requested_well now s well = record {
 }
 
 pub requested_current : RequestingKeepsCurrent
-unfolding kept_of
-requested_current now s prefix current = subst (IsCurrentAt prefix) (sym (requests_kept_rest now s)) current
+requested_current now s = current_kept s (seqnos_requested now s) (requests_kept_rest now s)
 
 pub requested_settings : RequestingKeepsSettings
-unfolding kept_of
-requested_settings now s = ap settings_in (requests_kept_rest now s)
-
-heard_kept : (s t : State) → kept_of t ≡ kept_of s → (prefix : PrefixValue) (from : Peer) → heard_at prefix from t ≡ heard_at prefix from s
-unfolding kept_of
-heard_kept s t same prefix from = ap (heard_at prefix from) same
+requested_settings now s = settings_kept s (seqnos_requested now s) (requests_kept_rest now s)
 
 pub requested_moves : RequestingMoves
-unfolding seen
-requested_moves now s well peer =
-    moves_alone peer 0 (announced_in s) s (seqnos_requested now s)
-    (kept_move s (seqnos_requested now s) well (kept_own s (seqnos_requested now s) (requests_kept_rest now s)))
-    (λ prefix from h is. inl (sym (heard_kept s (seqnos_requested now s) (requests_kept_rest now s) prefix from) ∙ is))
-    (well_selecting (seqnos_requested now s) (requested_well now s well))
+requested_moves now s well = moves_kept s (seqnos_requested now s) (requests_kept_rest now s) well (requested_well now s well)

@@ -18,6 +18,7 @@ use Rattle.babel_route.specs.Selections.{IsCurrent}
 use Rattle.babel_state.specs.declared.configs.Config.{Config}
 use Rattle.babel_state.specs.Reselection.{reselect_all}
 use Rattle.babel_state.specs.Ticks.{ticked}
+use Rattle.babel_state.specs.Grouping.{items_grouped}
 use Rattle.babel_state.specs.Requesting.{seqnos_requested}
 use Rattle.babel_state.specs.SeqnoRequests.{raised}
 use Rattle.babel_state.specs.Messages.{handle_message, after_places}
@@ -107,3 +108,6 @@ RequestingKeepsCurrent = (now : ℕ) (s : State) → KeepsCurrent s (seqnos_requ
 
 abbrev pub LosingKeepsCurrent : Type 0
 LosingKeepsCurrent = (now iface : ℕ) (s : State) → AreRoutesInOrder s → KeepsCurrent s (links_lost now iface s)
+
+abbrev pub GroupingKeepsCurrent : Type 0
+GroupingKeepsCurrent = (s : State) → KeepsCurrent s (items_grouped s)

@@ -32,6 +32,7 @@ use Rattle.babel_state.specs.Messages.{handle_message}
 use Rattle.babel_state.specs.LostLinks.{links_lost}
 use Rattle.babel_state.specs.Ticks.{ticked}
 use Rattle.babel_state.specs.NextDatagram.{Fits, next_datagram}
+use Rattle.babel_state.specs.Grouping.{items_grouped}
 use Rattle.babel_state.specs.Requesting.{seqnos_requested}
 use Rattle.babel_state.specs.SeqnoRequests.{raised}
 use Rattle.babel_state.specs.Calls.{first_state, set_cost_fault, cost_set, is_prefix_too_many, announced_also, withdrawn}
@@ -160,6 +161,9 @@ RequestingKeepsWellFormed = (now : ℕ) (s : State) → IsWellFormed s → IsWel
 
 abbrev pub LosingKeepsWellFormed : Type 0
 LosingKeepsWellFormed = (now iface : ℕ) (s : State) → IsWellFormed s → IsWellFormed (links_lost now iface s)
+
+abbrev pub GroupingKeepsWellFormed : Type 0
+GroupingKeepsWellFormed = (s : State) → IsWellFormed s → IsWellFormed (items_grouped s)
 
 -- A change of a nominal cost changes no link's cost, so that what is current stays current.
 abbrev pub CostsKeepCurrent : Type 0

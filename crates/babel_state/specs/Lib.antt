@@ -16,6 +16,7 @@ pub mod LostLinks
 pub mod Ticks
 pub mod OutgoingMessages
 pub mod NextDatagram
+pub mod Grouping
 pub mod Calls
 pub mod CurrentSelections
 pub mod KeptRoutes

@@ -10,6 +10,7 @@ use Rattle.babel_packet.specs.Meaning.{messages_of}
 use Rattle.babel_state.specs.declared.configs.Config.{Config}
 use Rattle.babel_state.specs.declared.items.Target.{Target}
 use Rattle.babel_state.specs.State.{State, cost_at}
+use Rattle.babel_state.specs.Grouping.{items_grouped}
 use Rattle.babel_state.specs.Requesting.{seqnos_requested}
 use Rattle.babel_state.specs.SeqnoRequests.{raised}
 use Rattle.babel_state.specs.Messages.{handle_message, after_places}
@@ -98,6 +99,9 @@ RequestingMoves = (now : ℕ) (s : State) → IsWellFormed s → MovesAlone 0 (s
 
 abbrev pub LosingMoves : Type 0
 LosingMoves = (now iface : ℕ) (s : State) → IsWellFormed s → MovesAlone 0 (seen s).announces s (links_lost now iface s)
+
+abbrev pub GroupingMoves : Type 0
+GroupingMoves = (s : State) → IsWellFormed s → MovesAlone 0 (seen s).announces s (items_grouped s)
 
 -- The next datagram sends its updates over its target's interface.
 abbrev pub DatagramsSend : Type 0

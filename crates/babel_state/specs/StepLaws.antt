@@ -19,6 +19,7 @@ use Rattle.babel_state.specs.Messages.{handle_message}
 use Rattle.babel_state.specs.LostLinks.{links_lost}
 use Rattle.babel_state.specs.Ticks.{ticked}
 use Rattle.babel_state.specs.NextDatagram.{Fits, next_datagram}
+use Rattle.babel_state.specs.Grouping.{items_grouped}
 use Rattle.babel_state.specs.Requesting.{seqnos_requested}
 use Rattle.babel_state.specs.SeqnoRequests.{raised}
 use Rattle.babel_state.specs.Seen.{updates_among, is_of_source, all_lowered}
@@ -171,6 +172,9 @@ RequestingKeepsSettings = (now : ℕ) (s : State) → KeepsSettings s (seqnos_re
 
 abbrev pub LosingKeepsSettings : Type 0
 LosingKeepsSettings = (now iface : ℕ) (s : State) → KeepsSettings s (links_lost now iface s)
+
+abbrev pub GroupingKeepsSettings : Type 0
+GroupingKeepsSettings = (s : State) → KeepsSettings s (items_grouped s)
 
 -- And `set_cost` changes the cost of its interface alone.
 abbrev pub with_cost_at : ℕ → ℕ → List InterfaceEntry → List InterfaceEntry

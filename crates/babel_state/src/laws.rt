@@ -3,14 +3,15 @@
 ghost use Rattle.std.specs.Prelude.{◌≡◌, ◌<◌, ◌≤◌, ◌^◌, List, length};
 ghost use Rattle.babel_state.specs.declared.items.Item.{Item};
 ghost use Rattle.babel_state.specs.Limits.{most_pending};
-ghost use Rattle.babel_state.specs.Invariants.{CostsKeepCurrent, CostsKeepRoutes, SendingKeepsSelected, SendingKeepsSelections, SendingKeepsCurrentInHalf, NewSpeakersAreWellFormed, MessagesKeepWellFormed, TicksKeepWellFormed, SendingKeepsWellFormed, CostsKeepWellFormed, AnnouncingKeepsWellFormed, WithdrawingKeepsWellFormed, RaisingKeepsWellFormed, RequestingKeepsWellFormed, LosingKeepsWellFormed};
+ghost use Rattle.babel_state.specs.Invariants.{CostsKeepCurrent, CostsKeepRoutes, SendingKeepsSelected, SendingKeepsSelections, SendingKeepsCurrentInHalf, NewSpeakersAreWellFormed, MessagesKeepWellFormed, TicksKeepWellFormed, SendingKeepsWellFormed, CostsKeepWellFormed, AnnouncingKeepsWellFormed, WithdrawingKeepsWellFormed, RaisingKeepsWellFormed, RequestingKeepsWellFormed, LosingKeepsWellFormed, GroupingKeepsWellFormed};
+ghost use Rattle.babel_state.specs.Grouping.{ItemsGoToTargets, TargetsKeepTheirItems};
 ghost use Rattle.babel_state.specs.Queueing.{Pending, queued, queued_at_once};
 ghost use Rattle.babel_state.specs.QueueLaws.{QueueingAppends, NothingIsSkipped, NoneIfNothingPending, ItemsAreEncodable, DatagramsAreEncodable, ItemsHaveInterfaces};
 ghost use Rattle.babel_state.specs.Restarts.{SnapshotsAreSeen, RestartsAreSeen, SnapshotsAreWhole, RestoredAreWellFormed, RestartsAreWellFormed, RestoredAreCurrent};
 ghost use Rattle.babel_state.specs.SettledLaws.{SettledReselectsNothing, HellosKeepCurrent, IhusKeepCurrent, TimersKeepCurrent};
-ghost use Rattle.babel_state.specs.SeenLaws.{DatagramsSend, NoDatagramChangesNothing, PlacesMove, TicksMove, CostsMove, AnnouncingMoves, WithdrawingMoves, RaisingMoves, RequestingMoves, LosingMoves, MessagesAreHeard, NewSpeakersAreNew, CurrentIsSelecting, TicksHearNothing};
-ghost use Rattle.babel_state.specs.CurrentSelections.{MessagesKeepCurrent, PlacesKeepCurrent, AnnouncingKeepsCurrent, WithdrawingKeepsCurrent, RaisingKeepsCurrent, RequestingKeepsCurrent, LosingKeepsCurrent, NewSpeakersAreCurrent, ReselectionsMakeCurrent, TicksMakeCurrent};
-ghost use Rattle.babel_state.specs.StepLaws.{ReselectionKeepsBase, ReselectionOfAllKeepsBase, RequestingKeepsTheRest, MessagesKeepOwn, TicksKeepOwn, LosingKeepsOwn, SendingKeepsKnown, SendingLowersSources, MessagesKeepSettings, TicksKeepSettings, SendingKeepsSettings, AnnouncingKeepsSettings, WithdrawingKeepsSettings, RaisingKeepsSettings, RequestingKeepsSettings, LosingKeepsSettings, CostsSetOneCost};
+ghost use Rattle.babel_state.specs.SeenLaws.{DatagramsSend, NoDatagramChangesNothing, PlacesMove, TicksMove, CostsMove, AnnouncingMoves, WithdrawingMoves, RaisingMoves, RequestingMoves, LosingMoves, GroupingMoves, MessagesAreHeard, NewSpeakersAreNew, CurrentIsSelecting, TicksHearNothing};
+ghost use Rattle.babel_state.specs.CurrentSelections.{MessagesKeepCurrent, PlacesKeepCurrent, AnnouncingKeepsCurrent, WithdrawingKeepsCurrent, RaisingKeepsCurrent, RequestingKeepsCurrent, LosingKeepsCurrent, GroupingKeepsCurrent, NewSpeakersAreCurrent, ReselectionsMakeCurrent, TicksMakeCurrent};
+ghost use Rattle.babel_state.specs.StepLaws.{ReselectionKeepsBase, ReselectionOfAllKeepsBase, RequestingKeepsTheRest, MessagesKeepOwn, TicksKeepOwn, LosingKeepsOwn, SendingKeepsKnown, SendingLowersSources, MessagesKeepSettings, TicksKeepSettings, SendingKeepsSettings, AnnouncingKeepsSettings, WithdrawingKeepsSettings, RaisingKeepsSettings, RequestingKeepsSettings, LosingKeepsSettings, GroupingKeepsSettings, CostsSetOneCost};
 
 /// Items that are queued one after the other leave what they leave all at once: the last 4,096 of
 /// the old items followed by the new ones, and a count of what was cut.
@@ -146,6 +147,23 @@ pub fn items_mean_messages()
     ensures encodable { ItemsAreEncodable }
     ensures datagrams { DatagramsAreEncodable }
     ensures interfaces { ItemsHaveInterfaces }
+{}
+
+/// The message of an item goes to the item's target. Items that are grouped by their targets come
+/// to the same: each target has the same items to come, in the same order.
+pub fn groups_keep_the_order()
+    ensures targets { ItemsGoToTargets }
+    ensures same { TargetsKeepTheirItems }
+{}
+
+/// Grouping changes nothing else: the state stays well formed, a network sees nothing of it, each
+/// selection that is current stays so, and no interface is set otherwise.
+#[inline]
+pub fn groups_keep_the_rest()
+    ensures well_formed { GroupingKeepsWellFormed }
+    ensures moves { GroupingMoves }
+    ensures current { GroupingKeepsCurrent }
+    ensures settings { GroupingKeepsSettings }
 {}
 
 /// Each call keeps the addresses, the cost and the Hello interval of each interface. `set_cost`

@@ -2,6 +2,7 @@
 use Rattle.std.proofs.Common.{◌≡◌, ◌⊎◌, ℕ, suc, List, [], ◌∷◌, ◌++◌, take, Contains, Option, Some, refl, sym, ap, ◌∙◌, subst, inl, inr, append_assoc}
 use Rattle.std.proofs.lemmas.List.{append-nil}
 use Rattle.std.proofs.lemmas.List.Elements.{Contains-append_left}
+use Rattle.babel_state.specs.Grouping.{items_grouped}
 use Rattle.babel_state.specs.LostLinks.{links_lost}
 use Rattle.babel_state.specs.Requesting.{seqnos_requested}
 use Rattle.babel_state.specs.Restarts.{Snapshot, snapshot_of, restored}
@@ -9,7 +10,7 @@ use Rattle.babel_state.specs.State.{State}
 use Rattle.babel_wire.specs.Calls.{Call, Now, Sending}
 use Rattle.babel_wire.specs.Keeping.{DurableTurn, AreOctetsOf, IsDurableTurn, last_kept, given_in, calls_of_turn}
 use Rattle.babel_wire.specs.Cuts.{File, IsCutOf, on_disk, sent_in}
-use Rattle.babel_wire.specs.Intakes.{DurableStep, Turning, TakingIn, Requesting, Losing, calls_of_intake, calls_of_steps, AreDurableSteps, AreSteps, taken_by, IsCoveredBySteps, TurnsAreSteps, StepsGoOn, WhatIsKeptCoversWithIntakes, CrashesWithIntakesAreRestarts}
+use Rattle.babel_wire.specs.Intakes.{DurableStep, Turning, TakingIn, Requesting, Losing, Grouping, calls_of_intake, calls_of_steps, AreDurableSteps, AreSteps, taken_by, IsCoveredBySteps, TurnsAreSteps, StepsGoOn, WhatIsKeptCoversWithIntakes, CrashesWithIntakesAreRestarts}
 use Rattle.babel_wire.proofs.Covering.{After, cut_in, whole_cut, sent_joined, Same, after_recv, after_now, IsOf, turn_cut, disk_after_keeping, sent_given}
 use Rattle.babel_wire.proofs.Files.{disk_joined}
 use Rattle.babel_wire.proofs.Members.{AreIn, none_in, joined_in}
@@ -33,6 +34,8 @@ joined last mid later old state new (Requesting now ∷ ss) rest first after =
     joined last mid later (seqnos_requested now old) state new ss rest first after
 joined last mid later old state new (Losing now iface ∷ ss) rest first after =
     joined last mid later (links_lost now iface old) state new ss rest first after
+joined last mid later old state new (Grouping ∷ ss) rest first after =
+    joined last mid later (items_grouped old) state new ss rest first after
 
 calls_joined : (first rest : List DurableStep) → calls_of_steps (first ++ rest) ≡ calls_of_steps first ++ calls_of_steps rest
 calls_joined [] rest = refl
@@ -41,6 +44,7 @@ calls_joined (Turning t ∷ ss) rest =
 calls_joined (TakingIn i ∷ ss) rest = ap (λ cs. calls_of_intake i ++ cs) (calls_joined ss rest)
 calls_joined (Requesting now ∷ ss) rest = ap (λ cs. Now now ∷ cs) (calls_joined ss rest)
 calls_joined (Losing now iface ∷ ss) rest = ap (λ cs. Now now ∷ cs) (calls_joined ss rest)
+calls_joined (Grouping ∷ ss) rest = calls_joined ss rest
 
 pub steps_go_on : StepsGoOn
 steps_go_on last mid later old state new first rest one other =
@@ -108,6 +112,9 @@ steps_cover last later old new (Losing now iface ∷ ss) files cut file rest dis
     let one : Same (calls_of_steps ss) cut = after_now now (calls_of_steps ss) cut is_cut in
     by_other old (links_lost now iface old) (Losing now iface) ss files cut one.0 file (λ state count reached. reached) (λ rest. refl) one.3
     (steps_cover last later (links_lost now iface old) new ss files one.0 file rest disk one.1 (subst (λ fs. Contains fs file) (one.2 files) at))
+steps_cover last later old new (Grouping ∷ ss) files cut file rest disk is_cut at =
+    by_other old (items_grouped old) Grouping ss files cut cut file (λ state count reached. reached) (λ rest. refl) refl
+    (steps_cover last later (items_grouped old) new ss files cut file rest disk is_cut at)
 steps_cover last later old new (Turning t ∷ ss) files cut file (mid, turn, rest) disk is_cut at =
     by (λ after cut_after there. steps_cover (last_kept last (snapshot_of mid) t.keeping) later mid new ss (on_disk files (calls_of_turn t)) after file rest
     (disk_after_keeping last (snapshot_of mid) t.keeping (given_in t) files turn.keeps disk) cut_after there)

@@ -8,7 +8,7 @@ use Rattle.babel_state.specs.Restarts.{restored, restarted}
 use Rattle.babel_state.specs.State.{State}
 use Rattle.babel_wire.specs.Calls.{Receipt, Sending}
 use Rattle.babel_wire.specs.Cuts.{File, on_disk, sent_in}
-use Rattle.babel_wire.specs.Intakes.{DurableStep, Turning, TakingIn, Requesting, Losing, receipts_in, taken_by, IsCoveredBySteps}
+use Rattle.babel_wire.specs.Intakes.{DurableStep, Turning, TakingIn, Requesting, Losing, Grouping, receipts_in, taken_by, IsCoveredBySteps}
 use Rattle.babel_wire.specs.Lives.{Stage, Steps, Restart, Leads, received, taken, started, Process, IsProcess, come_to, sent_by, disk_after, IsFileOf, IsReached, AreReached}
 use Rattle.babel_wire.specs.DurableLaws.{ProcessesAreCovered, ProcessesStayCovered}
 use Rattle.babel_wire.proofs.IntakeCovering.{steps_cover}
@@ -37,6 +37,7 @@ first_receipts (suc count) (Turning t ∷ steps) =
     joined_in (t.turn.receipt ∷ []) (receipts_in (take count steps)) (t.turn.receipt ∷ []) (receipts_in steps) (λ r h. h) (first_receipts count steps)
 first_receipts (suc count) (Requesting now ∷ steps) = first_receipts count steps
 first_receipts (suc count) (Losing now iface ∷ steps) = first_receipts count steps
+first_receipts (suc count) (Grouping ∷ steps) = first_receipts count steps
 first_receipts (suc count) (TakingIn i ∷ steps) =
     joined_in (i.receipt ∷ []) (receipts_in (take count steps)) (i.receipt ∷ []) (receipts_in steps) (λ r h. h) (first_receipts count steps)
 

@@ -1,6 +1,7 @@
 -- Datagrams that are taken in between turns, and requests that are made and links that are lost there, while nothing is sent (profile). RFC 8966, section 3.1, lets a speaker buffer what it sends for a short time.
 use Rattle.std.specs.Prelude.{◌≡◌, ◌⊎◌, ℕ, Bool, List, [], ◌∷◌, ◌++◌, map, take, Contains, Option, Some}
 use Rattle.babel_state.specs.declared.configs.Config.{Config}
+use Rattle.babel_state.specs.Grouping.{items_grouped}
 use Rattle.babel_state.specs.LostLinks.{links_lost}
 use Rattle.babel_state.specs.Requesting.{seqnos_requested}
 use Rattle.babel_state.specs.Restarts.{Snapshot, snapshot_of, restored, restarted}
@@ -64,6 +65,7 @@ pub data DurableStep : Type 0 where
   TakingIn : Intake → DurableStep
   Requesting : ℕ → DurableStep
   Losing : ℕ → ℕ → DurableStep
+  Grouping : DurableStep
 
 abbrev pub calls_of_steps : List DurableStep → List Call
 calls_of_steps [] = []
@@ -71,6 +73,7 @@ calls_of_steps (Turning t ∷ steps) = calls_of_turn t ++ calls_of_steps steps
 calls_of_steps (TakingIn i ∷ steps) = calls_of_intake i ++ calls_of_steps steps
 calls_of_steps (Requesting now ∷ steps) = Now now ∷ calls_of_steps steps
 calls_of_steps (Losing now iface ∷ steps) = Now now ∷ calls_of_steps steps
+calls_of_steps (Grouping ∷ steps) = calls_of_steps steps
 
 -- Steps one after another, with the snapshot that was kept last before and after them. An intake keeps none, and neither do requests and losses.
 abbrev pub AreDurableSteps : Option Snapshot → State → List DurableStep → Option Snapshot → State → Type 0
@@ -80,6 +83,7 @@ AreDurableSteps last old (Turning t ∷ steps) later new =
 AreDurableSteps last old (TakingIn i ∷ steps) later new = (mid : State) × IsIntake old i mid × AreDurableSteps last mid steps later new
 AreDurableSteps last old (Requesting now ∷ steps) later new = AreDurableSteps last (seqnos_requested now old) steps later new
 AreDurableSteps last old (Losing now iface ∷ steps) later new = AreDurableSteps last (links_lost now iface old) steps later new
+AreDurableSteps last old (Grouping ∷ steps) later new = AreDurableSteps last (items_grouped old) steps later new
 
 -- The same without what became of the snapshots.
 abbrev pub AreSteps : State → List DurableStep → State → Type 0
@@ -88,6 +92,7 @@ AreSteps old (Turning t ∷ steps) new = (mid : State) × IsTurn old t.turn mid 
 AreSteps old (TakingIn i ∷ steps) new = (mid : State) × IsIntake old i mid × AreSteps mid steps new
 AreSteps old (Requesting now ∷ steps) new = AreSteps (seqnos_requested now old) steps new
 AreSteps old (Losing now iface ∷ steps) new = AreSteps (links_lost now iface old) steps new
+AreSteps old (Grouping ∷ steps) new = AreSteps (items_grouped old) steps new
 
 -- What came in these steps.
 abbrev pub receipts_in : List DurableStep → List Receipt
@@ -96,6 +101,7 @@ receipts_in (Turning t ∷ steps) = t.turn.receipt ∷ receipts_in steps
 receipts_in (TakingIn i ∷ steps) = i.receipt ∷ receipts_in steps
 receipts_in (Requesting now ∷ steps) = receipts_in steps
 receipts_in (Losing now iface ∷ steps) = receipts_in steps
+receipts_in (Grouping ∷ steps) = receipts_in steps
 
 -- All datagrams that were taken from the speaker in these steps.
 abbrev pub taken_by : List DurableStep → List Sending
@@ -104,6 +110,7 @@ taken_by (Turning t ∷ steps) = t.turn.sendings ++ taken_by steps
 taken_by (TakingIn i ∷ steps) = taken_by steps
 taken_by (Requesting now ∷ steps) = taken_by steps
 taken_by (Losing now iface ∷ steps) = taken_by steps
+taken_by (Grouping ∷ steps) = taken_by steps
 
 -- ---- their laws
 

@@ -76,6 +76,7 @@ fn word_of(event: Option<&Event>) -> &'static str {
         Some(Event::Raise { .. }) => "raise",
         Some(Event::RequestSeqnos { .. }) => "request",
         Some(Event::LoseLinks { .. }) => "lose",
+        Some(Event::GroupItems { .. }) => "group",
         Some(Event::Announce { .. }) => "announce",
         Some(Event::Withdraw { .. }) => "withdraw",
         Some(Event::Restart { .. }) => "restart",

@@ -65,7 +65,7 @@ fn goes_elsewhere(core: &Core, item: &Item, target: &Target) -> bool
 
 /// Adds the message of an item to the datagram. False: it has another target or doesn't fit, and
 /// nothing has changed.
-#[tactic(auto, unfolding(babel_state::specs::NextDatagram::draft_with), using(crate::proofs::Drafts::same_target, crate::proofs::Drafts::built_more, crate::proofs::SettledSends::left_out_current, crate::proofs::Snapshots::left_out_snapshot))]
+#[tactic(auto, unfolding(babel_state::specs::NextDatagram::draft_with), using(babel_state::proofs::Targets::same_target, crate::proofs::Drafts::built_more, crate::proofs::SettledSends::left_out_current, crate::proofs::Snapshots::left_out_snapshot))]
 fn add_item(
     core: &mut Core,
     departure: Departure,

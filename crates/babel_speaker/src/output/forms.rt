@@ -4,32 +4,16 @@
 ghost use Rattle.std.specs.Prelude.{◌≡◌, ◌≤◌, ◌*◌, Some};
 ghost use Rattle.babel_message.specs.declared.messages.Message.TheVariants as messages;
 ghost use Rattle.babel_state.specs.declared.items.Outgoing.TheVariants as outgoings;
-ghost use Rattle.babel_state.specs.OutgoingMessages.{to_all, to_peer, outgoing_hello};
+ghost use Rattle.babel_state.specs.OutgoingMessages.{to_all, outgoing_hello};
 ghost use Rattle.babel_state.specs.Limits.{longest_hello};
 ghost use Rattle.babel_speaker.specs.Intervals.{hellos_an_ihu, hellos_an_update};
 
 use crate::output::records::{Advertisement, Egress};
 use crate::tables::timers::{IHU_HELLOS, UPDATE_HELLOS};
+use crate::tables::to_all;
 use babel_message::Message;
-use babel_state::{InterfaceEntry, Outgoing, Target};
+use babel_state::{InterfaceEntry, Outgoing};
 use babel_value::{Addr, Metric, Peer, Prefix};
-
-/// All neighbours of the interface.
-pub(crate) fn to_all(iface: u8) -> Target
-    ensures { result ≡ to_all iface }
-{
-    Target { iface, to: None }
-}
-
-/// The neighbour alone.
-pub fn to_peer(peer: Peer) -> Target
-    ensures { result ≡ to_peer peer }
-{
-    Target {
-        iface: peer.iface,
-        to: Some(peer.addr),
-    }
-}
 
 /// The next Hello of the interface (RFC 8966, section 3.4.1).
 pub fn hello_message(iface: u8, interface: &InterfaceEntry, out: &mut Outgoing)

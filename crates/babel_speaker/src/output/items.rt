@@ -7,6 +7,7 @@ ghost use Rattle.babel_value.specs.Orders.{source_cmp};
 ghost use Rattle.babel_message.specs.declared.messages.Message.{Message};
 ghost use Rattle.babel_state.specs.Addresses.{transport_at};
 ghost use Rattle.babel_state.specs.CurrentSelections.{AreCurrent};
+ghost use Rattle.babel_state.specs.Grouping.{items_grouped};
 ghost use Rattle.babel_state.specs.State.{with_interface};
 ghost use Rattle.babel_state.specs.NextDatagram.{next_hello, left_out_more, after_message};
 ghost use Rattle.babel_state.specs.Restarts.{snapshot_of};
@@ -151,4 +152,12 @@ pub fn remove_first_item(core: &mut Core)
     ensures { core.new ≡ without_front core.old }
 {
     core.pending.pop();
+}
+
+/// Brings the pending items into groups that go to the same target (RFC 8966, section 4).
+#[tactic(auto, unfolding(babel_state::specs::Grouping::items_grouped))]
+pub fn group_items(core: &mut Core)
+    ensures { core.new ≡ items_grouped core.old }
+{
+    core.pending.group();
 }

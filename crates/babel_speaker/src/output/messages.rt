@@ -11,12 +11,11 @@ ghost use Rattle.babel_state.specs.OutgoingMessages.{to_peer, outgoing_ihu, outg
 ghost use Rattle.babel_state.specs.Limits.{longest_hello};
 ghost use Rattle.babel_speaker.specs.SentMessages.{HasRoom, HasRoomFor, IsCertainlySent, IsMessageTo};
 
-use crate::output::forms::{
-    hello_message, ihu_message, retraction_message, to_peer, update_message,
-};
+use crate::output::forms::{hello_message, ihu_message, retraction_message, update_message};
 use crate::output::records::{Advertisement, Egress};
 use crate::state::Core;
 use crate::tables::addresses::address_of;
+use crate::tables::to_peer;
 use babel_choice::{Cursor, Selection};
 use babel_message::Message;
 use babel_sources::SOURCE_PLACES;

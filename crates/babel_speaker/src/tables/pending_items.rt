@@ -1,6 +1,7 @@
 //! The items that wait to be sent, the oldest first.
 
 ghost use Rattle.std.specs.Prelude.{◌≡◌, ◌≤◌, ◌<◌, ◌+◌, List, [], ◌∷◌, ◌++◌, map, drop, length, slice_get, IfOk, IsTrue, IsFalse};
+ghost use Rattle.babel_state.specs.Grouping.{in_groups, most_groups};
 ghost use Rattle.babel_state.specs.Queueing.{queued};
 ghost use Rattle.babel_state.specs.Limits.{most_pending};
 ghost use Rattle.babel_state.specs.declared.items.Item.{Item};
@@ -8,6 +9,7 @@ ghost use Rattle.babel_state.specs.declared.items.Item.TheVariants.{Update};
 ghost use Rattle.babel_state.specs.declared.items.Target.{Target};
 ghost use Rattle.babel_speaker.specs.PendingItems.{updates_only};
 
+use crate::tables::groups::group_items;
 use crate::tables::waiting::Waiting;
 use crate::tables::{SelectedPrefixes, is_same_target};
 use babel_state::{Item, MAX_PENDING, Target};
@@ -27,6 +29,8 @@ pub struct PendingItems {
     /// Where the Updates of the run go.
     target: Target,
     dropped: u64,
+    /// Where items wait while they are grouped.
+    spare: Waiting<Item>,
 }
 
 impl Model for PendingItems {
@@ -48,11 +52,13 @@ impl PendingItems {
     {
         let items = Waiting::new(alloc)?;
         let run = Waiting::new(alloc)?;
+        let spare = Waiting::new(alloc)?;
         Ok(PendingItems {
             items,
             run,
             target: Target { iface: 0, to: None },
             dropped: 0,
+            spare,
         })
     }
 
@@ -150,6 +156,17 @@ impl PendingItems {
         let room = MAX_PENDING.saturating_sub(count);
         let gone = self.items.keep_last(room) + self.run.keep_last(room);
         self.dropped = self.dropped.saturating_add(gone as u64);
+    }
+
+    /// Brings the items into groups that go to the same target, in the order of their first items.
+    /// Those to a target keep their order.
+    pub fn group(&mut self)
+        ensures { self.new ≡ record self.old { items = in_groups most_groups self.old.items } }
+    {
+        // A run goes to one target.
+        if self.run.is_empty() {
+            group_items(&mut self.items, &mut self.spare);
+        }
     }
 
     /// The oldest item.

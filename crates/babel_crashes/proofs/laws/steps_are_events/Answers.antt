@@ -8,4 +8,5 @@ returns c = steps_are_events (record {
   sending = c.settings_stay.ensures.next_datagram;
   requesting = c.settings_stay.ensures.request_seqnos;
   losing = c.settings_stay.ensures.lose_links;
+  grouping = c.groups_keep_the_rest.ensures.settings;
 })
