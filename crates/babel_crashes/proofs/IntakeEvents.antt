@@ -1,4 +1,4 @@
--- Turns, intakes, requests and losses at a node, as events, and restarts between them.
+-- Turns, intakes, requests, losses and groupings at a node, as events, and restarts between them.
 use Rattle.std.proofs.Common.{◌⊎◌, ℕ, List, [], ◌∷◌, Contains, sym, subst, inl, inr}
 use Rattle.std.proofs.lemmas.List.Elements.{Contains-append_left, Contains-append_right, Contains-append_cases}
 use Rattle.babel_state.specs.declared.configs.Config.{Config}

@@ -29,8 +29,8 @@ CrashesAreRestartEvents =
     AreDurableTurns last old turns later new → AreFrom n.sent (turns_of turns) → IsCutOf cut (calls_of turns) → Contains (on_disk files cut) (Some octets) →
     IsRestart node config now (sent_in cut) (restored now config (snapshot_in octets)) n
 
--- So it is however often the node was killed earlier, also with intakes, requests and losses between the turns: its process starts from a file that steps and
--- restarts reach, as `processes_are_covered` has it.
+-- So it is however often the node was killed earlier, also with intakes, requests, losses and groupings between the turns: its process starts from a file that
+-- steps and restarts reach, as `processes_are_covered` has it.
 abbrev pub LivesAreRestartEvents : Type 0
 LivesAreRestartEvents =
     (n : NetworkState) (node now : ℕ) (config : Config) (first : State) (come : List Receipt) (sent : List Sending) (octets : List ℕ) →

@@ -1,4 +1,4 @@
--- Turns, intakes, requests and losses of a speaker at a node of a network (profile).
+-- Turns, intakes, requests, losses and groupings of a speaker at a node of a network (profile).
 use Rattle.std.specs.Prelude.{List, Contains, ℕ, Option, Some}
 use Rattle.babel_state.specs.declared.configs.Config.{Config}
 use Rattle.babel_state.specs.Restarts.{Snapshot, snapshot_of, restored}
@@ -11,14 +11,14 @@ use Rattle.babel_net.specs.Invariants.{IsNetwork}
 use Rattle.babel_net.specs.Networks.{NetworkState}
 use Rattle.babel_crashes.specs.NodeSteps.{IsAt, AreReceiptsFrom, AreStepEvents, IsRestart}
 
--- Turns, intakes, requests and losses of a speaker at a node are events of the network: each datagram that it takes is sent, and each that came is delivered.
--- What came was sent by nodes of the network. Other nodes may have made any events since.
+-- Turns, intakes, requests, losses and groupings of a speaker at a node are events of the network: each datagram that it takes is sent, and each that came is
+-- delivered. What came was sent by nodes of the network. Other nodes may have made any events since.
 abbrev pub StepsAreEvents : Type 0
 StepsAreEvents =
     (n : NetworkState) (node : ℕ) (config : Config) (old new : State) (steps : List DurableStep) →
     IsAt n node config old → AreSteps old steps new → AreReceiptsFrom n.sent (receipts_in steps) → AreStepEvents node config steps new n
 
--- As CrashesAreRestartEvents, with intakes, requests and losses between the turns.
+-- As CrashesAreRestartEvents, with intakes, requests, losses and groupings between the turns.
 abbrev pub CrashesWithIntakesAreRestartEvents : Type 0
 CrashesWithIntakesAreRestartEvents =
     (n : NetworkState) (node now : ℕ) (config : Config) (old new : State) (last later : Option Snapshot) (steps : List DurableStep) (files : List File)

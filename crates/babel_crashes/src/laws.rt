@@ -9,8 +9,8 @@ use babel_net::laws::networks_go_on;
 use babel_state::laws::{groups_keep_the_rest, settings_stay};
 use babel_wire::laws::intakes_are_covered;
 
-/// Turns of a speaker at a node of a network, and datagrams that it takes in, requests that it makes
-/// and links that it loses between them, are events of the network.
+/// Turns of a speaker at a node of a network, and datagrams that it takes in, requests that it makes,
+/// links that it loses and items that it groups between them, are events of the network.
 pub fn steps_are_events()
     ensures { StepsAreEvents }
 {

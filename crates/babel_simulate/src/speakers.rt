@@ -115,12 +115,11 @@ impl Simulation<'_> {
 
     /// What the node has pending goes in as few datagrams as can be, as `babel run` sends it.
     fn group_items(&mut self, speaker: usize) -> Result<(), SimulationFault> {
-        match self.network.pending_count(speaker) {
-            None => Ok(()),
-            // These are in groups.
-            Some(0..=2) => Ok(()),
-            Some(_) => self.make(Event::GroupItems { node: speaker }),
+        // One item, or two, are in groups.
+        if self.network.pending_count(speaker).unwrap_or(0) <= 2 {
+            return Ok(());
         }
+        self.make(Event::GroupItems { node: speaker })
     }
 
     /// When the speaker is due.

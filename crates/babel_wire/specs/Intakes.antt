@@ -1,4 +1,4 @@
--- Datagrams that are taken in between turns, and requests that are made and links that are lost there, while nothing is sent (profile). RFC 8966, section 3.1, lets a speaker buffer what it sends for a short time.
+-- Datagrams that are taken in between turns, and requests that are made, links that are lost and items that are grouped there, while nothing is sent (profile). RFC 8966, section 3.1, lets a speaker buffer what it sends for a short time.
 use Rattle.std.specs.Prelude.{◌≡◌, ◌⊎◌, ℕ, Bool, List, [], ◌∷◌, ◌++◌, map, take, Contains, Option, Some}
 use Rattle.babel_state.specs.declared.configs.Config.{Config}
 use Rattle.babel_state.specs.Grouping.{items_grouped}
@@ -58,7 +58,7 @@ pub record IsOneLoss (iface : ℕ) (old : State) (history : Option (List Call)) 
   pub speaker : new ≡ links_lost now iface old
   pub calls : Grows history (Now now ∷ []) later
 
--- ---- turns, and intakes, requests and losses between them
+-- ---- turns, and intakes, requests, losses and groupings between them
 
 pub data DurableStep : Type 0 where
   Turning : DurableTurn → DurableStep
@@ -75,7 +75,7 @@ calls_of_steps (Requesting now ∷ steps) = Now now ∷ calls_of_steps steps
 calls_of_steps (Losing now iface ∷ steps) = Now now ∷ calls_of_steps steps
 calls_of_steps (Grouping ∷ steps) = calls_of_steps steps
 
--- Steps one after another, with the snapshot that was kept last before and after them. An intake keeps none, and neither do requests and losses.
+-- Steps one after another, with the snapshot that was kept last before and after them. An intake keeps none, and neither do the others.
 abbrev pub AreDurableSteps : Option Snapshot → State → List DurableStep → Option Snapshot → State → Type 0
 AreDurableSteps last old [] later new = (later ≡ last) × (new ≡ old)
 AreDurableSteps last old (Turning t ∷ steps) later new =
@@ -134,7 +134,7 @@ StepsGoOn =
     AreDurableSteps last old first mid state → AreDurableSteps mid state rest later new →
     AreDurableSteps last old (first ++ rest) later new × (calls_of_steps (first ++ rest) ≡ calls_of_steps first ++ calls_of_steps rest)
 
--- What is kept covers what was sent also if datagrams are taken in, requests made and links lost between turns.
+-- What is kept covers what was sent also if datagrams are taken in, requests made, links lost and items grouped between turns.
 abbrev pub WhatIsKeptCoversWithIntakes : Type 0
 WhatIsKeptCoversWithIntakes =
     (last later : Option Snapshot) (old new : State) (steps : List DurableStep) (files : List File) (cut : List Call) (file : File) →

@@ -23,7 +23,7 @@ pub record IsCovered (old : State) (turns : List DurableTurn) (cut : List Call) 
 
 -- ---- stages of a life
 
--- Turns, intakes, requests and losses one after another, or a restart at a moment.
+-- Turns, intakes, requests, losses and groupings one after another, or a restart at a moment.
 pub data Stage : Type 0 where
   Steps : List DurableStep → Stage
   Restart : ℕ → Stage

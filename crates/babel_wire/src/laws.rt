@@ -30,8 +30,8 @@ pub fn files_are_last_tried()
 {}
 
 /// The same over several processes, each killed at any moment and started from what is on disk:
-/// each file is reached by restarts and steps, which are turns, intakes, requests and losses, in
-/// which every datagram that was ever sent was taken.
+/// each file is reached by restarts and steps, which are turns, intakes, requests, losses and
+/// groupings, in which every datagram that was ever sent was taken.
 pub fn processes_are_covered()
     ensures from_new { ProcessesAreCovered }
     ensures go_on { ProcessesStayCovered }
@@ -45,9 +45,10 @@ pub fn keepers_fit_on()
 {}
 
 /// Datagrams may be taken in between turns ([`crate::take_in`]), requests for a seqno made
-/// ([`crate::request_seqnos`]), and links lost ([`crate::lose_links`]), while nothing is sent. What
-/// is kept covers what was sent then too, and a crash is a restart after some whole steps: turns,
-/// intakes, requests and losses.
+/// ([`crate::request_seqnos`]), links lost ([`crate::lose_links`]), and what is pending grouped
+/// ([`babel_speaker::Speaker::group_items`]), while nothing is sent. What is kept covers what was
+/// sent then too, and a crash is a restart after some whole steps: turns, intakes, requests, losses
+/// and groupings.
 pub fn intakes_are_covered()
     ensures covers { WhatIsKeptCoversWithIntakes }
     ensures restarts { CrashesWithIntakesAreRestarts }

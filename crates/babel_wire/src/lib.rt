@@ -4,8 +4,8 @@
 //!
 //! A speaker that may be killed at any moment is driven by [`drive_durable`], which keeps its
 //! snapshot before the datagrams of a turn are sent, [`take_in`], which takes in datagrams between
-//! turns, [`request_seqnos`] and [`lose_links`]. What is on disk when the process is killed is the
-//! subject of [`laws`].
+//! turns, [`request_seqnos`], [`lose_links`], and the speaker's own `group_items`. What is on disk
+//! when the process is killed is the subject of [`laws`].
 //!
 //! - `wire`: what a speaker is driven over. `driving`: turns over a wire.
 //! - `durable`: turns over a wire and a store. `laws` and `examples` are about these.
